@@ -1,0 +1,221 @@
+// Numbers as text.
+ghost use Rattle.std.specs.Prelude.{◌≡◌, ◌≤◌, ◌<◌, ◌*◌, ◌+◌, ◌^◌, ◌⊎◌, ◌==◌, ℕ, position, length, option_map, IfSome, true, neg_ℤ, pos};
+ghost use Rattle.std.specs.List.{list_all};
+ghost use Rattle.abuf_num.specs.Views.{parts_view, HasDigits};
+ghost use Rattle.abuf_num.specs.Decimal.{is_digit, is_mark, is_point, is_negative, without_sign, all_digits, cut_by, cut_to, exponent_of, fraction_of, mantissa_of, parts_of, parts_from, spelled_from, up_by, down_by, digits_value, scaled, signed};
+
+use crate::size::size;
+
+/// What is wrong with a number.
+#[derive(Clone, Copy, Debug, PartialEq, Eq)]
+pub enum NumFault {
+    Form,
+    Digits,
+    Range,
+}
+
+// The parts of a number's text.
+#[derive(Clone, Copy)]
+pub struct Parts<'a> {
+    negative: bool,
+    whole: &'a [u8],
+    fraction: &'a [u8],
+    exponent_negative: bool,
+    exponent: &'a [u8],
+}
+
+fn begins_negative(text: &[u8]) -> bool
+    ensures { result ≡ is_negative text.now }
+{
+    match text.first() {
+        Some(b) => *b == b'-',
+        None => false,
+    }
+}
+
+fn strip_sign(text: &[u8]) -> &[u8]
+    ensures { result.now ≡ without_sign text.now }
+{
+    match text.first() {
+        Some(b) if *b == b'-' || *b == b'+' => &text[1..],
+        _ => text,
+    }
+}
+
+fn has_digits_only(text: &[u8]) -> bool
+    ensures { result ≡ all_digits text.now }
+{
+    text.iter().all(|b| 48 <= *b && *b <= 57)
+}
+
+fn first_mark(text: &[u8]) -> Option<usize>
+    ensures { result ≡ position is_mark text.now }
+{
+    text.iter().position(|b| *b == b'e' || *b == b'E')
+}
+
+fn first_point(text: &[u8]) -> Option<usize>
+    ensures { result ≡ position is_point text.now }
+{
+    text.iter().position(|b| *b == b'.')
+}
+
+// What stands before and behind that place.
+fn cut_at(text: &[u8], place: Option<usize>) -> (&[u8], Option<&[u8]>)
+    requires { IfSome place (λ k. k < length text.now) }
+    ensures { (result.0.now, option_map (λ t. t.now) result.1) ≡ cut_to place text.now }
+{
+    match place {
+        Some(place) => (&text[..place], Some(&text[place + 1..])),
+        None => (text, None),
+    }
+}
+
+// The sign and the digits of an exponent.
+fn exponent(text: Option<&[u8]>) -> Option<(bool, &[u8])>
+    ensures value { option_map (λ p. (p.0, p.1.now)) result ≡ exponent_of (option_map (λ t. t.now) text.entry) }
+    ensures digits { IfSome result (λ p. all_digits p.1.now ≡ true) }
+{
+    match text {
+        None => Some((false, &[])),
+        Some(text) => {
+            let digits = strip_sign(text);
+            if !digits.is_empty() && has_digits_only(digits) {
+                Some((begins_negative(text), digits))
+            } else {
+                None
+            }
+        }
+    }
+}
+
+fn or_empty(text: Option<&[u8]>) -> &[u8]
+    ensures { result.now ≡ fraction_of (option_map (λ t. t.now) text.entry) }
+{
+    match text {
+        None => &[],
+        Some(text) => text,
+    }
+}
+
+// The digits before and behind the point.
+fn mantissa(text: &[u8]) -> Option<(&[u8], &[u8])>
+    ensures value { option_map (λ p. (p.0.now, p.1.now)) result ≡ mantissa_of (cut_by is_point text.now) }
+    ensures digits { IfSome result (λ p. (all_digits p.0.now ≡ true) × (all_digits p.1.now ≡ true)) }
+{
+    let (whole, fraction) = cut_at(text, first_point(text));
+    let fraction = or_empty(fraction);
+    if (!whole.is_empty() || !fraction.is_empty())
+        && has_digits_only(whole)
+        && has_digits_only(fraction)
+    {
+        Some((whole, fraction))
+    } else {
+        None
+    }
+}
+
+// The parts of a text, if it is a number.
+fn split(text: &[u8]) -> Option<Parts<'_>>
+    ensures value { option_map parts_view result ≡ parts_of text.now }
+    ensures digits { IfSome result HasDigits }
+{
+    let (front, behind) = cut_at(strip_sign(text), first_mark(strip_sign(text)));
+    match (mantissa(front), exponent(behind)) {
+        (Some((whole, fraction)), Some((exponent_negative, exponent))) => Some(Parts {
+            negative: begins_negative(text),
+            whole,
+            fraction,
+            exponent_negative,
+            exponent,
+        }),
+        _ => None,
+    }
+}
+
+// The number that digits spell, behind a number of so many places.
+fn spelled(from: u128, places: usize, text: &[u8]) -> u128
+    requires before { from < 10 ^ places }
+    requires short { places + length text.now ≤ 30 }
+    requires digits { all_digits text.now ≡ true }
+    ensures value { result ≡ spelled_from from text.now }
+    ensures small { result < 10 ^ (places + length text.now) }
+{
+    let mut n = from;
+    for b in text {
+        n = 10 * n + u128::from(*b - 48);
+    }
+    n
+}
+
+impl Parts<'_> {
+    // All the digits, as one number.
+    fn digits_value(&self) -> u128
+        requires digits { HasDigits self.now }
+        requires short { length self.now.whole.now + length self.now.fraction.now ≤ 30 }
+        ensures value { result ≡ digits_value (parts_view self.now) }
+        ensures small { result < 10 ^ 30 }
+    {
+        let whole = spelled(0, 0, self.whole);
+        spelled(whole, self.whole.len(), self.fraction)
+    }
+
+    // The exponent without its sign.
+    fn exponent_value(&self) -> u32
+        requires digits { HasDigits self.now }
+        requires short { length self.now.exponent.now ≤ 3 }
+        ensures value { result ≡ spelled_from 0 self.now.exponent.now }
+        ensures small { result < 1000 }
+    {
+        spelled(0, 0, self.exponent) as u32
+    }
+
+    // By how many places the point moves to the right and to the left.
+    fn moves(&self) -> (u32, u32)
+        requires digits { HasDigits self.now }
+        requires short { length self.now.exponent.now ≤ 3 }
+        requires few { length self.now.fraction.now ≤ 30 }
+        ensures up { result.0 ≡ up_by (parts_view self.now) }
+        ensures down { result.1 ≡ down_by (parts_view self.now) }
+        ensures one_way { (result.0 ≡ 0) ⊎ (result.1 ≡ 0) }
+    {
+        let exponent = self.exponent_value();
+        let fraction = self.fraction.len() as u32;
+        if self.exponent_negative {
+            (0, fraction + exponent)
+        } else if fraction <= exponent {
+            (exponent - fraction, 0)
+        } else {
+            (0, fraction - exponent)
+        }
+    }
+}
+
+fn signed(negative: bool, size: Option<u32>) -> Result<i64, NumFault>
+    ensures { result ≡ signed negative size }
+{
+    match size {
+        None => Err(NumFault::Range),
+        Some(n) if negative => Ok(-i64::from(n)),
+        Some(n) => Ok(i64::from(n)),
+    }
+}
+
+/// The number's value times `k`, rounded to the nearest whole number, halves away from zero.
+pub fn scaled(text: &[u8], k: u32) -> Result<i64, NumFault>
+    requires least { 1 ≤ k }
+    requires most { k ≤ 65536 }
+    ensures { result ≡ scaled text.now k }
+{
+    let Some(parts) = split(text) else {
+        return Err(NumFault::Form);
+    };
+    if parts.whole.len() + parts.fraction.len() > 30 || parts.exponent.len() > 3 {
+        return Err(NumFault::Digits);
+    }
+    let (up, down) = parts.moves();
+    signed(
+        parts.negative,
+        size(parts.digits_value() * u128::from(k), up, down),
+    )
+}
