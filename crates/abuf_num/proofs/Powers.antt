@@ -4,7 +4,9 @@ use Rattle.std.proofs.Math.Nat.{pow-le-pow_right, pow-suc, div-eq_of_lt, mul-le-
 use Rattle.std.proofs.lemmas.Bool.{cases_lt, false≢true}
 use Rattle.std.proofs.lemmas.List.Folds.{list_all_at}
 use Rattle.std.proofs.lemmas.Bool.Decides.{nat_tests}
-use Rattle.abuf_num.specs.Decimal.{limited, round_nat, is_digit, all_digits}
+use Rattle.abuf_num.specs.Division.{nearest}
+use Rattle.abuf_num.specs.Size.{limited}
+use Rattle.abuf_num.specs.Decimal.{is_digit, all_digits}
 
 pub pow_le : (a b : ℕ) → a ≤ b → 10 ^ a ≤ 10 ^ b
 pow_le a b h = pow-le-pow_right {n = 10} (omega arith) h
@@ -13,7 +15,7 @@ pub pow_pos : (k : ℕ) → 1 ≤ 10 ^ k
 pow_pos k = pow_le 0 k (omega arith)
 
 -- a number that is far below half of the divisor
-pub rounds_to_zero : (n d : ℕ) → n < 2 ^ 116 → 36 ≤ d → Some 0 ≡ limited (round_nat n (10 ^ d))
+pub rounds_to_zero : (n d : ℕ) → n < 2 ^ 116 → 36 ≤ d → Some 0 ≡ limited (nearest n (10 ^ d))
 rounds_to_zero n d small far =
     let big : 10 ^ 36 ≤ 10 ^ d = pow_le 36 d far in
     let gone : (2 * n + 10 ^ d) / (2 * 10 ^ d) ≡ 0 = div-eq_of_lt (omega arith) in

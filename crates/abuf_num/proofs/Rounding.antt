@@ -18,7 +18,7 @@ nearest_high n k h r =
     let high : nearest n k < n / k + 2 = div_below (2 * n + k) (2 * k) (n / k + 2) (omega arith) (omega arith) in
     omega arith
 
-abs_neg : (n : ℕ) → unsigned_abs (neg_ℤ (pos n)) ≡ n
+pub abs_neg : (n : ℕ) → unsigned_abs (neg_ℤ (pos n)) ≡ n
 abs_neg zero = refl
 abs_neg (suc n) = refl
 

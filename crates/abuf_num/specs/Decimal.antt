@@ -1,6 +1,7 @@
--- Decimal numbers, scaled.
-use Rattle.std.specs.Prelude.{◌==◌, ◌&&◌, ◌||◌, ◌+◌, ◌*◌, ◌-◌, ◌/◌, ◌^◌, ℕ, ℤ, pos, neg_ℤ, Bool, true, false, nat_le, nat_lt, List, [], length, take, drop, position, slice_index, fold, Option, Some, None, Result, Ok, Err, if◌then◌else◌}
+-- Decimal numbers as Wavefront OBJ and MTL write them, and their value times a whole number.
+use Rattle.std.specs.Prelude.{◌==◌, ◌&&◌, ◌||◌, ◌+◌, ◌*◌, ◌-◌, ◌^◌, ◌-ℤ◌, ℕ, ℤ, pos, negsuc, neg_ℤ, unsigned_abs, Bool, true, false, nat_le, nat_lt, List, [], length, take, drop, position, slice_index, fold, Option, Some, None, Result, Ok, Err, if◌then◌else◌}
 use Rattle.std.specs.List.{list_all}
+use Rattle.abuf_num.specs.Division.{round_div}
 use Rattle.abuf_num.specs.declared.decimal.NumFault.{NumFault}
 use Rattle.abuf_num.specs.declared.decimal.NumFault.TheVariants.{Form, Digits, Range}
 
@@ -8,29 +9,8 @@ use Rattle.abuf_num.specs.declared.decimal.NumFault.TheVariants.{Form, Digits, R
 abbrev pub is_digit : ℕ → Bool
 is_digit b = nat_le 48 b && nat_le b 57
 
--- n / m, rounded to the nearest whole number, halves up
-abbrev pub round_nat : ℕ → ℕ → ℕ
-round_nat n m = (2 * n + m) / (2 * m)
-
--- the number that digits spell, behind a number that stands before them
-abbrev pub spelled_from : ℕ → List ℕ → ℕ
-spelled_from = fold (λ n b. 10 * n + (b - 48))
-
--- the parts of a number's text
-pub record Parts : Type 0 where
-  pub negative : Bool
-  pub whole : List ℕ
-  pub fraction : List ℕ
-  pub exponent_negative : Bool
-  pub exponent : List ℕ
-
--- the text begins with `-` (45)
-abbrev pub is_negative : List ℕ → Bool
-is_negative text = slice_index text 0 == 45
-
--- the text without a first `+` (43) or `-`
-abbrev pub without_sign : List ℕ → List ℕ
-without_sign text = if slice_index text 0 == 45 || slice_index text 0 == 43 then drop 1 text else text
+abbrev pub all_digits : List ℕ → Bool
+all_digits = list_all is_digit
 
 -- `e` or `E`
 abbrev pub is_mark : ℕ → Bool
@@ -39,8 +19,13 @@ is_mark b = b == 101 || b == 69
 abbrev pub is_point : ℕ → Bool
 is_point b = b == 46
 
-abbrev pub all_digits : List ℕ → Bool
-all_digits = list_all is_digit
+-- the text begins with `-` (45)
+abbrev pub is_negative : List ℕ → Bool
+is_negative text = slice_index text 0 == 45
+
+-- the text without a first `-` or `+` (43)
+abbrev pub without_sign : List ℕ → List ℕ
+without_sign text = if slice_index text 0 == 45 || slice_index text 0 == 43 then drop 1 text else text
 
 -- what stands before and behind that place
 abbrev pub cut_to : Option ℕ → List ℕ → List ℕ × Option (List ℕ)
@@ -51,7 +36,16 @@ cut_to (Some k) text = (take k text, Some (drop (k + 1) text))
 abbrev pub cut_by : (ℕ → Bool) → List ℕ → List ℕ × Option (List ℕ)
 cut_by p text = cut_to (position p text) text
 
--- the sign and the digits of an exponent; no exponent is 0
+-- A number is an optional sign, digits before and behind an optional point, and an optional
+-- exponent: a mark, an optional sign and digits.
+pub record Number : Type 0 where
+  pub negative : Bool
+  pub whole : List ℕ
+  pub fraction : List ℕ
+  pub exponent_negative : Bool
+  pub exponent : List ℕ
+
+-- the sign and the digits of the exponent, of which there is at least one; with no mark it is 0
 abbrev pub exponent_of : Option (List ℕ) → Option (Bool × List ℕ)
 exponent_of None = Some (false, [])
 exponent_of (Some text) =
@@ -61,16 +55,16 @@ abbrev pub fraction_of : Option (List ℕ) → List ℕ
 fraction_of None = []
 fraction_of (Some text) = text
 
--- digits before and behind the point, at least one in all
+-- the digits before and behind the point, of which there is at least one
 abbrev pub mantissa_of : List ℕ × Option (List ℕ) → Option (List ℕ × List ℕ)
 mantissa_of cut =
     if nat_lt 0 (length cut.0 + length (fraction_of cut.1)) && (all_digits cut.0 && all_digits (fraction_of cut.1))
     then Some (cut.0, fraction_of cut.1) else None
 
-abbrev pub parts_from : Bool → Option (List ℕ × List ℕ) → Option (Bool × List ℕ) → Option Parts
-parts_from negative None exponent = None
-parts_from negative (Some mantissa) None = None
-parts_from negative (Some mantissa) (Some exponent) = Some (record {
+abbrev pub number_from : Bool → Option (List ℕ × List ℕ) → Option (Bool × List ℕ) → Option Number
+number_from negative None exponent = None
+number_from negative (Some mantissa) None = None
+number_from negative (Some mantissa) (Some exponent) = Some (record {
   negative = negative;
   whole = mantissa.0;
   fraction = mantissa.1;
@@ -78,40 +72,52 @@ parts_from negative (Some mantissa) (Some exponent) = Some (record {
   exponent = exponent.1;
 })
 
--- the parts of a text, if it is a number
-abbrev pub parts_of : List ℕ → Option Parts
-parts_of text =
+-- the number that a text is, if it is one
+abbrev pub number_of : List ℕ → Option Number
+number_of text =
     let cut = cut_by is_mark (without_sign text) in
-    parts_from (is_negative text) (mantissa_of (cut_by is_point cut.0)) (exponent_of cut.1)
+    number_from (is_negative text) (mantissa_of (cut_by is_point cut.0)) (exponent_of cut.1)
 
--- by how many places the point moves to the right and to the left
-abbrev pub up_by : Parts → ℕ
-up_by p = if p.exponent_negative then 0 else spelled_from 0 p.exponent - length p.fraction
+-- the number that digits spell, behind a number that stands before them
+abbrev pub spelled_from : ℕ → List ℕ → ℕ
+spelled_from = fold (λ n b. 10 * n + (b - 48))
 
-abbrev pub down_by : Parts → ℕ
-down_by p = if p.exponent_negative then length p.fraction + spelled_from 0 p.exponent else length p.fraction - spelled_from 0 p.exponent
+-- the whole number that the digits spell without the point
+abbrev pub digits_value : Number → ℕ
+digits_value n = spelled_from (spelled_from 0 n.whole) n.fraction
 
-abbrev pub digits_value : Parts → ℕ
-digits_value p = spelled_from (spelled_from 0 p.whole) p.fraction
+abbrev pub with_sign : Bool → ℕ → ℤ
+with_sign true n = neg_ℤ (pos n)
+with_sign false n = pos n
 
--- a number within the limit
-abbrev pub limited : ℕ → Option ℕ
-limited n = if nat_le n 2147483647 then Some n else None
+abbrev pub exponent_value : Number → ℤ
+exponent_value n = with_sign n.exponent_negative (spelled_from 0 n.exponent)
 
-abbrev pub size_of : ℕ → ℕ → ℕ → Option ℕ
-size_of n up down = limited (round_nat (n * 10 ^ up) (10 ^ down))
+-- the greater of z and 0
+abbrev pub or_zero : ℤ → ℕ
+or_zero (pos n) = n
+or_zero (negsuc n) = 0
 
-abbrev pub signed : Bool → Option ℕ → Result ℤ NumFault
-signed negative None = Err Range
-signed true (Some n) = Ok (neg_ℤ (pos n))
-signed false (Some n) = Ok (pos n)
+-- The number's value times k, rounded to the nearest whole number, halves away from zero. With m
+-- its digits, f of them behind the point, and x its exponent, the value is m * 10 ^ (x - f).
+abbrev pub nearest_to : Number → ℕ → ℤ
+nearest_to n k =
+    let x = exponent_value n in
+    let f = pos (length n.fraction) in
+    round_div (with_sign n.negative (digits_value n * k * 10 ^ or_zero (x -ℤ f))) (pos (10 ^ or_zero (f -ℤ x)))
 
-abbrev pub scaled_parts : Option Parts → ℕ → Result ℤ NumFault
-scaled_parts None k = Err Form
-scaled_parts (Some p) k =
-    if nat_lt 30 (length p.whole + length p.fraction) || nat_lt 3 (length p.exponent) then Err Digits
-    else signed p.negative (size_of (digits_value p * k) (up_by p) (down_by p))
+-- a result is at most 2147483647 either way
+abbrev pub in_range : ℤ → Result ℤ NumFault
+in_range z = if nat_le (unsigned_abs z) 2147483647 then Ok z else Err Range
 
--- the value times k, rounded to the nearest whole number, halves away from zero
+-- a number has at most 30 digits, leading zeros counted, and at most three digits of exponent
+abbrev pub has_few_digits : Number → Bool
+has_few_digits n = nat_le (length n.whole + length n.fraction) 30 && nat_le (length n.exponent) 3
+
+abbrev pub scaled_number : Option Number → ℕ → Result ℤ NumFault
+scaled_number None k = Err Form
+scaled_number (Some n) k = if has_few_digits n then in_range (nearest_to n k) else Err Digits
+
+-- the whole number nearest to k times the number that the text is, or why there is none
 abbrev pub scaled : List ℕ → ℕ → Result ℤ NumFault
-scaled text k = scaled_parts (parts_of text) k
+scaled text k = scaled_number (number_of text) k

@@ -1,3 +1,4 @@
 pub mod Division
 pub mod Decimal
-pub mod Views
+pub mod Parts
+pub mod Size

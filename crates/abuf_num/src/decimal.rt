@@ -1,22 +1,26 @@
 // Numbers as text.
-ghost use Rattle.std.specs.Prelude.{◌≡◌, ◌≤◌, ◌<◌, ◌*◌, ◌+◌, ◌^◌, ◌⊎◌, ◌==◌, ℕ, position, length, option_map, IfSome, true, neg_ℤ, pos};
-ghost use Rattle.std.specs.List.{list_all};
-ghost use Rattle.abuf_num.specs.Views.{parts_view, HasDigits};
-ghost use Rattle.abuf_num.specs.Decimal.{is_digit, is_mark, is_point, is_negative, without_sign, all_digits, cut_by, cut_to, exponent_of, fraction_of, mantissa_of, parts_of, parts_from, spelled_from, up_by, down_by, digits_value, scaled, signed};
+ghost use Rattle.std.specs.Prelude.{◌≡◌, ◌≤◌, ◌<◌, ◌*◌, ◌+◌, ◌^◌, ◌⊎◌, ◌-ℤ◌, position, length, option_map, IfSome, true, pos};
+ghost use Rattle.abuf_num.specs.Parts.{number_view, HasDigits};
+ghost use Rattle.abuf_num.specs.Size.{result_of};
+ghost use Rattle.abuf_num.specs.Decimal.{is_mark, is_point, is_negative, without_sign, all_digits, cut_by, cut_to, exponent_of, exponent_value, fraction_of, mantissa_of, number_of, spelled_from, digits_value, or_zero, scaled};
 
 use crate::size::size;
 
-/// What is wrong with a number.
+/// Why a text gives no result.
 #[derive(Clone, Copy, Debug, PartialEq, Eq)]
 pub enum NumFault {
+    /// The text is no number.
     Form,
+    /// It is a number with more than 30 digits before its exponent, leading zeros counted, or with
+    /// more than three digits in its exponent.
     Digits,
+    /// It is a number, and the result is past 2147483647 either way.
     Range,
 }
 
-// The parts of a number's text.
+// The parts of a number's text, by bytes that are digits.
 #[derive(Clone, Copy)]
-pub struct Parts<'a> {
+struct Parts<'a> {
     negative: bool,
     whole: &'a [u8],
     fraction: &'a [u8],
@@ -117,7 +121,7 @@ fn mantissa(text: &[u8]) -> Option<(&[u8], &[u8])>
 
 // The parts of a text, if it is a number.
 fn split(text: &[u8]) -> Option<Parts<'_>>
-    ensures value { option_map parts_view result ≡ parts_of text.now }
+    ensures value { option_map number_view result ≡ number_of text.now }
     ensures digits { IfSome result HasDigits }
 {
     let (front, behind) = cut_at(strip_sign(text), first_mark(strip_sign(text)));
@@ -153,7 +157,7 @@ impl Parts<'_> {
     fn digits_value(&self) -> u128
         requires digits { HasDigits self.now }
         requires short { length self.now.whole.now + length self.now.fraction.now ≤ 30 }
-        ensures value { result ≡ digits_value (parts_view self.now) }
+        ensures value { result ≡ digits_value (number_view self.now) }
         ensures small { result < 10 ^ 30 }
     {
         let whole = spelled(0, 0, self.whole);
@@ -175,8 +179,8 @@ impl Parts<'_> {
         requires digits { HasDigits self.now }
         requires short { length self.now.exponent.now ≤ 3 }
         requires few { length self.now.fraction.now ≤ 30 }
-        ensures up { result.0 ≡ up_by (parts_view self.now) }
-        ensures down { result.1 ≡ down_by (parts_view self.now) }
+        ensures up { result.0 ≡ or_zero (exponent_value (number_view self.now) -ℤ pos (length self.now.fraction.now)) }
+        ensures down { result.1 ≡ or_zero (pos (length self.now.fraction.now) -ℤ exponent_value (number_view self.now)) }
         ensures one_way { (result.0 ≡ 0) ⊎ (result.1 ≡ 0) }
     {
         let exponent = self.exponent_value();
@@ -191,8 +195,8 @@ impl Parts<'_> {
     }
 }
 
-fn signed(negative: bool, size: Option<u32>) -> Result<i64, NumFault>
-    ensures { result ≡ signed negative size }
+fn with_sign(negative: bool, size: Option<u32>) -> Result<i64, NumFault>
+    ensures { result ≡ result_of negative size }
 {
     match size {
         None => Err(NumFault::Range),
@@ -201,7 +205,10 @@ fn signed(negative: bool, size: Option<u32>) -> Result<i64, NumFault>
     }
 }
 
-/// The number's value times `k`, rounded to the nearest whole number, halves away from zero.
+/// The number that the text is, times `k`, rounded to the nearest whole number, halves away from
+/// zero. A number is an optional `+` or `-`, digits with at most one point and at least one digit
+/// before or after it, and optionally `e` or `E`, an optional sign and at least one digit. A
+/// result is at most 2147483647 either way. Takes no memory.
 pub fn scaled(text: &[u8], k: u32) -> Result<i64, NumFault>
     requires least { 1 ≤ k }
     requires most { k ≤ 65536 }
@@ -214,7 +221,7 @@ pub fn scaled(text: &[u8], k: u32) -> Result<i64, NumFault>
         return Err(NumFault::Digits);
     }
     let (up, down) = parts.moves();
-    signed(
+    with_sign(
         parts.negative,
         size(parts.digits_value() * u128::from(k), up, down),
     )

@@ -2,7 +2,7 @@
 ghost use Rattle.std.specs.Prelude.{◌≡◌, pos, ◌<ℤ◌};
 ghost use Rattle.abuf_num.specs.Division.{floor_div, round_div};
 
-/// `n / m`, rounded down.
+/// The greatest whole number that is not above `n / m`.
 pub fn floor_div(n: i128, m: i128) -> i128
     requires { pos 0 <ℤ m }
     ensures { result ≡ floor_div n m }
@@ -10,7 +10,7 @@ pub fn floor_div(n: i128, m: i128) -> i128
     n.div_euclid(m)
 }
 
-/// `n / m`, rounded to the nearest whole number, halves away from zero.
+/// The whole number nearest to `n / m`, halves away from zero.
 pub fn round_div(n: i128, m: i128) -> i128
     requires { pos 0 <ℤ m }
     ensures { result ≡ round_div n m }

@@ -1,4 +1,9 @@
 //! Numbers, lists and the plain types that the other crates share.
+//!
+//! [`scaled`] reads a decimal number and gives the whole number nearest to `k` times its value, by
+//! the definition `specs/Decimal.antt`, or says why there is none. [`floor_div`] and
+//! [`round_div`] are the two divisions that round (`specs/Division.antt`). Clauses see a [`List`]
+//! as the list of its items.
 #![tactic(auto)]
 
 mod decimal;
@@ -6,6 +11,8 @@ mod division;
 mod list;
 mod plain;
 mod size;
+#[cfg(test)]
+mod tests;
 
 pub use decimal::{NumFault, scaled};
 pub use division::{floor_div, round_div};

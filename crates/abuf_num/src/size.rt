@@ -1,7 +1,9 @@
-// The size of a scaled number.
-ghost use Rattle.std.specs.Prelude.{◌≡◌, ◌≤◌, ◌<◌, ◌*◌, ◌^◌, ◌⊎◌};
-ghost use Rattle.abuf_num.specs.Decimal.{limited, round_nat, size_of};
+// The size of a result: digits with the point moved, rounded and held to the limit.
+ghost use Rattle.std.specs.Prelude.{◌≡◌, ◌<◌, ◌*◌, ◌^◌, ◌⊎◌};
+ghost use Rattle.abuf_num.specs.Division.{nearest};
+ghost use Rattle.abuf_num.specs.Size.{limited};
 
+// The greatest result.
 const MOST: u128 = 2147483647;
 
 // `n` times a power of ten, within the limit.
@@ -25,7 +27,7 @@ fn raised(n: u128, up: u32) -> Option<u32>
 // `n` over a power of ten, rounded, within the limit.
 fn lowered(n: u128, down: u32) -> Option<u32>
     requires { n < 2 ^ 116 }
-    ensures { result ≡ limited (round_nat n (10 ^ down)) }
+    ensures { result ≡ limited (nearest n (10 ^ down)) }
 {
     if down > 35 {
         return Some(0);
@@ -39,11 +41,11 @@ fn lowered(n: u128, down: u32) -> Option<u32>
     }
 }
 
-// Moves the point one way, and rounds.
+// `n` with its point moved to the right or to the left, rounded, within the limit.
 pub fn size(n: u128, up: u32, down: u32) -> Option<u32>
     requires small { n < 2 ^ 116 }
     requires one_way { (up ≡ 0) ⊎ (down ≡ 0) }
-    ensures { result ≡ size_of n up down }
+    ensures { result ≡ limited (nearest (n * 10 ^ up) (10 ^ down)) }
 {
     if down == 0 {
         raised(n, up)

@@ -1,10 +1,10 @@
--- What the parts that the code finds stand for.
+-- What the parts of a text that the code finds stand for.
 use Rattle.std.specs.Prelude.{◌≡◌, true}
-use Rattle.abuf_num.specs.Decimal.{Parts, all_digits}
-use Rattle.abuf_num.specs.declared.decimal.Parts.{Parts as Found}
+use Rattle.abuf_num.specs.Decimal.{Number, all_digits}
+use Rattle.abuf_num.specs.declared.decimal.Parts.{Parts}
 
-abbrev pub parts_view : Found → Parts
-parts_view p = record {
+abbrev pub number_view : Parts → Number
+number_view p = record {
   negative = p.negative;
   whole = p.whole.now;
   fraction = p.fraction.now;
@@ -13,7 +13,7 @@ parts_view p = record {
 }
 
 -- the parts are digits
-pub record HasDigits (p : Found) : Type 0 where
+pub record HasDigits (p : Parts) : Type 0 where
   pub whole : all_digits p.whole.now ≡ true
   pub fraction : all_digits p.fraction.now ≡ true
   pub exponent : all_digits p.exponent.now ≡ true

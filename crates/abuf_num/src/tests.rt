@@ -1,0 +1,56 @@
+// Values worked by hand.
+use crate::{List, NumFault, floor_div, round_div, scaled};
+use std::test::Fail;
+
+#[test]
+fn texts_and_their_values(rt: HostRuntime) {
+    let rows: [(&[u8], Result<i64, NumFault>); 17] = [
+        (b".5", Ok(32768)),
+        (b"-1.", Ok(-65536)),
+        (b"1e-7", Ok(0)),
+        (b"32767.99999", Ok(2147483647)),
+        (b"32768", Err(NumFault::Range)),
+        (b"0.0000012345678901234567", Ok(0)),
+        (b"0000000000000000000000000000001", Err(NumFault::Digits)),
+        (b"1e", Err(NumFault::Form)),
+        (b"", Err(NumFault::Form)),
+        (b"+.5e1", Ok(327680)),
+        (b"-0.00000762939453125", Ok(-1)),
+        (b"0.00000762939453124", Ok(0)),
+        (b"32767.999999", Err(NumFault::Range)),
+        (b"-32768", Err(NumFault::Range)),
+        (b"1e5", Err(NumFault::Range)),
+        (b"1e0001", Err(NumFault::Digits)),
+        (b"1e-999", Ok(0)),
+    ];
+    for (text, want) in rows {
+        assert!(rt; scaled(text, 65536) == want);
+    }
+}
+
+#[test]
+fn quotients_are_rounded(rt: HostRuntime) {
+    for (n, down, near) in [
+        (5, 2, 3),
+        (-5, -3, -3),
+        (-4, -2, -2),
+        (1, 0, 1),
+        (-1, -1, -1),
+    ] {
+        assert_eq!(rt; floor_div(n, 2), down, "{n}");
+        assert_eq!(rt; round_div(n, 2), near, "{n}");
+    }
+    assert_eq!(rt; floor_div(-1, 3), -1);
+    assert_eq!(rt; round_div(-1, 3), 0);
+}
+
+#[test]
+fn a_list_keeps_its_items_in_order(rt: HostRuntime) -> Result<(), Fail> {
+    let mut list = List::new(rt.alloc());
+    list.push(3)?;
+    list.push(1)?;
+    assert!(rt; list.as_slice() == [3u8, 1].as_slice());
+    let again = List::from_vec(list.into_vec());
+    assert!(rt; again.as_slice() == [3u8, 1].as_slice());
+    Ok(())
+}
