@@ -1,0 +1,6 @@
+pub mod Causes
+pub mod Fetching
+pub mod Whole
+pub mod Plans
+pub mod Memory
+pub mod Adapters

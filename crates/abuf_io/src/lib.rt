@@ -1,0 +1,31 @@
+//! What is outside, as traits with a meaning: a [`Source`] has bytes left, a [`Shelf`] holds contents
+//! under names, a [`Sink`] has taken bytes. Each has a count of faults, and says that it failed only
+//! where that count rose.
+//!
+//! Over memory (`MemSource`, `MemShelf`, `MemSink`, and the `Steady` types, which never fail) the
+//! meaning is told. The adapters over the real outside (`ReadSource`, `FolderShelf`, `WriteSink`)
+//! tell nothing of content, and keep a count of faults.
+//!
+//! [`read_all`] gives all that a source has left, and [`write_all`] makes a sink take all of some
+//! bytes, or they answer a fault of which the count tells the cause.
+#![tactic(auto)]
+
+mod adapters;
+mod folder;
+mod memory_shelf;
+mod memory_sink;
+mod memory_source;
+mod outside;
+mod plan;
+#[cfg(test)]
+mod tests;
+mod whole;
+
+pub use adapters::{ReadSource, WriteSink};
+pub use folder::FolderShelf;
+pub use memory_shelf::{MemShelf, SteadyShelf};
+pub use memory_sink::MemSink;
+pub use memory_source::{MemSource, SteadySource};
+pub use outside::{Failed, Fetch, Shelf, Sink, Source};
+pub use plan::Step;
+pub use whole::{ReadEnd, WriteFault, read_all, write_all};

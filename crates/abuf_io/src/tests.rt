@@ -1,0 +1,161 @@
+// Each call once over memory, and how whole readings and writings end.
+ghost use Rattle.std.specs.Prelude.{IfOk};
+ghost use Rattle.abuf_io.specs.Plans.{IsPlan};
+
+use crate::{
+    Failed, Fetch, FolderShelf, MemShelf, MemSink, MemSource, ReadEnd, ReadSource, Shelf, Sink,
+    Source, SteadyShelf, SteadySource, Step, WriteFault, WriteSink, read_all, write_all,
+};
+use abuf_num::List;
+use std::alloc::Global;
+use std::test::Fail;
+
+fn bytes(alloc: Global, text: &[u8]) -> Result<List<u8>, Fail> {
+    Ok(List::from_vec(text.to_vec(alloc)?))
+}
+
+// A step that takes two bytes, a fault, and a step that takes one.
+fn plan(alloc: Global) -> Result<List<Step>, Fail>
+    ensures { IfOk result IsPlan }
+{
+    let mut plan = List::new(alloc);
+    plan.push(Step::Take(2))?;
+    plan.push(Step::Fail)?;
+    plan.push(Step::Take(1))?;
+    Ok(plan)
+}
+
+#[test]
+fn a_source_goes_by_its_plan(rt: HostRuntime) -> Result<(), Fail> {
+    let alloc = rt.alloc();
+    let mut source = MemSource::new(bytes(alloc, b"abcdefg")?, plan(alloc)?);
+    let mut buf = [0u8; 3];
+    assert!(rt; source.read(&mut buf) == Ok(2));
+    assert!(rt; buf.as_slice() == b"ab\0".as_slice());
+    assert!(rt; source.read(&mut buf) == Err(Failed));
+    assert!(rt; source.read(&mut buf) == Ok(1));
+    assert!(rt; source.read(&mut buf) == Ok(3));
+    assert!(rt; buf.as_slice() == b"def".as_slice());
+    assert!(rt; source.read(&mut buf) == Ok(1));
+    assert!(rt; source.read(&mut buf) == Ok(0));
+    Ok(())
+}
+
+#[test]
+fn a_sink_goes_by_its_plan_and_its_room(rt: HostRuntime) -> Result<(), Fail> {
+    let alloc = rt.alloc();
+    let mut sink = MemSink::new(alloc, 5, plan(alloc)?)?;
+    assert!(rt; sink.write(b"abc") == Ok(2));
+    assert!(rt; sink.write(b"c") == Err(Failed));
+    assert!(rt; sink.write(b"cd") == Ok(1));
+    assert!(rt; sink.write(b"defg") == Ok(2));
+    assert!(rt; sink.write(b"") == Ok(0));
+    assert!(rt; sink.write(b"fg") == Err(Failed));
+    assert!(rt; sink.taken() == b"abcde".as_slice());
+    Ok(())
+}
+
+#[test]
+fn a_reading_is_whole_or_says_why(rt: HostRuntime) -> Result<(), Fail> {
+    let alloc = rt.alloc();
+    let mut steady = SteadySource::new(bytes(alloc, b"abc")?);
+    match read_all(alloc, &mut steady, 3) {
+        Ok(whole) => assert!(rt; whole.as_slice() == b"abc".as_slice()),
+        Err(_) => assert!(rt; false),
+    }
+    let mut long = SteadySource::new(bytes(alloc, b"abc")?);
+    assert!(rt; read_all(alloc, &mut long, 2).err() == Some(ReadEnd::TooLong));
+    let mut failing = MemSource::new(bytes(alloc, b"abc")?, plan(alloc)?);
+    assert!(rt; read_all(alloc, &mut failing, 3).err() == Some(ReadEnd::ReadFault));
+    Ok(())
+}
+
+#[test]
+fn no_read_follows_the_end(rt: HostRuntime) -> Result<(), Fail> {
+    let alloc = rt.alloc();
+    let mut source = MemSource::new(bytes(alloc, b"ab")?, ends(alloc)?);
+    match read_all(alloc, &mut source, 9) {
+        Ok(whole) => assert!(rt; whole.as_slice() == b"ab".as_slice()),
+        Err(_) => assert!(rt; false),
+    }
+    Ok(())
+}
+
+// Two steps that take one byte, one at the end, and a fault.
+fn ends(alloc: Global) -> Result<List<Step>, Fail>
+    ensures { IfOk result IsPlan }
+{
+    let mut plan = List::new(alloc);
+    plan.push(Step::Take(1))?;
+    plan.push(Step::Take(1))?;
+    plan.push(Step::Take(1))?;
+    plan.push(Step::Fail)?;
+    Ok(plan)
+}
+
+#[test]
+fn a_writing_offers_all_that_is_left(rt: HostRuntime) -> Result<(), Fail> {
+    let alloc = rt.alloc();
+    let mut sink = MemSink::new(alloc, 9, plan(alloc)?)?;
+    assert!(rt; write_all(&mut sink, b"ab") == Ok(()));
+    assert!(rt; write_all(&mut sink, b"c") == Err(WriteFault));
+    assert!(rt; write_all(&mut sink, b"cde") == Ok(()));
+    assert!(rt; sink.taken() == b"abcde".as_slice());
+    Ok(())
+}
+
+#[test]
+fn shelves_hold_the_first_pair_of_a_name(rt: HostRuntime) -> Result<(), Fail> {
+    let alloc = rt.alloc();
+    let mut steady = SteadyShelf::new(pairs(alloc)?);
+    let mut fails = List::new(alloc);
+    fails.push(1)?;
+    let mut shelf = MemShelf::new(pairs(alloc)?, fails);
+    match (steady.fetch(alloc, b"a", 3), shelf.fetch(alloc, b"a", 3)) {
+        (Ok(one), Ok(other)) => {
+            assert!(rt; one.as_slice() == b"one".as_slice());
+            assert!(rt; other.as_slice() == b"one".as_slice());
+        }
+        _ => assert!(rt; false),
+    }
+    assert!(rt; shelf.fetch(alloc, b"a", 3).err() == Some(Fetch::Failed));
+    assert!(rt; shelf.fetch(alloc, b"a", 2).err() == Some(Fetch::TooLong));
+    assert!(rt; shelf.fetch(alloc, b"b", 2).err() == Some(Fetch::Missing));
+    assert!(rt; steady.fetch(alloc, b"a", 2).err() == Some(Fetch::TooLong));
+    assert!(rt; steady.fetch(alloc, b"b", 2).err() == Some(Fetch::Missing));
+    Ok(())
+}
+
+// Two contents under one name.
+fn pairs(alloc: Global) -> Result<List<(List<u8>, List<u8>)>, Fail> {
+    let mut pairs = List::new(alloc);
+    pairs.push((bytes(alloc, b"a")?, bytes(alloc, b"one")?))?;
+    pairs.push((bytes(alloc, b"a")?, bytes(alloc, b"two")?))?;
+    Ok(pairs)
+}
+
+#[test]
+fn the_folder_tells_a_missing_file_from_a_fault(rt: HostRuntime) {
+    let alloc = rt.alloc();
+    let mut folder = FolderShelf::new(&rt);
+    assert!(rt; folder.fetch(alloc, b"no such file.mtl", 9).err() == Some(Fetch::Missing));
+    assert!(rt; folder.fetch(alloc, b".", 9).err() == Some(Fetch::Failed));
+    assert!(rt; folder.fetch(alloc, b"a\0b", 9).err() == Some(Fetch::Failed));
+    assert!(rt; folder.fetch(alloc, b"\xff", 9).err() == Some(Fetch::Failed));
+}
+
+#[test]
+fn adapters_pass_bytes_on(rt: HostRuntime) -> Result<(), Fail> {
+    let alloc = rt.alloc();
+    let mut source = ReadSource::new(b"abc".as_slice());
+    match read_all(alloc, &mut source, 3) {
+        Ok(whole) => assert!(rt; whole.as_slice() == b"abc".as_slice()),
+        Err(_) => assert!(rt; false),
+    }
+    let mut sink = WriteSink::new(Vec::new(alloc));
+    assert!(rt; write_all(&mut sink, b"abc") == Ok(()));
+    let mut room = [0u8; 2];
+    let mut full = WriteSink::new(room.as_mut_slice());
+    assert!(rt; write_all(&mut full, b"abc") == Err(WriteFault));
+    Ok(())
+}
