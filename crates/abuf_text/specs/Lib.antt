@@ -1,0 +1,5 @@
+pub mod Lines
+pub mod Statement
+pub mod Rest
+pub mod Cut
+pub mod Names
