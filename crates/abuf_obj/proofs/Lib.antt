@@ -1,0 +1,4 @@
+pub mod Digits
+pub mod Joining
+pub mod Late
+pub mod Reading

@@ -1,0 +1,10 @@
+use Rattle.std.proofs.Common.{◌≡◌, ◌+◌, length, []}
+use Rattle.abuf_obj.specs.Elements.{places_of}
+use Rattle.abuf_obj.proofs.Joining.{joined}
+use Rattle.abuf_obj.proofs.element.places.Given as goal
+
+abbrev pub invariant-loop-element : goal.invariant-loop-element
+invariant-loop-element l = record {
+  value : joined l.list.items (places_of l.above l.element-iterator) ≡ joined [] (places_of l.above l.fn.elements);
+  count : length l.list.items + length l.element-iterator ≡ l.count;
+}

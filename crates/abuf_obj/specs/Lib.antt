@@ -1,0 +1,9 @@
+pub mod Keywords
+pub mod Points
+pub mod Elements
+pub mod Above
+pub mod Faults
+pub mod Scene
+pub mod Places
+pub mod Sound
+pub mod Taking

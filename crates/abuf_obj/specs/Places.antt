@@ -1,0 +1,10 @@
+-- Places in 32 bits.
+use Rattle.std.specs.Prelude.{ℕ, map, min}
+use Rattle.abuf_obj.specs.declared.face.Face.{Face}
+
+-- a place that doesn't fit is no point's, and the last one that fits stands for it
+abbrev pub held : ℕ → ℕ
+held place = min place 4294967295
+
+abbrev pub held_face : Face → Face
+held_face face = record face { corners = map held face.corners }

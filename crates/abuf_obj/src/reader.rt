@@ -1,0 +1,137 @@
+// The scene so far, line by line.
+ghost use Rattle.std.specs.Prelude.{◌≡◌, ◌≤◌, ◌<◌, length, All, IfSome};
+ghost use Rattle.std.proofs.Props.{props};
+ghost use Rattle.abuf_obj.specs.Sound.{IsNear, IsFan, triangles_in};
+
+use crate::element::{count, places};
+use crate::face::Face;
+use crate::fault::{ObjFault, Why};
+use crate::keyword::{Keyword, cut_line};
+use crate::points::point;
+use abuf_num::List;
+use abuf_text::{Names, Statement, rest};
+use std::alloc::Global;
+
+const MOST: u32 = 1048576;
+
+/// What has been read so far, and the place of the name in use.
+#[derive(Drop)]
+pub struct Reader {
+    pub points: List<[i64; 3]>,
+    pub faces: List<Face>,
+    pub names: Names,
+    pub libraries: Names,
+    pub triangles: u32,
+    pub name: Option<u32>,
+    ghost few_points: { length points ≤ 1048576 },
+    ghost few_triangles: { triangles ≤ 1048576 },
+    ghost few_names: { length names ≤ 4096 },
+    ghost few_libraries: { length libraries ≤ 16 },
+    ghost near: { All IsNear points },
+    ghost fans: { All (IsFan (length names)) faces } by { Prim.hlevel props },
+    ghost counts: { triangles_in faces ≡ triangles },
+    ghost named: { IfSome name (λ n. n < length names) } by { Prim.hlevel props },
+}
+
+impl Reader {
+    ghost use Rattle.std.specs.Prelude.{List as Items, ℕ, IfErr, OnOk};
+    ghost use Rattle.abuf_obj.specs.Faults.{why, why_by, TellsWhy};
+    ghost use Rattle.abuf_obj.specs.Taking.{counted, TakesBy, TakesLine};
+
+    fn take_point(&mut self, line: u32, arguments: Statement) -> Result<(), ObjFault>
+        ensures fault { (text : Items ℕ) → IfErr result (TellsWhy line (why_by (counted self.old) Keyword.Vertex arguments.entry text)) }
+        ensures ok { (text : Items ℕ) → OnOk result (TakesBy line Keyword.Vertex arguments.entry text self.old self.new) }
+    {
+        match point(arguments) {
+            None => Err(Why::BadNumber.at(line)),
+            Some(_) if self.points.as_slice().len() >= 1048576 => Err(Why::TooManyPoints.at(line)),
+            Some(point) => {
+                self.points.push(point)?;
+                Ok(())
+            }
+        }
+    }
+
+    fn take_face(&mut self, alloc: Global, line: u32, arguments: Statement) -> Result<(), ObjFault>
+        ensures fault { (text : Items ℕ) → IfErr result (TellsWhy line (why_by (counted self.old) Keyword.Face arguments.entry text)) }
+        ensures ok { (text : Items ℕ) → OnOk result (TakesBy line Keyword.Face arguments.entry text self.old self.new) }
+    {
+        let count = count(arguments.again());
+        if count < 3 {
+            return Err(Why::TooFewElements.at(line));
+        }
+        if 1024 < count {
+            return Err(Why::TooManyElements.at(line));
+        }
+        let above = self.points.as_slice().len() as u32;
+        let Some(corners) = places(alloc, above, count, arguments)? else {
+            return Err(Why::BadIndex.at(line));
+        };
+        let triangles = self.triangles + (count - 2);
+        if MOST < triangles {
+            return Err(Why::TooManyTriangles.at(line));
+        }
+        self.faces.push(Face {
+            line,
+            corners,
+            name: self.name,
+        })?;
+        self.triangles = triangles;
+        Ok(())
+    }
+
+    fn take_material(&mut self, alloc: Global, line: u32, name: &[u8]) -> Result<(), ObjFault>
+        ensures fault { (arguments : Items (Items ℕ)) → IfErr result (TellsWhy line (why_by (counted self.old) Keyword.Material arguments name.now)) }
+        ensures ok { (arguments : Items (Items ℕ)) → OnOk result (TakesBy line Keyword.Material arguments name.now self.old self.new) }
+    {
+        if name.is_empty() {
+            return Err(Why::NoName.at(line));
+        }
+        match self.names.find(name) {
+            Some(place) => {
+                self.name = Some(place);
+                Ok(())
+            }
+            None if self.names.len() < 4096 => {
+                let place = self.names.len() as u32;
+                self.names.push(alloc, name)?;
+                self.name = Some(place);
+                Ok(())
+            }
+            None => Err(Why::TooManyMaterials.at(line)),
+        }
+    }
+
+    fn take_library(&mut self, alloc: Global, line: u32, name: &[u8]) -> Result<(), ObjFault>
+        ensures fault { (arguments : Items (Items ℕ)) → IfErr result (TellsWhy line (why_by (counted self.old) Keyword.Library arguments name.now)) }
+        ensures ok { (arguments : Items (Items ℕ)) → OnOk result (TakesBy line Keyword.Library arguments name.now self.old self.new) }
+    {
+        if name.is_empty() {
+            return Err(Why::NoName.at(line));
+        }
+        match self.libraries.find(name) {
+            Some(_) => Ok(()),
+            None if self.libraries.len() < 16 => {
+                self.libraries.push(alloc, name)?;
+                Ok(())
+            }
+            None => Err(Why::TooManyLibraries.at(line)),
+        }
+    }
+
+    /// Takes a line.
+    pub fn take(&mut self, alloc: Global, number: u32, line: &[u8]) -> Result<(), ObjFault>
+        ensures fault { IfErr result (TellsWhy number (why (counted self.old) line.now)) }
+        ensures ok { OnOk result (TakesLine number line.now self.old self.new) }
+    {
+        let (keyword, arguments) = cut_line(line);
+        match keyword {
+            Keyword::Vertex => self.take_point(number, arguments),
+            Keyword::Face => self.take_face(alloc, number, arguments),
+            Keyword::Material => self.take_material(alloc, number, rest(line)),
+            Keyword::Library => self.take_library(alloc, number, rest(line)),
+            Keyword::Passed => Ok(()),
+            Keyword::Refused => Err(Why::Keyword.at(number)),
+        }
+    }
+}

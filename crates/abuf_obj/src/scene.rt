@@ -1,0 +1,123 @@
+// Scenes.
+ghost use Rattle.std.specs.Prelude.{◌≡◌, ◌<◌, ◌-◌, ◌^◌, [], length, map, IfErr, OnOk, IfOk, None};
+ghost use Rattle.abuf_text.specs.Lines.{lines};
+ghost use Rattle.abuf_obj.specs.Above.{names_of, libraries_of};
+ghost use Rattle.abuf_obj.specs.Faults.{fault_from, TellsFirst};
+ghost use Rattle.abuf_obj.specs.Places.{held_face};
+ghost use Rattle.abuf_obj.specs.Scene.{points_of, faces_of, is_astray, astray_line, points, faces, names, libraries, obj_fault};
+ghost use Rattle.abuf_obj.specs.Sound.{IsScene};
+
+use crate::face::Face;
+use crate::fault::{ObjFault, Why};
+use crate::reader::Reader;
+use abuf_num::List;
+use abuf_text::{Lines, Names};
+use std::alloc::Global;
+
+/// What an OBJ file defines.
+#[derive(Drop)]
+pub struct Obj {
+    /// The points, in units of 1/65536.
+    pub points: List<[i64; 3]>,
+    pub faces: List<Face>,
+    /// The names on `usemtl` lines, each once, in the order of first appearance.
+    pub names: List<List<u8>>,
+    /// The names on `mtllib` lines, in the same way.
+    pub libraries: List<List<u8>>,
+}
+
+// Takes the lines, up to the first that is faulty.
+fn read_lines(alloc: Global, bytes: &[u8]) -> Result<Reader, ObjFault>
+    requires { length bytes.now < 2 ^ 32 - 1 }
+    ensures fault { IfErr result (TellsFirst (fault_from [] (lines bytes.now))) }
+    ensures sound { OnOk result (fault_from [] (lines bytes.now) ≡ None) }
+    ensures points { IfOk result (λ r. r.points ≡ points_of (lines bytes.now)) }
+    ensures faces { IfOk result (λ r. r.faces ≡ map held_face (faces_of (lines bytes.now))) }
+    ensures names { IfOk result (λ r. r.names ≡ names_of (lines bytes.now)) }
+    ensures libraries { IfOk result (λ r. r.libraries ≡ libraries_of (lines bytes.now)) }
+{
+    let mut reader = Reader {
+        points: List::new(alloc),
+        faces: List::new(alloc),
+        names: Names::new(alloc),
+        libraries: Names::new(alloc),
+        triangles: 0,
+        name: None,
+    };
+    let mut number = 0;
+    for line in Lines::new(bytes) {
+        number += 1;
+        reader.take(alloc, number, line)?;
+    }
+    Ok(reader)
+}
+
+/// Reads a scene, or finds its first fault: the first line that is at fault by what stands above it, or,
+/// where there is none, the first face with a positive index beyond the points of the whole file.
+/// Nothing is kept after a fault.
+pub fn read_obj(alloc: Global, bytes: &[u8]) -> Result<Obj, ObjFault>
+    requires { length bytes.now < 2 ^ 32 - 1 }
+    ensures fault { IfErr result (TellsFirst (obj_fault bytes.now)) }
+    ensures sound { OnOk result (obj_fault bytes.now ≡ None) }
+    ensures points { IfOk result (λ obj. obj.points ≡ points bytes.now) }
+    ensures faces { IfOk result (λ obj. obj.faces ≡ faces bytes.now) }
+    ensures names { IfOk result (λ obj. obj.names ≡ names bytes.now) }
+    ensures libraries { IfOk result (λ obj. obj.libraries ≡ libraries bytes.now) }
+    ensures scene { IfOk result IsScene }
+{
+    let reader = read_lines(alloc, bytes)?;
+    match first_astray(&reader) {
+        Some(line) => Err(ObjFault::Line {
+            line,
+            why: Why::BadIndex,
+        }),
+        None => Ok(finish(reader)),
+    }
+}
+
+// The line of the first face with a place at or beyond the number of points.
+fn first_astray(reader: &Reader) -> Option<u32>
+    ensures { result ≡ astray_line (length reader.now.points) reader.now.faces }
+{
+    let points = reader.points.as_slice().len();
+    reader
+        .faces
+        .as_slice()
+        .iter()
+        .find(|face| goes_astray(points, face))
+        .map(|face| face.line)
+}
+
+fn goes_astray(points: usize, face: &Face) -> bool
+    ensures { result ≡ is_astray points face.now }
+{
+    face.corners
+        .as_slice()
+        .iter()
+        .any(|corner| points <= *corner as usize)
+}
+
+// The scene that was read, in which no face goes astray.
+fn finish(reader: Reader) -> Obj
+    requires { astray_line (length reader.points) reader.faces ≡ None }
+    ensures points { result.points ≡ reader.points }
+    ensures faces { result.faces ≡ reader.faces }
+    ensures names { result.names ≡ reader.names }
+    ensures libraries { result.libraries ≡ reader.libraries }
+    ensures scene { IsScene result }
+{
+    let Reader {
+        points,
+        faces,
+        names,
+        libraries,
+        triangles: _,
+        name: _,
+    } = reader;
+    Obj {
+        points,
+        faces,
+        names: names.into_list(),
+        libraries: libraries.into_list(),
+    }
+}
