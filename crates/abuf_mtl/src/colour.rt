@@ -1,0 +1,67 @@
+// The numbers of a `Kd` or a `d` line.
+ghost use Rattle.std.specs.Prelude.{◌≡◌};
+ghost use Rattle.abuf_mtl.specs.Said.{held, share_of, colour_of, colour_from, grey, alpha_of};
+
+use abuf_num::scaled;
+use abuf_text::Statement;
+
+// The number, held into 0 to 65535.
+fn held(value: i64) -> u16
+    ensures { result ≡ held value }
+{
+    value.clamp(0, 65535) as u16
+}
+
+// A number from 0 to 1, in parts of 65535.
+fn share(text: &[u8]) -> Option<u16>
+    ensures { result ≡ share_of text.now }
+{
+    match scaled(text, 65535) {
+        Ok(value) => Some(held(value)),
+        Err(_) => None,
+    }
+}
+
+fn three(red: Option<u16>, green: Option<u16>, blue: Option<u16>) -> Option<[u16; 3]>
+    ensures { result ≡ colour_from red green blue }
+{
+    match (red, green, blue) {
+        (Some(red), Some(green), Some(blue)) => Some([red, green, blue]),
+        _ => None,
+    }
+}
+
+fn one(value: Option<u16>) -> Option<[u16; 3]>
+    ensures { result ≡ grey value }
+{
+    match value {
+        Some(value) => Some([value, value, value]),
+        None => None,
+    }
+}
+
+// The colour of three numbers, or of one that stands for all three.
+pub fn colour(mut arguments: Statement) -> Option<[u16; 3]>
+    ensures { result ≡ colour_of arguments.entry }
+{
+    let Some(red) = arguments.next() else {
+        return None;
+    };
+    let Some(green) = arguments.next() else {
+        return one(share(red));
+    };
+    match arguments.next() {
+        Some(blue) => three(share(red), share(green), share(blue)),
+        None => None,
+    }
+}
+
+// The alpha of one number.
+pub fn alpha(mut arguments: Statement) -> Option<u16>
+    ensures { result ≡ alpha_of arguments.entry }
+{
+    match arguments.next() {
+        Some(value) => share(value),
+        None => None,
+    }
+}

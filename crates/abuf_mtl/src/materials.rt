@@ -1,0 +1,106 @@
+// Materials by their names.
+ghost use Rattle.std.specs.Prelude.{◌≡◌, ◌<◌, ◌≤◌, ◌-◌, ◌^◌, ◌++◌, ◌∷◌, [], List as Items, ℕ, length, None, IfErr, IfOk, OnOk, OnErr};
+ghost use Rattle.std.specs.List.{zip};
+ghost use Rattle.abuf_text.specs.Lines.{lines};
+ghost use Rattle.abuf_mtl.specs.Fault.{library_fault, fault_from, TellsFirst};
+ghost use Rattle.abuf_mtl.specs.Material.{material};
+ghost use Rattle.abuf_mtl.specs.Reading.{ReadsAll};
+ghost use Rattle.abuf_mtl.specs.StandsFor.{StandsFor, find_paint};
+
+use crate::fault::MtlFault;
+use crate::reader::Reader;
+use abuf_num::{NoMemory, Paint};
+use abuf_text::{Lines, Names};
+use std::alloc::Global;
+use std::marker::Model;
+
+/// Materials: each name once, with its paint, at most 4096 of them.
+#[derive(Drop)]
+pub struct Materials {
+    names: Names,
+    paints: Vec<Paint>,
+}
+
+impl Model for Materials {
+    ghost use Rattle.std.specs.Prelude.{◌≡◌, ◌≤◌, List as Items, ℕ, length};
+    ghost use Rattle.std.specs.List.{zip};
+    ghost use Rattle.abuf_num.specs.declared.plain.Paint.{Paint as Painted};
+
+    ghost Value = { Items (Items ℕ × Painted) };
+
+    ghost view = { λ m. zip m.names m.paints.items };
+
+    ghost invariant = { λ m. (length m.paints.items ≡ length m.names) × (length m.names ≤ 4096) };
+}
+
+impl Materials {
+    /// No materials: they stand for no library. Takes no memory.
+    pub fn new(alloc: Global) -> Materials
+        ensures empty { result ≡ [] }
+        ensures stands { StandsFor [] result }
+    {
+        Materials {
+            names: Names::new(alloc),
+            paints: Vec::new(alloc),
+        }
+    }
+
+    /// The paint of a name, if it is there: that of the name's last `newmtl` over the libraries that the
+    /// materials stand for.
+    pub fn find(&self, name: &[u8]) -> Option<Paint>
+        ensures found { result ≡ find_paint name.now self.now }
+        ensures material { (libraries : Items (Items ℕ)) → StandsFor libraries self.now → result ≡ material libraries name.now }
+    {
+        match self.names.find(name) {
+            Some(place) => Some(self.paints[place as usize]),
+            None => None,
+        }
+    }
+
+    // The same materials once more, for a reader.
+    fn reader(&self, alloc: Global) -> Result<Reader, NoMemory>
+        ensures { IfOk result (λ r. (zip r.names r.paints.items ≡ self.now) × (r.begun ≡ None)) }
+    {
+        Ok(Reader {
+            names: self.names.copy(alloc)?,
+            paints: self.paints.as_slice().to_vec(alloc)?,
+            begun: None,
+        })
+    }
+}
+
+// Takes the lines of a library, up to the first with a fault.
+fn read_lines(alloc: Global, bytes: &[u8], reader: &mut Reader) -> Result<(), MtlFault>
+    requires short { length bytes.now < 2 ^ 32 - 1 }
+    requires closed { reader.old.begun ≡ None }
+    ensures fault { IfErr result (TellsFirst (fault_from reader.old.names [] (lines bytes.now))) }
+    ensures ok { OnOk result (ReadsAll (lines bytes.now) reader.old reader.new) }
+{
+    let mut number = 0;
+    for line in Lines::new(bytes) {
+        number += 1;
+        reader.take(alloc, number, line)?;
+    }
+    Ok(())
+}
+
+/// Reads a library behind those that the materials stand for. A material begins with a colour and an
+/// alpha of 65535; the last `Kd` and the last `d` of a material hold, and the last `newmtl` of a name.
+/// After any refusal, want of memory included, `into` is unchanged.
+pub fn read_mtl(alloc: Global, bytes: &[u8], into: &mut Materials) -> Result<(), MtlFault>
+    requires { length bytes.now < 2 ^ 32 - 1 }
+    ensures fault { (libraries : Items (Items ℕ)) → StandsFor libraries into.old → IfErr result (TellsFirst (library_fault libraries bytes.now)) }
+    ensures sound { (libraries : Items (Items ℕ)) → StandsFor libraries into.old → OnOk result (library_fault libraries bytes.now ≡ None) }
+    ensures ok { (libraries : Items (Items ℕ)) → StandsFor libraries into.old → OnOk result (StandsFor (libraries ++ bytes.now ∷ []) into.new) }
+    ensures unchanged { OnErr result (into.new ≡ into.old) }
+{
+    let mut reader = into.reader(alloc)?;
+    read_lines(alloc, bytes, &mut reader)?;
+    let Reader {
+        names,
+        paints,
+        begun: _,
+    } = reader;
+    *into = Materials { names, paints };
+    Ok(())
+}

@@ -1,0 +1,166 @@
+// The materials so far, line by line.
+ghost use Rattle.std.specs.Prelude.{◌≡◌, ◌≤◌, length};
+ghost use Rattle.abuf_mtl.specs.Open.{IsOpen};
+
+use crate::colour::{alpha, colour};
+use crate::fault::{MtlFault, MtlWhy};
+use crate::keyword::{Keyword, cut_line};
+use abuf_num::{NoMemory, Paint};
+use abuf_text::{Names, rest};
+use std::alloc::Global;
+
+// How many names there may be.
+const MOST: usize = 4096;
+
+// What a material begins with.
+const NEW: Paint = Paint {
+    colour: [65535, 65535, 65535],
+    alpha: 65535,
+};
+
+// Names with their paints, and the place of the material that is open.
+#[derive(Drop)]
+pub struct Reader {
+    pub names: Names,
+    pub paints: Vec<Paint>,
+    pub begun: Option<usize>,
+    ghost beside: { length paints.items ≡ length names },
+    ghost few: { length names ≤ 4096 },
+    ghost begun_is: { IsOpen names begun },
+}
+
+impl Reader {
+    ghost use Rattle.std.specs.Prelude.{◌≡◌, ◌<◌, ◌++◌, ◌∷◌, [], List as Items, ℕ, IfErr, OnOk, Some, None, is_some, length};
+    ghost use Rattle.abuf_text.specs.Names.{place_of};
+    ghost use Rattle.abuf_mtl.specs.Said.{said_colour, said_alpha};
+    ghost use Rattle.abuf_mtl.specs.Fault.{why, name_why, number_why, TellsWhy};
+    ghost use Rattle.abuf_mtl.specs.Reading.{TakesBy, TakesLine, Says, Changes, with_colour, with_alpha, look, current, StartsName};
+
+    // A material of this name begins.
+    fn start(&mut self, alloc: Global, line: u32, name: &[u8]) -> Result<(), MtlFault>
+        ensures fault { IfErr result (TellsWhy line (name_why self.old.names name.now)) }
+        ensures ok { (values : Items (Items ℕ)) → OnOk result (TakesBy Keyword.Material values name.now self.old self.new) }
+    {
+        if name.is_empty() {
+            return Err(MtlFault::Line {
+                line,
+                why: MtlWhy::NoName,
+            });
+        }
+        match self.names.find(name) {
+            Some(place) => {
+                self.begin_again(place as usize, name);
+                Ok(())
+            }
+            None if self.names.len() < MOST => {
+                self.begin_new(alloc, name)?;
+                Ok(())
+            }
+            None => Err(MtlFault::Line {
+                line,
+                why: MtlWhy::TooMany,
+            }),
+        }
+    }
+
+    // The material of a name that is there begins anew.
+    fn begin_again(&mut self, place: usize, name: &[u8])
+        requires { place_of name.now self.old.names ≡ Some place }
+        ensures starts { StartsName (look self.old) (look self.new) name.now }
+        ensures current { current self.new ≡ Some name.now }
+        ensures names { self.new.names ≡ self.old.names }
+    {
+        self.paints[place] = NEW;
+        self.begun = Some(place);
+    }
+
+    // The material of a new name begins.
+    fn begin_new(&mut self, alloc: Global, name: &[u8]) -> Result<(), NoMemory>
+        requires new { place_of name.now self.old.names ≡ None }
+        requires few { length self.old.names < 4096 }
+        ensures starts { OnOk result (StartsName (look self.old) (look self.new) name.now) }
+        ensures current { OnOk result (current self.new ≡ Some name.now) }
+        ensures names { OnOk result (self.new.names ≡ self.old.names ++ name.now ∷ []) }
+    {
+        let place = self.names.len();
+        self.paints.reserve(1)?;
+        self.names.push(alloc, name)?;
+        self.paints.push_reserved(NEW);
+        self.begun = Some(place);
+        Ok(())
+    }
+
+    // The open material has this colour.
+    fn set_colour(&mut self, place: usize, colour: [u16; 3])
+        requires { self.old.begun ≡ Some place }
+        ensures changes { Changes (with_colour colour) self.old self.new }
+        ensures names { self.new.names ≡ self.old.names }
+    {
+        let paint = self.paints[place];
+        self.paints[place] = Paint { colour, ..paint };
+    }
+
+    // The open material has this alpha.
+    fn set_alpha(&mut self, place: usize, alpha: u16)
+        requires { self.old.begun ≡ Some place }
+        ensures changes { Changes (with_alpha alpha) self.old self.new }
+        ensures names { self.new.names ≡ self.old.names }
+    {
+        let paint = self.paints[place];
+        self.paints[place] = Paint { alpha, ..paint };
+    }
+
+    fn take_colour(&mut self, line: u32, colour: Option<[u16; 3]>) -> Result<(), MtlFault>
+        ensures fault { IfErr result (TellsWhy line (number_why (is_some self.old.begun) (is_some colour))) }
+        ensures ok { OnOk result ((number_why (is_some self.old.begun) (is_some colour) ≡ None) × Says self.old self.new (said_colour colour) × (self.new.names ≡ self.old.names)) }
+    {
+        match (self.begun, colour) {
+            (None, _) => Err(MtlFault::Line {
+                line,
+                why: MtlWhy::NoMaterial,
+            }),
+            (Some(_), None) => Err(MtlFault::Line {
+                line,
+                why: MtlWhy::BadNumber,
+            }),
+            (Some(place), Some(colour)) => {
+                self.set_colour(place, colour);
+                Ok(())
+            }
+        }
+    }
+
+    fn take_alpha(&mut self, line: u32, alpha: Option<u16>) -> Result<(), MtlFault>
+        ensures fault { IfErr result (TellsWhy line (number_why (is_some self.old.begun) (is_some alpha))) }
+        ensures ok { OnOk result ((number_why (is_some self.old.begun) (is_some alpha) ≡ None) × Says self.old self.new (said_alpha alpha) × (self.new.names ≡ self.old.names)) }
+    {
+        match (self.begun, alpha) {
+            (None, _) => Err(MtlFault::Line {
+                line,
+                why: MtlWhy::NoMaterial,
+            }),
+            (Some(_), None) => Err(MtlFault::Line {
+                line,
+                why: MtlWhy::BadNumber,
+            }),
+            (Some(place), Some(alpha)) => {
+                self.set_alpha(place, alpha);
+                Ok(())
+            }
+        }
+    }
+
+    // Takes a line, or tells its first fault.
+    pub fn take(&mut self, alloc: Global, number: u32, line: &[u8]) -> Result<(), MtlFault>
+        ensures fault { IfErr result (TellsWhy number (why self.old.names (is_some self.old.begun) line.now)) }
+        ensures ok { OnOk result (TakesLine line.now self.old self.new) }
+    {
+        let (keyword, arguments) = cut_line(line);
+        match keyword {
+            Keyword::Material => self.start(alloc, number, rest(line)),
+            Keyword::Colour => self.take_colour(number, colour(arguments)),
+            Keyword::Alpha => self.take_alpha(number, alpha(arguments)),
+            Keyword::Other => Ok(()),
+        }
+    }
+}
