@@ -1,0 +1,4 @@
+pub mod Turns
+pub mod Pushing
+pub mod Drawn
+pub mod Lookups

@@ -1,0 +1,4 @@
+pub mod Triangles
+pub mod Lookup
+pub mod Demo
+pub mod Drawing
