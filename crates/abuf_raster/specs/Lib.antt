@@ -1,0 +1,10 @@
+pub mod Edge
+pub mod Triangle
+pub mod Samples
+pub mod Coverage
+pub mod Depth
+pub mod Packing
+pub mod Region
+pub mod Hits
+pub mod Walk
+pub mod Neighbours
