@@ -1,0 +1,115 @@
+-- Sums and counts over lists.
+use Rattle.std.proofs.Common.{◌≡◌, ◌≢◌, ℕ, zero, suc, ◌+◌, ◌<◌, ◌≤◌, Bool, cond, eqb, List, [], ◌∷◌, ◌++◌, length, set, sym, refl, ap, subst, arith, ⊎_elim, eq-eqb, ne_eqb, IsPermutation}
+use mathlib.Core.Option.{some, some-injective, some-ne-none}
+use lib.ListN.{get_elem?}
+use Rattle.std.proofs.lemmas.Bool.Decides.{nat_tests}
+use Rattle.std.proofs.lemmas.Bool.{cases_eq}
+use Rattle.std.proofs.lemmas.List.Sorted.{IsPermutation-refl, IsPermutation-sym, IsPermutation-cons, IsPermutation-trans, IsPermutation-middle}
+use Rattle.abuf_frame.specs.Counting.{below, times, total}
+
+module _ {A : Type 0} where
+  pub total_set : (f : A → ℕ) (l : List A) (i : ℕ) (v w : A) → get_elem? l i ≡ some v → total f (set l i w) + f v ≡ total f l + f w
+  total_set f [] i v w e = absurd (some-ne-none v (sym e))
+  total_set f (x ∷ xs) zero v w e = let is : f x ≡ f v = ap f (some-injective x v e) in omega arith
+  total_set f (x ∷ xs) (suc i) v w e = let r = total_set f xs i v w e in omega arith
+
+  pub total_le : (f : A → ℕ) (l : List A) (i : ℕ) (v : A) → get_elem? l i ≡ some v → f v ≤ total f l
+  total_le f [] i v e = absurd (some-ne-none v (sym e))
+  total_le f (x ∷ xs) zero v e = let is : f x ≡ f v = ap f (some-injective x v e) in omega arith
+  total_le f (x ∷ xs) (suc i) v e = let r = total_le f xs i v e in omega arith
+
+  -- two of them
+  pub total_two : (f : A → ℕ) (l : List A) (i j : ℕ) (v w : A) → i ≢ j → get_elem? l i ≡ some v → get_elem? l j ≡ some w → f v + f w ≤ total f l
+  total_two f [] i j v w n e d = absurd (some-ne-none v (sym e))
+  total_two f (x ∷ xs) zero zero v w n e d = absurd (n refl)
+  total_two f (x ∷ xs) zero (suc j) v w n e d = let is : f x ≡ f v = ap f (some-injective x v e) in let r = total_le f xs j w d in omega arith
+  total_two f (x ∷ xs) (suc i) zero v w n e d = let is : f x ≡ f w = ap f (some-injective x w d) in let r = total_le f xs i v e in omega arith
+  total_two f (x ∷ xs) (suc i) (suc j) v w n e d = let r = total_two f xs i j v w (λ h. n (ap suc h)) e d in omega arith
+
+  pub total_both : (f g : A → ℕ) (l : List A) → total (λ x. f x + g x) l ≡ total f l + total g l
+  total_both f g [] = refl
+  total_both f g (x ∷ xs) = let r = total_both f g xs in omega arith
+
+  pub total-append : (f : A → ℕ) (l m : List A) → total f (l ++ m) ≡ total f l + total f m
+  total-append f [] m = omega arith
+  total-append f (x ∷ xs) m = let r = total-append f xs m in omega arith
+
+pub times-append : (n : ℕ) (l m : List ℕ) → times n (l ++ m) ≡ times n l + times n m
+times-append n [] m = omega arith
+times-append n (x ∷ xs) m = let r = times-append n xs m in omega arith
+
+pub below_more : (n c : ℕ) → cond (eqb c n) 1 0 + below n c ≡ below n (c + 1)
+below_more n c = grind (arith, nat_tests)
+
+pub below_yes : (n c : ℕ) → n < c → below n c ≡ 1
+below_yes n c h = grind (arith, nat_tests)
+
+pub below_no : (n c : ℕ) → c ≤ n → below n c ≡ 0
+below_no n c h = grind (arith, nat_tests)
+
+pub below_le : (n c : ℕ) → below n c ≤ 1
+below_le n c = grind (arith, nat_tests)
+
+pub below_from : (n c : ℕ) → 0 < below n c → n < c
+below_from n c h = grind (arith, nat_tests)
+
+module _ {A : Type 0} where
+  total_none : (f g : A → ℕ) → ((u : A) → g u ≡ 0 → f u ≡ 0) → (l : List A) → total g l ≡ 0 → total f l ≡ 0
+  total_none f g h [] e = refl
+  total_none f g h (x ∷ xs) e = let a = h x (omega arith) in let b = total_none f g h xs (omega arith) in omega arith
+
+  -- one has all of g, and who has nothing of g has nothing of f
+  pub total_only : (f g : A → ℕ) → ((u : A) → g u ≡ 0 → f u ≡ 0) → (l : List A) (i : ℕ) (v : A) → get_elem? l i ≡ some v → total g l ≡ g v → total f l ≡ f v
+  total_only f g h [] i v e d = absurd (some-ne-none v (sym e))
+  total_only f g h (x ∷ xs) zero v e d = let is = some-injective x v e in let a = ap f is in let b = ap g is in let c = total_none f g h xs (omega arith) in omega arith
+  total_only f g h (x ∷ xs) (suc i) v e d = let m = total_le' g xs i v e in let a = h x (omega arith) in let c = total_only f g h xs i v e (omega arith) in omega arith
+    where
+      total_le' : (g : A → ℕ) (l : List A) (i : ℕ) (v : A) → get_elem? l i ≡ some v → g v ≤ total g l
+      total_le' g [] i v e = absurd (some-ne-none v (sym e))
+      total_le' g (x ∷ xs) zero v e = let is = ap g (some-injective x v e) in omega arith
+      total_le' g (x ∷ xs) (suc i) v e = let r = total_le' g xs i v e in omega arith
+
+-- it stands somewhere
+pub split_at : (n : ℕ) (ys : List ℕ) → 0 < times n ys → (front : List ℕ) × (back : List ℕ) × (ys ≡ front ++ n ∷ back)
+split_at n [] h = absurd (omega arith)
+split_at n (y ∷ ys) h = ⊎_elim (λ (e : y ≡ n). ([], ys, ap (λ (z : ℕ). z ∷ ys) e))
+    (λ (e : y ≢ n). let t = ap (λ (b : Bool). cond {A = ℕ} b 1 0) (ne_eqb y n e) in let r = split_at n ys (omega arith) in (y ∷ r.0, r.1, ap (λ (l : List ℕ). y ∷ l) r.2)) (cases_eq y n)
+
+pub none_in : (ys : List ℕ) → ((n : ℕ) → times n ys ≡ 0) → ys ≡ []
+none_in [] h = refl
+none_in (y ∷ ys) h = let t = ap (λ (b : Bool). cond {A = ℕ} b 1 0) (eq-eqb y y refl) in let a = h y in absurd (omega arith)
+
+pub same_times : (xs ys : List ℕ) → ((n : ℕ) → times n xs ≡ times n ys) → IsPermutation xs ys
+same_times [] ys h = subst (λ (l : List ℕ). IsPermutation [] l) (sym (none_in ys (λ n. sym (h n)))) (IsPermutation-refl [])
+same_times (x ∷ xs) ys h = let t = ap (λ (b : Bool). cond {A = ℕ} b 1 0) (eq-eqb x x refl) in let a = h x in let s = split_at x ys (omega arith) in
+    let rest : IsPermutation xs (s.0 ++ s.1) = same_times xs (s.0 ++ s.1) (λ n. let b = h n in let c = ap (times n) s.2 in let d = times-append n s.0 (x ∷ s.1) in let e = times-append n s.0 s.1 in omega arith) in
+    subst (λ (l : List ℕ). IsPermutation (x ∷ xs) l) (sym s.2) (IsPermutation-trans (x ∷ xs) (x ∷ (s.0 ++ s.1)) (s.0 ++ x ∷ s.1) (IsPermutation-cons x xs (s.0 ++ s.1) rest) (IsPermutation-sym (s.0 ++ x ∷ s.1) (x ∷ (s.0 ++ s.1)) (IsPermutation-middle s.0 x s.1)))
+
+abbrev pub Under : ℕ → List ℕ → Type 0
+Under m [] = Unit {0}
+Under m (n ∷ ns) = (n < m) × Under m ns
+
+abbrev without : ℕ → List ℕ → List ℕ
+without m [] = []
+without m (n ∷ ns) = cond (eqb n m) (without m ns) (n ∷ without m ns)
+
+length_without : (m : ℕ) (ns : List ℕ) → length ns ≡ length (without m ns) + times m ns
+length_without m [] = refl
+length_without m (n ∷ ns) = let r = length_without m ns in ⊎_elim (λ (h : n ≡ m). let b = eq-eqb n m h in let t = ap (λ (b : Bool). cond {A = ℕ} b 1 0) b in let u = ap (λ (b : Bool). length (cond b (without m ns) (n ∷ without m ns))) b in omega arith)
+    (λ (h : n ≢ m). let b = ne_eqb n m h in let t = ap (λ (b : Bool). cond {A = ℕ} b 1 0) b in let u = ap (λ (b : Bool). length (cond b (without m ns) (n ∷ without m ns))) b in omega arith) (cases_eq n m)
+
+times_without : (k m : ℕ) (ns : List ℕ) → times k (without m ns) ≤ times k ns
+times_without k m [] = omega arith
+times_without k m (n ∷ ns) = let r = times_without k m ns in ⊎_elim (λ (h : n ≡ m). let b = eq-eqb n m h in let u = ap (λ (b : Bool). times k (cond b (without m ns) (n ∷ without m ns))) b in omega arith)
+    (λ (h : n ≢ m). let b = ne_eqb n m h in let u = ap (λ (b : Bool). times k (cond b (without m ns) (n ∷ without m ns))) b in omega arith) (cases_eq n m)
+
+under_without : (m : ℕ) (ns : List ℕ) → Under (suc m) ns → Under m (without m ns)
+under_without m [] u = tt
+under_without m (n ∷ ns) u = let r = under_without m ns u.1 in let l = u.0 in ⊎_elim (λ (h : n ≡ m). subst (λ (b : Bool). Under m (cond b (without m ns) (n ∷ without m ns))) (sym (eq-eqb n m h)) r)
+    (λ (h : n ≢ m). subst (λ (b : Bool). Under m (cond b (without m ns) (n ∷ without m ns))) (sym (ne_eqb n m h)) (omega arith, r)) (cases_eq n m)
+
+-- as many different numbers below m are at most m
+pub pigeons : (m : ℕ) (ns : List ℕ) → Under m ns → ((n : ℕ) → times n ns ≤ 1) → length ns ≤ m
+pigeons zero [] u t = omega arith
+pigeons zero (n ∷ ns) u t = let l = u.0 in absurd (omega arith)
+pigeons (suc m) ns u t = let r = pigeons m (without m ns) (under_without m ns u) (λ n. let a = times_without n m ns in let b = t n in omega arith) in let l = length_without m ns in let o = t m in omega arith

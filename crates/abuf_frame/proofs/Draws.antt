@@ -1,0 +1,118 @@
+-- What drawing adds, in one call and in several.
+use Rattle.std.proofs.Common.{◌≡◌, ℕ, ◌+◌, ◌-◌, ◌≤◌, cond, List, [], ◌∷◌, ◌++◌, length, sym, refl, ap, ◌∙◌, subst, arith, IsPermutation, length-append, append_assoc, append-nil}
+use Rattle.std.proofs.lemmas.List.Sorted.{IsPermutation-append, IsPermutation-refl, IsPermutation-trans, length_permutation}
+use Rattle.abuf_frame.specs.declared.view.Stage.{Stage}
+use Rattle.abuf_frame.specs.declared.view.Stage.TheVariants.{Claimed, Filled, Swapped, Linked, Lost}
+use Rattle.abuf_frame.specs.declared.view.Entry.{Entry}
+use Rattle.abuf_frame.specs.declared.view.View.{View}
+use Rattle.abuf_frame.specs.Stages.{is_loose, is_lost}
+use Rattle.abuf_frame.specs.Views.{endowment, loose, lost}
+use Rattle.abuf_frame.specs.Steps.{grown, united}
+use Rattle.abuf_frame.specs.Draws.{Adds, CarriesItem, CarryInOrder, Draws, pairs, with_pair}
+use Rattle.abuf_frame.proofs.Counting.{total-append}
+use Rattle.abuf_frame.proofs.Runs.{carry_length}
+
+carried_settled : (p y : ℕ) (x : Stage) → CarriesItem p y x → cond {A = ℕ} (is_loose x) 1 0 ≡ 0
+carried_settled p y (Linked q z o) c = refl
+carried_settled p y Lost c = refl
+carried_settled p y Claimed c = absurd c
+carried_settled p y (Filled q z) c = absurd c
+carried_settled p y (Swapped q z o) c = absurd c
+
+carry_settled : (first : ℕ) (xs : List (ℕ × ℕ)) (es : List Entry) → CarryInOrder first xs es → loose es ≡ 0
+carry_settled first [] [] c = refl
+carry_settled first [] (e ∷ es) c = absurd c
+carry_settled first (x ∷ xs) [] c = absurd c
+carry_settled first (x ∷ xs) (e ∷ es) c = let r = carry_settled (first + 1) xs es c.2 in let s = carried_settled x.0 x.1 e.stage c.1 in omega arith
+
+carried_pair : (p y : ℕ) (x : Stage) (rest : List (ℕ × ℕ)) → CarriesItem p y x → cond {A = ℕ} (is_lost x) 1 0 ≡ 0 → with_pair x rest ≡ (p, y) ∷ rest
+carried_pair p y (Linked q z o) rest c l = λ i. (c.0 i, c.1 i) ∷ rest
+carried_pair p y Lost rest c l = absurd (omega arith)
+carried_pair p y Claimed rest c l = absurd c
+carried_pair p y (Filled q z) rest c l = absurd c
+carried_pair p y (Swapped q z o) rest c l = absurd c
+
+carry_pairs : (first : ℕ) (xs : List (ℕ × ℕ)) (es : List Entry) → CarryInOrder first xs es → lost es ≡ 0 → pairs es ≡ xs
+carry_pairs first [] [] c l = refl
+carry_pairs first [] (e ∷ es) c l = absurd c
+carry_pairs first (x ∷ xs) [] c l = absurd c
+carry_pairs first (x ∷ xs) (e ∷ es) c l = carried_pair x.0 x.1 e.stage (pairs es) c.1 (omega arith) ∙ ap (λ (ys : List (ℕ × ℕ)). x ∷ ys) (carry_pairs (first + 1) xs es c.2 (omega arith))
+
+pub carry_adds : (first : ℕ) (xs : List (ℕ × ℕ)) (es : List Entry) → CarryInOrder first xs es → Adds xs es
+carry_adds first xs es c = record {
+  count = carry_length first xs es c;
+  settled = carry_settled first xs es c;
+  carried = λ l. subst (λ (ys : List (ℕ × ℕ)). IsPermutation ys xs) (sym (carry_pairs first xs es c l)) (IsPermutation-refl xs);
+}
+
+pub draws_from : (items : List (ℕ × ℕ)) (v w : View) → length items ≤ v.credit → (first : ℕ) × (es : List Entry) × CarryInOrder first items es × (w ≡ grown es v) → Draws items v w
+draws_from items v w enough r = let l = carry_length r.0 items r.1 r.2 in record { added = r.1; adds = carry_adds r.0 items r.1 r.2; fits = omega arith; after = r.3 }
+
+pub draws_one : (p y : ℕ) (v w : View) → 1 ≤ v.credit → (e : Entry) × CarriesItem p y e.stage × (w ≡ grown (e ∷ []) v) → Draws ((p, y) ∷ []) v w
+draws_one p y v w enough r = draws_from ((p, y) ∷ []) v w enough (r.0.number, r.0 ∷ [], (refl, r.1, tt), r.2)
+
+loose-append : (es fs : List Entry) → loose (es ++ fs) ≡ loose es + loose fs
+loose-append es fs = total-append (λ (e : Entry). cond (is_loose e.stage) 1 0) es fs
+
+lost-append : (es fs : List Entry) → lost (es ++ fs) ≡ lost es + lost fs
+lost-append es fs = total-append (λ (e : Entry). cond (is_lost e.stage) 1 0) es fs
+
+with_pair-append : (x : Stage) (ps qs : List (ℕ × ℕ)) → with_pair x (ps ++ qs) ≡ with_pair x ps ++ qs
+with_pair-append Claimed ps qs = refl
+with_pair-append (Filled p y) ps qs = refl
+with_pair-append (Swapped p y o) ps qs = refl
+with_pair-append (Linked p y o) ps qs = refl
+with_pair-append Lost ps qs = refl
+
+pub pairs-append : (es fs : List Entry) → pairs (es ++ fs) ≡ pairs es ++ pairs fs
+pairs-append [] fs = refl
+pairs-append (e ∷ es) fs = ap (with_pair e.stage) (pairs-append es fs) ∙ with_pair-append e.stage (pairs es) (pairs fs)
+
+pub adds-append : (xs ys : List (ℕ × ℕ)) (es fs : List Entry) → Adds xs es → Adds ys fs → Adds (xs ++ ys) (es ++ fs)
+adds-append xs ys es fs a b = let le = length-append es fs in let lx = length-append xs ys in let ca = a.count in let cb = b.count in let k = lost-append es fs in record {
+  count = omega arith;
+  settled = let s = loose-append es fs in let sa = a.settled in let sb = b.settled in omega arith;
+  carried = λ l. subst (λ (ps : List (ℕ × ℕ)). IsPermutation ps (xs ++ ys)) (sym (pairs-append es fs)) (IsPermutation-append (pairs es) xs (pairs fs) ys (a.carried (omega arith)) (b.carried (omega arith)));
+}
+
+pub adds_permuted : (xs ys : List (ℕ × ℕ)) (es : List Entry) → IsPermutation xs ys → Adds xs es → Adds ys es
+adds_permuted xs ys es p a = record {
+  count = a.count ∙ sym (length_permutation xs ys p);
+  settled = a.settled;
+  carried = λ l. IsPermutation-trans (pairs es) xs ys (a.carried l) p;
+}
+
+-- drawing nothing, drawing more, and drawing in another order
+pub draws_none : (v : View) → Draws [] v v
+draws_none v = let c : v.credit ≡ v.credit - 0 = omega arith in record {
+  added = [];
+  adds = record { count = refl; settled = refl; carried = λ l. IsPermutation-refl [] };
+  fits = omega arith;
+  after = λ i. record { credit = c i; entries = sym (append-nil v.entries) i; told = v.told; seen = v.seen; walks = v.walks };
+}
+
+pub draws_then : (xs ys : List (ℕ × ℕ)) (v w u : View) → Draws xs v w → Draws ys w u → Draws (xs ++ ys) v u
+draws_then xs ys v w u a b = let l = length-append a.added b.added in let fa = a.fits in let fb = b.fits in let c = ap (λ (z : View). z.credit) a.after in
+    let spent : v.credit - length a.added - length b.added ≡ v.credit - length (a.added ++ b.added) = omega arith in record {
+      added = a.added ++ b.added;
+      adds = adds-append xs ys a.added b.added a.adds b.adds;
+      fits = omega arith;
+      after = b.after ∙ (ap (grown b.added) a.after ∙ λ i. record { credit = spent i; entries = append_assoc v.entries a.added b.added i; told = v.told; seen = v.seen; walks = v.walks });
+    }
+
+pub draws_permuted : (xs ys : List (ℕ × ℕ)) (v w : View) → IsPermutation xs ys → Draws xs v w → Draws ys v w
+draws_permuted xs ys v w p a = record { added = a.added; adds = adds_permuted xs ys a.added p a.adds; fits = a.fits; after = a.after }
+
+module _ (items : List (ℕ × ℕ)) (v w : View) (a : Draws items v w) where
+  pub draws_credit : w.credit + length items ≡ v.credit
+  draws_credit = let c = ap (λ (z : View). z.credit) a.after in let f = a.fits in let n = a.adds.count in omega arith
+
+  pub draws_endowment : endowment w ≡ endowment v
+  draws_endowment = let c = draws_credit in let e = ap (λ (z : View). length z.entries) a.after in let l = length-append v.entries a.added in let n = a.adds.count in omega arith
+
+  pub draws_loose : loose w.entries ≡ loose v.entries
+  draws_loose = let e = ap (λ (z : View). loose z.entries) a.after in let l = loose-append v.entries a.added in let s = a.adds.settled in omega arith
+
+-- what two passes have together
+pub united_loose : (v w u : View) → u ≡ united v w → loose u.entries ≡ loose v.entries + loose w.entries
+united_loose v w u e = ap (λ (z : View). loose z.entries) e ∙ loose-append v.entries w.entries

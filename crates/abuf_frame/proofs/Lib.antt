@@ -1,0 +1,12 @@
+pub mod Counting
+pub mod Claims
+pub mod Moves
+pub mod Tied
+pub mod Inserts
+pub mod Ends
+pub mod Closes
+pub mod Shares
+pub mod Runs
+pub mod Looks
+pub mod Along
+pub mod Draws

@@ -1,0 +1,12 @@
+pub mod Counting
+pub mod Words
+pub mod Stages
+pub mod Views
+pub mod Steps
+pub mod Walks
+pub mod Lawful
+pub mod Draws
+pub mod Look
+pub mod Closing
+pub mod Frame
+pub mod Pass

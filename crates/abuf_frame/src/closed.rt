@@ -1,0 +1,154 @@
+// A frame that is drawn.
+ghost use Rattle.std.specs.Prelude.{◌≡◌, ℕ, ◌+◌, ◌*◌, ◌<◌, ◌≤◌, ◌^◌, IfOk, IfSome, IfNone, IsPermutation, length, slice_index, slice_index_or, []};
+ghost use Rattle.std.specs.Mem.Slots.{slots_items, slots_len, slots_filled, IsFull};
+ghost use Rattle.abuf_frame.specs.Closing.{AllSeen, list_at};
+ghost use Rattle.abuf_frame.specs.Draws.{pairs, payloads_at};
+ghost use Rattle.abuf_frame.specs.Views.{IsSettled, IsWhole, lost};
+
+use crate::frame::Frame;
+use crate::pass::Pass;
+use abuf_num::{List, NoMemory};
+use std::alloc::Global;
+use std::marker::Model;
+
+/// A frame that is drawn: its lists don't change any more. A `&Closed` may be shared between threads.
+#[derive(Drop)]
+pub struct Closed {
+    words: Vec<u64>,
+    pixels: u32,
+    nodes: u32,
+    fragments: u64,
+}
+
+impl Model for Closed {
+    ghost use Rattle.abuf_frame.specs.Closing.{Ended, Kept, lists_from};
+
+    ghost Value = { Ended };
+
+    ghost view = { λ c. record { lists = lists_from c.words.items c.pixels c.nodes 0 c.pixels; pixels = c.pixels; nodes = c.nodes; fragments = c.fragments } };
+
+    ghost invariant = { λ c. Kept c.words.items c.pixels c.nodes };
+}
+
+/// More fragments were drawn than the frame has nodes, so some were lost.
+#[derive(Drop)]
+pub struct Full {
+    /// How many nodes would have held them all.
+    pub fragments: u64,
+    pub nodes: u32,
+}
+
+// Copies the first words of a closed table.
+fn copy_words(closed: &atomic_table::Closed<(), Global>, words: &mut Vec<u64>, count: usize)
+    requires table { IsFull closed.now.words × (slots_len closed.now.words ≡ length words.old.items) }
+    requires count { count ≤ length words.old.items }
+    ensures length { length words.new.items ≡ length words.old.items }
+    ensures same { (i : ℕ) → i < count → slice_index words.new.items i ≡ slice_index (slots_items closed.now.words) i }
+{
+    for i in 0..count {
+        words[i] = closed.word(i);
+    }
+}
+
+impl Frame {
+    /// Ends the drawing. The pass has to be whole, so that every other was joined into it, and settled. The cost grows with
+    /// the pixels and with the nodes that were claimed, not with those of the frame.
+    pub fn close(self, pass: Pass) -> Closed
+        requires frame { pass.frame ≡ self }
+        requires whole { IsWhole pass.view }
+        requires settled { IsSettled pass.view }
+        ensures sizes { (result.pixels ≡ self.pixels) × (result.nodes ≡ self.nodes) × (length result.lists ≡ self.pixels) }
+        ensures fragments { result.fragments ≡ length pass.view.entries }
+        ensures lists { (p : ℕ) → p < self.pixels → IsPermutation (list_at result p) (payloads_at p (pairs pass.view.entries)) }
+        ensures kept { length pass.view.entries ≤ self.nodes → lost pass.view.entries ≡ 0 }
+        ensures walks { AllSeen result.lists pass.view.walks }
+    {
+        let Frame {
+            table,
+            spare: mut words,
+            pixels,
+            nodes,
+        } = self;
+        let Pass {
+            place,
+            credit: _,
+            own: fragments,
+            loose: _,
+            pixels: _,
+            nodes: _,
+        } = pass;
+        let closed = table.close_with(place);
+        let used = fragments.min(nodes as u64) as usize;
+        copy_words(&closed, &mut words, 1 + pixels as usize + 2 * used);
+        closed.free();
+        Closed {
+            words,
+            pixels,
+            nodes,
+            fragments,
+        }
+    }
+}
+
+impl Closed {
+    /// The number of pixels, each of which has a list.
+    pub fn pixels(&self) -> u32
+        ensures value { result ≡ self.now.pixels }
+        ensures lists { length self.now.lists ≡ result }
+    {
+        self.pixels
+    }
+
+    /// How many entries there were, Linked and Lost.
+    pub fn fragments(&self) -> u64
+        ensures { result ≡ self.now.fragments }
+    {
+        self.fragments
+    }
+
+    /// Some exactly where there were more fragments than nodes.
+    pub fn full(&self) -> Option<Full>
+        ensures some { IfSome result (λ f. (self.now.nodes < self.now.fragments) × (f.fragments ≡ self.now.fragments) × (f.nodes ≡ self.now.nodes)) }
+        ensures none { IfNone result (self.now.fragments ≤ self.now.nodes) }
+    {
+        if self.fragments > self.nodes as u64 {
+            Some(Full {
+                fragments: self.fragments,
+                nodes: self.nodes,
+            })
+        } else {
+            None
+        }
+    }
+
+    /// The payloads of the pixel's fragments, in the order of the walk from its head: the entry that was swapped in last
+    /// stands first, whatever the order of the links. The cost grows with the list.
+    pub fn list(&self, alloc: Global, pixel: u32) -> Result<List<u64>, NoMemory>
+        requires { pixel < self.now.pixels }
+        ensures { IfOk result (λ l. l ≡ list_at self.now pixel) }
+    {
+        let mut items = Vec::new(alloc);
+        self.copy_list(pixel, &mut items)?;
+        Ok(List::from_vec(items))
+    }
+
+    /// The same in a buffer of the caller's, whose memory serves for one pixel after another. After want of memory it holds
+    /// some of the payloads.
+    pub fn copy_list(&self, pixel: u32, items: &mut Vec<u64>) -> Result<(), NoMemory>
+        requires { pixel < self.now.pixels }
+        ensures { IfOk result (λ _. items.new.items ≡ list_at self.now pixel) }
+    {
+        items.clear();
+        let payloads = 1 + self.pixels as usize;
+        let mut at = self.words[1 + pixel as usize];
+        for _ in 0..self.nodes {
+            if at == 0 {
+                break;
+            }
+            let node = payloads + 2 * (at - 1) as usize;
+            items.push(self.words[node])?;
+            at = self.words[node + 1];
+        }
+        Ok(())
+    }
+}

@@ -1,0 +1,33 @@
+//! The shared frame of an A-buffer: one linked list of fragments for each pixel, built by many threads at once with atomic
+//! steps (Carpenter 1984; Yang and others 2010), and its lists once the drawing is done.
+//!
+//! A `Frame` is one table of words: a counter of the numbers that were claimed, a head for each pixel, and a payload and a
+//! next for each node. A `Pass` is the token of one drawer. It claims numbers out of its credit, each of which is an entry, and
+//! takes an entry through its stages by one step each: it stores the payload, exchanges the pixel's head, and stores the next.
+//! A number that has no node is lost, and the counter runs on, so that it tells how many nodes would have been enough. Threads
+//! draw at the same time by passes that are split off and joined again; others may `count` and `look` while they draw. A whole,
+//! settled pass closes the frame, and a `Closed` frame has the lists.
+//!
+//! `specs/Lawful.antt` says what holds between any two steps of any number of threads, and each call here is proved to keep
+//! it. What the crates above need of it is in the contracts alone: of a pass its frame, its credit, its entries as pairs of
+//! pixel and payload (`Draws`), what it was told and what it has seen; of a closed frame that each list is a permutation of
+//! the payloads of the entries at its pixel, and that no entry is lost where there are no more of them than nodes. No call
+//! waits, and none between `start` and `list` takes memory.
+//!
+//! Not promised are the order of a list before it is sorted, who comes first, and which entries are linked where some are lost.
+#![tactic(auto)]
+
+mod closed;
+mod frame;
+mod look;
+mod pass;
+mod rule;
+mod steps;
+#[cfg(test)]
+mod tests;
+mod view;
+
+pub use closed::{Closed, Full};
+pub use frame::Frame;
+pub use look::Look;
+pub use pass::Pass;

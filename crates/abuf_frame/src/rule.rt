@@ -1,0 +1,14 @@
+// The rule of the table: its state is lawful.
+use crate::view::{Size, View};
+use atomic_table::TableRule;
+
+pub struct Lists;
+
+impl TableRule<(), View, Size> for Lists {
+    ghost use Rattle.abuf_frame.specs.Lawful.{Lawful};
+    ghost use Rattle.abuf_frame.specs.Views.{whole_view};
+
+    ghost holds = { Lawful };
+
+    ghost first = { λ _. whole_view };
+}

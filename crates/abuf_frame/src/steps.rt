@@ -1,0 +1,162 @@
+//! The kinds of step. Each is one operation on one word.
+ghost use Rattle.std.specs.Prelude.{◌≡◌, ℕ, ◌+◌, ◌%◌, ◌^◌, ◌<◌, ◌≤◌, ◌*◌, ◌-◌, []};
+ghost use Rattle.atomic_table.specs.Table.{Allows, Splits};
+ghost use Rattle.abuf_frame.specs.Lawful.{Lawful};
+ghost use Rattle.abuf_frame.specs.Steps.{cut_left, cut_right};
+ghost use Rattle.abuf_frame.specs.Words.{head_word, next_word, payload_word};
+
+use crate::rule::Lists;
+use crate::view::{Size, View};
+use atomic_table::{Join, Play, Seat, Shared, Split};
+use std::marker::{Brand, PhantomData};
+
+pub type Words = Shared<(), View, Size, Lists>;
+
+pub type Place = Seat<(), View>;
+
+/// What a step leads to: the view after it, and what it shows of the number that it finds.
+pub trait Aim {
+    ghost use Rattle.std.specs.Prelude.{ℕ};
+    ghost use Rattle.abuf_frame.specs.declared.view.View.{View};
+
+    ghost after: { ℕ → View };
+
+    ghost shows: { ℕ → Type 0 };
+}
+
+impl Aim for Brand {
+    ghost use Rattle.abuf_frame.specs.Views.{whole_view};
+
+    ghost after = { λ _. whole_view };
+
+    ghost shows = { λ _. Unit {0} };
+}
+
+pub struct Aimed<N> {
+    aim: PhantomData<N>,
+}
+
+impl<N: Aim> Play<(), View> for Aimed<N> {
+    ghost use Rattle.std.specs.Prelude.{◌≡◌, []};
+
+    ghost then = { λ _ _ found now. (now ≡ (N.after found, [])) × N.shows found };
+}
+
+/// A claim: an addition to the counter.
+pub(crate) fn claim_at<N: Aim>(words: &Words, place: &mut Place, count: u32) -> u64
+    requires { (place.old.table_id ≡ words.now.table_id) × (0 < words.now.table_id.words) × Allows (Lawful words.now.key) words.now.table_id.slots place.old.id place.old.me 0 (λ n. (n + count) % 2 ^ 64) (λ found now. (now ≡ (N.after found, [])) × N.shows found) }
+    ensures { (place.new.table_id ≡ place.old.table_id) × (place.new.id ≡ place.old.id) × (place.new.me ≡ (N.after result, [])) × N.shows result }
+{
+    words.fetch_add::<Aimed<N>>(place, 0, count as u64)
+}
+
+/// A fill: a store of the payload of a node.
+pub(crate) fn fill_at<N: Aim>(
+    words: &Words,
+    place: &mut Place,
+    pixels: u32,
+    number: u64,
+    _pixel: u32,
+    payload: u64,
+)
+    requires sized { (number < 8388608) × (pixels ≤ 4194304) }
+    requires step { (place.old.table_id ≡ words.now.table_id) × (payload_word pixels number < words.now.table_id.words) × Allows (Lawful words.now.key) words.now.table_id.slots place.old.id place.old.me (payload_word pixels number) (λ _. payload) (λ _ now. (now ≡ (N.after payload, [])) × N.shows payload) }
+    ensures { (place.new.table_id ≡ place.old.table_id) × (place.new.id ≡ place.old.id) × (place.new.me ≡ (N.after payload, [])) × N.shows payload }
+{
+    words.store::<Aimed<N>>(place, 1 + pixels as usize + 2 * number as usize, payload)
+}
+
+/// A swap: an exchange of the head of a pixel.
+pub(crate) fn swap_at<N: Aim>(words: &Words, place: &mut Place, number: u64, pixel: u32) -> u64
+    requires sized { number < 8388608 }
+    requires step { (place.old.table_id ≡ words.now.table_id) × (head_word pixel < words.now.table_id.words) × Allows (Lawful words.now.key) words.now.table_id.slots place.old.id place.old.me (head_word pixel) (λ _. number + 1) (λ found now. (now ≡ (N.after found, [])) × N.shows found) }
+    ensures { (place.new.table_id ≡ place.old.table_id) × (place.new.id ≡ place.old.id) × (place.new.me ≡ (N.after result, [])) × N.shows result }
+{
+    words.swap::<Aimed<N>>(place, 1 + pixel as usize, number + 1)
+}
+
+/// A link: a store of the next of a node.
+pub(crate) fn link_at<N: Aim>(words: &Words, place: &mut Place, pixels: u32, number: u64, old: u64)
+    requires sized { (number < 8388608) × (pixels ≤ 4194304) }
+    requires step { (place.old.table_id ≡ words.now.table_id) × (next_word pixels number < words.now.table_id.words) × Allows (Lawful words.now.key) words.now.table_id.slots place.old.id place.old.me (next_word pixels number) (λ _. old) (λ _ now. (now ≡ (N.after old, [])) × N.shows old) }
+    ensures { (place.new.table_id ≡ place.old.table_id) × (place.new.id ≡ place.old.id) × (place.new.me ≡ (N.after old, [])) × N.shows old }
+{
+    words.store::<Aimed<N>>(place, 2 + pixels as usize + 2 * number as usize, old)
+}
+
+/// How much credit a split moves.
+pub trait Part {
+    ghost use Rattle.std.specs.Prelude.{ℕ};
+
+    ghost credit: { ℕ };
+}
+
+impl Part for Brand {
+    ghost credit = { 0 };
+}
+
+pub struct Cut<N> {
+    part: PhantomData<N>,
+}
+
+impl<N: Part> Split<View> for Cut<N> {
+    ghost use Rattle.abuf_frame.specs.Steps.{cut_left, cut_right};
+
+    ghost left = { λ v. cut_left N.credit v };
+
+    ghost right = { λ v. cut_right N.credit v };
+}
+
+pub struct Union;
+
+impl Join<View> for Union {
+    ghost use Rattle.abuf_frame.specs.Steps.{united};
+    ghost use Rattle.abuf_frame.specs.Views.{spent_view};
+
+    ghost both = { united };
+
+    ghost spent = { spent_view };
+}
+
+/// A split: a load of the counter.
+pub(crate) fn split_at<N: Part>(words: &Words, place: &mut Place, _credit: u64) -> Place
+    requires { (place.old.table_id ≡ words.now.table_id) × (0 < words.now.table_id.words) × Splits (Lawful words.now.key) place.old.id place.old.me.0 (cut_left N.credit place.old.me.0) (cut_right N.credit place.old.me.0) }
+    ensures left { (place.new.table_id ≡ place.old.table_id) × (place.new.id ≡ place.old.id) × (place.new.me ≡ (cut_left N.credit place.old.me.0, place.old.me.1)) }
+    ensures right { (result.table_id ≡ place.old.table_id) × (result.me ≡ (cut_right N.credit place.old.me.0, [])) }
+{
+    words.split_seat::<Cut<N>>(place)
+}
+
+/// A load of the counter.
+pub(crate) fn count_at<N: Aim>(words: &Words, place: &mut Place) -> u64
+    requires { (place.old.table_id ≡ words.now.table_id) × (0 < words.now.table_id.words) × Allows (Lawful words.now.key) words.now.table_id.slots place.old.id place.old.me 0 (λ n. n) (λ found now. (now ≡ (N.after found, [])) × N.shows found) }
+    ensures { (place.new.table_id ≡ place.old.table_id) × (place.new.id ≡ place.old.id) × (place.new.me ≡ (N.after result, [])) × N.shows result }
+{
+    words.load::<Aimed<N>>(place, 0)
+}
+
+/// A look at a head: a load.
+pub(crate) fn look_head_at<N: Aim>(words: &Words, place: &mut Place, pixel: u32) -> u64
+    requires { (place.old.table_id ≡ words.now.table_id) × (head_word pixel < words.now.table_id.words) × Allows (Lawful words.now.key) words.now.table_id.slots place.old.id place.old.me (head_word pixel) (λ n. n) (λ found now. (now ≡ (N.after found, [])) × N.shows found) }
+    ensures { (place.new.table_id ≡ place.old.table_id) × (place.new.id ≡ place.old.id) × (place.new.me ≡ (N.after result, [])) × N.shows result }
+{
+    words.load::<Aimed<N>>(place, 1 + pixel as usize)
+}
+
+/// A look at the payload of the node to which the word `at` refers: a load.
+pub(crate) fn look_payload_at<N: Aim>(words: &Words, place: &mut Place, pixels: u32, at: u64) -> u64
+    requires sized { (1 ≤ at) × (at ≤ 8388608) × (pixels ≤ 4194304) }
+    requires step { (place.old.table_id ≡ words.now.table_id) × (payload_word pixels (at - 1) < words.now.table_id.words) × Allows (Lawful words.now.key) words.now.table_id.slots place.old.id place.old.me (payload_word pixels (at - 1)) (λ n. n) (λ found now. (now ≡ (N.after found, [])) × N.shows found) }
+    ensures { (place.new.table_id ≡ place.old.table_id) × (place.new.id ≡ place.old.id) × (place.new.me ≡ (N.after result, [])) × N.shows result }
+{
+    words.load::<Aimed<N>>(place, 1 + pixels as usize + 2 * (at - 1) as usize)
+}
+
+/// A look at the next of that node: a load.
+pub(crate) fn look_next_at<N: Aim>(words: &Words, place: &mut Place, pixels: u32, at: u64) -> u64
+    requires sized { (1 ≤ at) × (at ≤ 8388608) × (pixels ≤ 4194304) }
+    requires step { (place.old.table_id ≡ words.now.table_id) × (next_word pixels (at - 1) < words.now.table_id.words) × Allows (Lawful words.now.key) words.now.table_id.slots place.old.id place.old.me (next_word pixels (at - 1)) (λ n. n) (λ found now. (now ≡ (N.after found, [])) × N.shows found) }
+    ensures { (place.new.table_id ≡ place.old.table_id) × (place.new.id ≡ place.old.id) × (place.new.me ≡ (N.after result, [])) × N.shows result }
+{
+    words.load::<Aimed<N>>(place, 2 + pixels as usize + 2 * (at - 1) as usize)
+}

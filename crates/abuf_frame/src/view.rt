@@ -1,0 +1,60 @@
+// What contracts see in a pass. No value of these types but `Size` is ever made: a clause reads an array of them as a list.
+
+/// How far an entry has come.
+pub enum Stage {
+    /// The number is the pass's, and its node is untouched.
+    Claimed,
+    /// The payload is stored.
+    Filled { pixel: u32, payload: u64 },
+    /// It is the head of its pixel's list, or was; `old` is the head that it took the place of. Its next is not stored.
+    Swapped { pixel: u32, payload: u64, old: u64 },
+    /// Its next is `old`.
+    Linked { pixel: u32, payload: u64, old: u64 },
+    /// There is no node of this number.
+    Lost,
+}
+
+/// A claimed number.
+pub struct Entry {
+    pub number: u64,
+    pub stage: Stage,
+}
+
+/// A node that a walk has passed, with its payload.
+pub struct Passed {
+    pub node: u64,
+    pub payload: u64,
+}
+
+/// A walk along the list of a pixel.
+pub struct Walk {
+    pub pixel: u32,
+    /// The entries that have to be in the list.
+    pub due: [Entry; 0],
+    pub passed: [Passed; 0],
+    /// The word at which it stands.
+    pub cursor: u64,
+    /// The payload of the node at the cursor, once it is loaded.
+    pub noted: Option<u64>,
+    /// Whether its last load found the mark.
+    pub unlinked: bool,
+}
+
+/// What a pass knows.
+pub struct View {
+    /// How many numbers it may still claim.
+    pub credit: u64,
+    pub entries: [Entry; 0],
+    /// Linked entries that it knows from the pass that it was split from.
+    pub told: [Entry; 0],
+    /// The greatest count that it has seen.
+    pub seen: u64,
+    pub walks: [Walk; 0],
+}
+
+/// The number of pixels and of nodes, which the rule reads.
+#[derive(Drop)]
+pub struct Size {
+    pub pixels: u32,
+    pub nodes: u32,
+}
