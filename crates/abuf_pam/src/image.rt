@@ -1,0 +1,75 @@
+// The whole image.
+ghost use Rattle.std.specs.Prelude.{◌≡◌, ◌≤◌, ◌*◌, ◌⊎◌, All, length, IfOk};
+ghost use Rattle.abuf_pam.specs.Image.{image};
+ghost use Rattle.abuf_pam.specs.Sums.{HasSums};
+
+use crate::header::push_header;
+use crate::pixels::{push_all_narrow, push_all_wide};
+use abuf_num::{List, NoMemory, PixelSum};
+use std::alloc::Global;
+
+// No header is longer.
+const HEADER_ROOM: usize = 128;
+
+/// The bytes of an RGB image in Netpbm PAM (tuple type RGB, depth 3), from the sum of the samples of each pixel.
+///
+/// `sums` has the pixels row by row from the top, each row from the left. At `maxval` 255 a value is one byte, at 65535
+/// two, the high byte first. All memory is taken at once, before the first byte is written.
+#[tactic(auto, unfolding(crate::specs::Image::image))]
+pub fn image_bytes(
+    alloc: Global,
+    width: u32,
+    height: u32,
+    maxval: u32,
+    samples: u32,
+    sums: &[PixelSum],
+) -> Result<List<u8>, NoMemory>
+    requires maxval { (maxval ≡ 255) ⊎ (maxval ≡ 65535) }
+    requires samples { (1 ≤ samples) × (samples ≤ 16) }
+    requires pixels { length sums.now ≡ width * height }
+    requires sums { All (HasSums samples) sums.now }
+    ensures { IfOk result (λ bytes. bytes ≡ image width height maxval samples sums.now) }
+{
+    let pixel_room = if maxval == 255 { 3 } else { 6 };
+    let mut out = Vec::with_capacity(alloc, HEADER_ROOM + pixel_room * sums.len())?;
+    push_header(&mut out, width, height, maxval)?;
+    if maxval == 255 {
+        push_all_narrow(&mut out, samples, sums)?;
+    } else {
+        push_all_wide(&mut out, samples, sums)?;
+    }
+    Ok(List::from_vec(out))
+}
+
+#[cfg(test)]
+mod tests {
+    use super::*;
+    use std::test::Fail;
+
+    const HEADER: &[u8] = b"P7\nWIDTH 2\nHEIGHT 1\nDEPTH 3\nMAXVAL 255\nTUPLTYPE RGB\nENDHDR\n";
+
+    // Two samples to a pixel: white, and a half of each channel.
+    #[test]
+    fn two_pixels(rt: HostRuntime) -> Result<(), Fail> {
+        let sums = [
+            PixelSum {
+                channels: [131070, 131070, 131070],
+            },
+            PixelSum {
+                channels: [65535, 257, 128],
+            },
+        ];
+        let bytes = image_bytes(rt.alloc(), 2, 1, 255, 2, &sums)?;
+        let values = bytes.as_slice();
+        assert!(rt; values.len() == 65);
+        assert!(rt; &values[..59] == HEADER);
+        assert!(rt; &values[59..] == [255, 255, 255, 128, 1, 0].as_slice());
+        let wide = image_bytes(rt.alloc(), 2, 1, 65535, 2, &sums)?;
+        let values = wide.as_slice();
+        assert!(rt; values.len() == 73);
+        assert!(rt;
+            &values[61..] == [255, 255, 255, 255, 255, 255, 128, 0, 0, 129, 0, 64].as_slice()
+        );
+        Ok(())
+    }
+}

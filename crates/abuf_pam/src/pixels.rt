@@ -1,0 +1,87 @@
+// The pixels of an image, from the sums of their samples.
+ghost use Rattle.std.specs.Prelude.{◌≡◌, ◌≤◌, ◌*◌, ◌/◌, ◌%◌, ◌++◌, ◌∷◌, [], All, flat_map, slice_index_or, OnOk};
+ghost use Rattle.abuf_pam.specs.Image.{narrow, wide, pixel};
+ghost use Rattle.abuf_pam.specs.Sums.{HasSums};
+
+use abuf_num::{NoMemory, PixelSum};
+
+// The value of a channel at MAXVAL 255. The usual numbers of samples divide by a constant, which takes a third of the time.
+fn narrow(samples: u32, sum: u32) -> u8
+    requires samples { (1 ≤ samples) × (samples ≤ 16) }
+    requires sum { sum ≤ 65535 * samples }
+    ensures { result ≡ narrow samples sum }
+{
+    let value = match samples {
+        1 => (2 * sum + 257) / 514,
+        4 => (2 * sum + 1028) / 2056,
+        8 => (2 * sum + 2056) / 4112,
+        _ => (2 * sum + 257 * samples) / (514 * samples),
+    };
+    value as u8
+}
+
+// The value of a channel at MAXVAL 65535.
+fn wide(samples: u32, sum: u32) -> u16
+    requires samples { (1 ≤ samples) × (samples ≤ 16) }
+    requires sum { sum ≤ 65535 * samples }
+    ensures { result ≡ wide samples sum }
+{
+    ((2 * sum + samples) / (2 * samples)) as u16
+}
+
+// Puts a pixel of three bytes last.
+fn push_narrow(out: &mut Vec<u8>, samples: u32, sum: &PixelSum) -> Result<(), NoMemory>
+    requires samples { (1 ≤ samples) × (samples ≤ 16) }
+    requires sums { HasSums samples sum.now }
+    ensures { OnOk result (out.new.items ≡ out.old.items ++ pixel 255 samples sum.now) }
+{
+    out.push(narrow(samples, sum.channels[0]))?;
+    out.push(narrow(samples, sum.channels[1]))?;
+    out.push(narrow(samples, sum.channels[2]))?;
+    Ok(())
+}
+
+// Puts a value last, the high byte first.
+fn push_word(out: &mut Vec<u8>, value: u16) -> Result<(), NoMemory>
+    ensures { OnOk result (out.new.items ≡ out.old.items ++ value / 256 ∷ value % 256 ∷ []) }
+{
+    out.push((value / 256) as u8)?;
+    out.push((value % 256) as u8)?;
+    Ok(())
+}
+
+// Puts a pixel of six bytes last.
+fn push_wide(out: &mut Vec<u8>, samples: u32, sum: &PixelSum) -> Result<(), NoMemory>
+    requires samples { (1 ≤ samples) × (samples ≤ 16) }
+    requires sums { HasSums samples sum.now }
+    ensures { OnOk result (out.new.items ≡ out.old.items ++ pixel 65535 samples sum.now) }
+{
+    push_word(out, wide(samples, sum.channels[0]))?;
+    push_word(out, wide(samples, sum.channels[1]))?;
+    push_word(out, wide(samples, sum.channels[2]))?;
+    Ok(())
+}
+
+// Puts all pixels last, at MAXVAL 255.
+pub fn push_all_narrow(out: &mut Vec<u8>, samples: u32, sums: &[PixelSum]) -> Result<(), NoMemory>
+    requires samples { (1 ≤ samples) × (samples ≤ 16) }
+    requires sums { All (HasSums samples) sums.now }
+    ensures { OnOk result (out.new.items ≡ out.old.items ++ flat_map (pixel 255 samples) sums.now) }
+{
+    for sum in sums {
+        push_narrow(out, samples, sum)?;
+    }
+    Ok(())
+}
+
+// Puts all pixels last, at MAXVAL 65535.
+pub fn push_all_wide(out: &mut Vec<u8>, samples: u32, sums: &[PixelSum]) -> Result<(), NoMemory>
+    requires samples { (1 ≤ samples) × (samples ≤ 16) }
+    requires sums { All (HasSums samples) sums.now }
+    ensures { OnOk result (out.new.items ≡ out.old.items ++ flat_map (pixel 65535 samples) sums.now) }
+{
+    for sum in sums {
+        push_wide(out, samples, sum)?;
+    }
+    Ok(())
+}
