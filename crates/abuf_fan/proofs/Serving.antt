@@ -1,0 +1,46 @@
+-- One more number, and the end.
+use Rattle.std.proofs.Common.{◌≡◌, ℕ, ◌+◌, ◌*◌, ◌≤◌, Bool, cond, ℤ, List, [], ◌∷◌, ◌++◌, length, take, drop, sym, refl, ap, ◌∙◌, subst, arith, eq-eqb, length-append, append_assoc, append-nil}
+use Rattle.std.specs.List.{flat_map}
+use Rattle.std.proofs.lemmas.List.{length-drop, nil_from_length}
+use Rattle.std.proofs.lemmas.Grind.{flat_map-append}
+use Rattle.abuf_raster.specs.declared.region.Region.{Region}
+use Rattle.abuf_raster.specs.Triangle.{Triangle}
+use Rattle.abuf_frame.specs.declared.view.View.{View}
+use Rattle.abuf_frame.proofs.Counting.{times-append}
+use Rattle.abuf_frame.specs.Draws.{Draws}
+use Rattle.abuf_frame.proofs.Draws.{draws_then}
+use Rattle.abuf_raster.specs.Hits.{all_fragments}
+use Rattle.abuf_fan.proofs.Growing.{grows_once}
+use Rattle.abuf_fan.specs.declared.rule.Hand.{Hand}
+use Rattle.abuf_fan.specs.Desk.{EachOnceIfWhole, drawing}
+use Rattle.abuf_fan.specs.Parts.{part_fragments, parts_of}
+use Rattle.abuf_fan.specs.Workers.{Served}
+
+module _ (ts : List Triangle) (os : List (ℤ × ℤ)) (r : Region) where
+  one_more : (numbers : List ℕ) (x : ℕ) → flat_map (part_fragments ts os r) (numbers ++ x ∷ []) ≡ flat_map (part_fragments ts os r) numbers ++ part_fragments ts os r x
+  one_more numbers x = flat_map-append (part_fragments ts os r) numbers (x ∷ []) ∙ ap (λ (l : List (ℕ × ℕ)). flat_map (part_fragments ts os r) numbers ++ l) (append-nil (part_fragments ts os r x))
+
+  pub draws_more : (numbers : List ℕ) (x p : ℕ) (v w u : View) → p ≡ x → Draws (flat_map (part_fragments ts os r) numbers) v w → Draws (part_fragments ts os r p) w u → Draws (flat_map (part_fragments ts os r) (numbers ++ x ∷ [])) v u
+  draws_more numbers x p v w u e a b = subst (λ (l : List (ℕ × ℕ)). Draws l v u) (sym (one_more numbers x)) (draws_then (flat_map (part_fragments ts os r) numbers) (part_fragments ts os r x) v w u a (subst (λ (k : ℕ). Draws (part_fragments ts os r k) w u) e b))
+
+  none_beyond : (x : ℕ) → parts_of (length ts) ≤ x → part_fragments ts os r x ≡ []
+  none_beyond x l = let d = length-drop (64 * x) ts in let e : drop (64 * x) ts ≡ [] = nil_from_length (drop (64 * x) ts) (omega arith) in ap (λ (xs : List Triangle). all_fragments (take 64 xs) (64 * x) os r) e
+
+  module _ (h k k' : Hand) (numbers : List ℕ) (x : ℕ) (drawn_are : k.drawn ≡ h.drawn ++ numbers) (spent : k.credit + length numbers ≡ h.credit) (some : 1 ≤ k.credit) (next : k' ≡ drawing x k) where
+    pub drawn_next : k'.drawn ≡ h.drawn ++ (numbers ++ x ∷ [])
+    drawn_next = ap (λ (z : Hand). z.drawn) next ∙ (ap (λ (l : List ℕ). l ++ x ∷ []) drawn_are ∙ append_assoc h.drawn numbers (x ∷ []))
+
+    pub spent_next : k'.credit + length (numbers ++ x ∷ []) ≡ h.credit
+    spent_next = let c = ap (λ (z : Hand). z.credit) next in let l = length-append numbers (x ∷ []) in omega arith
+
+    pub served_ends : (v w : View) → parts_of (length ts) ≤ x → EachOnceIfWhole k' → Draws (flat_map (part_fragments ts os r) numbers) v w → Served ts os r (parts_of (length ts)) h k' v w
+    served_ends v w l whole d = record {
+      numbers = numbers ++ x ∷ [];
+      drawn_are = drawn_next;
+      spent_turn = spent_next;
+      beyond = x;
+      taken = let a = times-append x numbers (x ∷ []) in let t = ap (λ (b : Bool). cond {A = ℕ} b 1 0) (eq-eqb x x refl) in omega arith;
+      is_beyond = l;
+      each_once = whole;
+      grows = grows_once _ v w (subst (λ (l : List (ℕ × ℕ)). Draws l v w) (sym (one_more numbers x ∙ (ap (λ (l : List (ℕ × ℕ)). flat_map (part_fragments ts os r) numbers ++ l) (none_beyond x l) ∙ append-nil (flat_map (part_fragments ts os r) numbers)))) d);
+    }

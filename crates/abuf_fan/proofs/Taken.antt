@@ -1,0 +1,89 @@
+-- The parts of numbers that were taken.
+use Rattle.std.proofs.Common.{◌≡◌, ℕ, zero, suc, ◌+◌, ◌-◌, ◌*◌, ◌<◌, ◌≤◌, Bool, cond, ℤ, List, [], ◌∷◌, ◌++◌, length, take, drop, sym, refl, ap, ◌∙◌, subst, arith, eq-eqb, ⊎_elim, ◌⊎◌, inl, inr, IsPermutation, All, min, append_assoc, append-nil}
+use Rattle.std.proofs.lemmas.Bool.{cases_lt}
+use Rattle.std.proofs.Math.Nat.{mul-le-mul, le_refl}
+use Rattle.std.specs.List.{flat_map, range_with_len}
+use Rattle.std.proofs.lemmas.List.{length-take, length-take-le, length-drop, nil_from_length, take_all}
+use Rattle.std.proofs.lemmas.List.Folds.{drop_split}
+use Rattle.std.proofs.lemmas.List.Elements.{All-head, All-tail}
+use Rattle.std.proofs.lemmas.Grind.{flat_map-append}
+use Rattle.std.proofs.lemmas.List.Sorted.{IsPermutation-refl, IsPermutation-trans, IsPermutation-append, IsPermutation-append_comm, IsPermutation-append_right}
+use Rattle.abuf_raster.specs.declared.region.Region.{Region}
+use Rattle.abuf_raster.specs.Triangle.{Triangle}
+use Rattle.abuf_frame.specs.Counting.{below, times}
+use Rattle.abuf_frame.proofs.Counting.{times-append, below_more, below_from}
+use Rattle.abuf_frame.proofs.Counting.{split_at, none_in}
+use Rattle.abuf_raster.specs.Hits.{all_fragments}
+use Rattle.abuf_fan.proofs.Parts.{all_fragments-append}
+use Rattle.abuf_fan.specs.Parts.{part_fragments, parts_of}
+
+-- lists of the same numbers lead to the same items
+pub flat_same : {A : Type 0} (f : ℕ → List A) (xs ys : List ℕ) → ((n : ℕ) → times n xs ≡ times n ys) → IsPermutation (flat_map f xs) (flat_map f ys)
+flat_same f [] ys h = subst (λ (l : List ℕ). IsPermutation (flat_map f []) (flat_map f l)) (sym (none_in ys (λ n. sym (h n)))) (IsPermutation-refl (flat_map f []))
+flat_same {A} f (x ∷ xs) ys h = let t = ap (λ (b : Bool). cond {A = ℕ} b 1 0) (eq-eqb x x refl) in let a = h x in let s = split_at x ys (omega arith) in
+    let rest : IsPermutation (flat_map f xs) (flat_map f (s.0 ++ s.1)) = flat_same f xs (s.0 ++ s.1) (λ n. let b = h n in let c = ap (times n) s.2 in let d = times-append n s.0 (x ∷ s.1) in let e = times-append n s.0 s.1 in omega arith) in
+    let f0 : List A = flat_map f s.0 in let f1 : List A = flat_map f s.1 in
+    let one : IsPermutation (f x ++ flat_map f xs) (f x ++ (f0 ++ f1)) = subst (λ (l : List A). IsPermutation (f x ++ flat_map f xs) (f x ++ l)) (flat_map-append f s.0 s.1) (IsPermutation-append_right (f x) (flat_map f xs) (flat_map f (s.0 ++ s.1)) rest) in
+    let two : IsPermutation (f x ++ (f0 ++ f1)) (f0 ++ (f x ++ f1)) = subst (λ (l : List A). IsPermutation l (f0 ++ (f x ++ f1))) (append_assoc (f x) f0 f1) (subst (λ (l : List A). IsPermutation ((f x ++ f0) ++ f1) l) (append_assoc f0 (f x) f1) (IsPermutation-append (f x ++ f0) (f0 ++ f x) f1 f1 (IsPermutation-append_comm (f x) f0) (IsPermutation-refl f1))) in
+    subst (λ (l : List A). IsPermutation (f x ++ flat_map f xs) l) (sym (ap (flat_map f) s.2 ∙ flat_map-append f s.0 (x ∷ s.1))) (IsPermutation-trans (f x ++ flat_map f xs) (f x ++ (f0 ++ f1)) (f0 ++ (f x ++ f1)) one two)
+
+-- a range has each of its numbers once
+times_range : (n a count : ℕ) → times n (range_with_len a count) + below n a ≡ below n (a + count)
+times_range n a zero = let e : a ≡ a + 0 = omega arith in let b = ap (below n) e in omega arith
+times_range n a (suc count) = let r = times_range n (a + 1) count in let m = below_more n a in let e : a + 1 + count ≡ a + suc count = omega arith in let b = ap (below n) e in omega arith
+
+pub times_first : (n count : ℕ) → times n (range_with_len 0 count) ≡ below n count
+times_first n count = let r = times_range n 0 count in let z = none n in let e : 0 + count ≡ count = omega arith in let b = ap (below n) e in omega arith
+  where
+    none : (n : ℕ) → below n 0 ≡ 0
+    none n = grind arith
+
+module _ (ts : List Triangle) (os : List (ℤ × ℤ)) (r : Region) where
+  all_at : (xs : List Triangle) (a b : ℕ) → (length xs ≡ 0) ⊎ (a ≡ b) → all_fragments xs a os r ≡ all_fragments xs b os r
+  all_at xs a b (inl e) = let n = nil_from_length xs e in ap (λ (l : List Triangle). all_fragments l a os r) n ∙ sym (ap (λ (l : List Triangle). all_fragments l b os r) n)
+  all_at xs a b (inr e) = ap (λ (k : ℕ). all_fragments xs k os r) e
+
+  -- the triangles from a part on are those of the part and those from the next part on
+  one_part : (p : ℕ) → all_fragments (drop (64 * p) ts) (64 * p) os r ≡ part_fragments ts os r p ++ all_fragments (drop (64 * (p + 1)) ts) (64 * (p + 1)) os r
+  one_part p = let xs : List Triangle = drop (64 * p) ts in let ys : List Triangle = drop (64 * (p + 1)) ts in
+      let w : 64 * (p + 1) - 64 * p ≡ 64 = omega arith in let cut : xs ≡ take 64 xs ++ ys = drop_split ts (64 * p) (64 * (p + 1)) (omega arith) ∙ ap (λ (k : ℕ). take k xs ++ ys) w in
+      ap (λ (l : List Triangle). all_fragments l (64 * p) os r) cut ∙ (all_fragments-append os r (take 64 xs) ys (64 * p)
+      ∙ ap (λ (l : List (ℕ × ℕ)). all_fragments (take 64 xs) (64 * p) os r ++ l) (all_at ys (64 * p + length (take 64 xs)) (64 * (p + 1)) (number p)))
+    where
+      number : (p : ℕ) → (length (drop (64 * (p + 1)) ts) ≡ 0) ⊎ (64 * p + length (take 64 (drop (64 * p) ts)) ≡ 64 * (p + 1))
+      number p = let l = length-drop (64 * p) ts in let m = length-drop (64 * (p + 1)) ts in
+          ⊎_elim (λ (h : length ts < 64 * (p + 1)). inl (omega arith)) (λ (h : 64 * (p + 1) ≤ length ts). let k = length-take-le 64 (drop (64 * p) ts) (omega arith) in inr (omega arith)) (cases_lt (length ts) (64 * (p + 1)))
+
+  from_part : (count p : ℕ) → flat_map (part_fragments ts os r) (range_with_len p count) ++ all_fragments (drop (64 * (p + count)) ts) (64 * (p + count)) os r ≡ all_fragments (drop (64 * p) ts) (64 * p) os r
+  from_part zero p = let e : p + 0 ≡ p = omega arith in ap (λ (k : ℕ). all_fragments (drop (64 * k) ts) (64 * k) os r) e
+  from_part (suc count) p = let e : p + suc count ≡ p + 1 + count = omega arith in
+      append_assoc (part_fragments ts os r p) (flat_map (part_fragments ts os r) (range_with_len (p + 1) count)) (all_fragments (drop (64 * (p + suc count)) ts) (64 * (p + suc count)) os r)
+      ∙ (ap (λ (l : List (ℕ × ℕ)). part_fragments ts os r p ++ l) (ap (λ (k : ℕ). flat_map (part_fragments ts os r) (range_with_len (p + 1) count) ++ all_fragments (drop (64 * k) ts) (64 * k) os r) e ∙ from_part count (p + 1)) ∙ sym (one_part p))
+
+  -- Where numbers are those below their count, each once, and that is not below the parts, they give all triangles.
+  pub taken_all : (numbers : List ℕ) → ((n : ℕ) → times n numbers ≡ below n (length numbers)) → length ts ≤ 64 * length numbers → IsPermutation (flat_map (part_fragments ts os r) numbers) (all_fragments ts 0 os r)
+  taken_all numbers once enough = let d : ℕ = length numbers in let f = flat_same (part_fragments ts os r) numbers (range_with_len 0 d) (λ n. once n ∙ sym (times_first n d)) in
+      let gone : drop (64 * (0 + d)) ts ≡ [] = nil_from_length (drop (64 * (0 + d)) ts) (let l = length-drop (64 * (0 + d)) ts in omega arith) in
+      let all : flat_map (part_fragments ts os r) (range_with_len 0 d) ≡ all_fragments ts 0 os r =
+      sym (append-nil (flat_map (part_fragments ts os r) (range_with_len 0 d))) ∙ (sym (ap (λ (l : List Triangle). flat_map (part_fragments ts os r) (range_with_len 0 d) ++ all_fragments l (64 * (0 + d)) os r) gone) ∙ from_part d 0) in
+      subst (IsPermutation (flat_map (part_fragments ts os r) numbers)) all f
+
+pub past_all : (numbers : List ℕ) (count beyond : ℕ) → ((n : ℕ) → times n numbers ≡ below n (length numbers)) → 0 < times beyond numbers → parts_of count ≤ beyond → count ≤ 64 * length numbers
+past_all numbers count beyond once taken is = let o = once beyond in let l = below_from beyond (length numbers) (omega arith) in omega arith
+
+-- a part of a slice
+pub take_part : {A : Type 0} (xs : List A) (n m : ℕ) → n ≡ length xs → m ≡ min n 64 → take m (take n xs) ≡ take 64 xs
+take_part xs n m e f = ap (take m) (take_all n xs (omega arith)) ∙ ⊎_elim (λ (h : n < 64). take_all m xs (omega arith) ∙ sym (take_all 64 xs (omega arith))) (λ (h : 64 ≤ n). let g : m ≡ 64 = omega arith in ap (λ (k : ℕ). take k xs) g) (cases_lt n 64)
+
+pub under_last : (m p : ℕ) (ns : List ℕ) → All (λ n. n < m) (ns ++ p ∷ []) → p < m
+under_last m p [] u = All-head (λ n. n < m) p [] u
+under_last m p (n ∷ ns) u = under_last m p ns (All-tail (λ n. n < m) n (ns ++ p ∷ []) u)
+
+-- a part further on costs no more than what is left, and leaves what stands after it
+pub part_room : (ts : List Triangle) (next p area credit : ℕ) → next ≤ p → length (drop (64 * next) ts) * area ≤ credit → length (take 64 (drop (64 * p) ts)) * area ≤ credit
+part_room ts next p area credit l room = let a = length-drop (64 * next) ts in let b = length-drop (64 * p) ts in let c = length-take 64 (drop (64 * p) ts) in
+    let d : length (take 64 (drop (64 * p) ts)) ≤ length (drop (64 * next) ts) = omega arith in let e = mul-le-mul d (le_refl area) in omega arith
+
+pub rest_room : (ts : List Triangle) (next p area credit after : ℕ) → next ≤ p → length (drop (64 * next) ts) * area ≤ credit → credit ≤ after + length (take 64 (drop (64 * p) ts)) * area → length (drop (64 * (p + 1)) ts) * area ≤ after
+rest_room ts next p area credit after l room few = let a = length-drop (64 * next) ts in let b = length-drop (64 * p) ts in let c = length-take 64 (drop (64 * p) ts) in let d = length-drop (64 * (p + 1)) ts in
+    let e : length (take 64 (drop (64 * p) ts)) + length (drop (64 * (p + 1)) ts) ≤ length (drop (64 * next) ts) = omega arith in let f = mul-le-mul e (le_refl area) in omega arith

@@ -1,0 +1,4 @@
+pub mod Desk
+pub mod Parts
+pub mod Grows
+pub mod Workers

@@ -1,0 +1,26 @@
+//! Triangles drawn into the shared frame by many threads.
+//!
+//! `draw_all` draws every triangle of a list once, whatever the number of threads and however they run: the pass gets one new
+//! entry for each fragment of each triangle, and where none is lost, the pixels and words of the new entries are all these
+//! fragments in some order. Each worker has a pass of its own, split off from the caller's, and draws parts of 64 triangles
+//! whose numbers it takes from a `Desk` until there are no more.
+//!
+//! No two turns of a desk get the same number. Once all are joined, the numbers drawn are those from 0 on, each once, and one
+//! of them is beyond the parts, so each part was drawn by exactly one worker. No worker knows what another drew before that.
+//!
+//! That the workers run at the same time is not promised.
+#![tactic(auto)]
+
+mod desk;
+mod drawing;
+mod gate;
+#[cfg(test)]
+mod meet;
+mod part;
+mod rule;
+#[cfg(test)]
+mod tests;
+
+pub use desk::{Desk, Turn};
+pub use drawing::draw_all;
+pub use gate::{Gate, OpenGate};
