@@ -1,0 +1,92 @@
+-- The words of all hits at one place of a region: one for each primitive whose mask there is not 0.
+use Rattle.std.proofs.Common.{◌≡◌, ℕ, zero, suc, ◌+◌, ◌-◌, ◌*◌, ◌/◌, ◌%◌, ◌<◌, ◌≤◌, ◌⊎◌, inl, inr, Bool, true, false, cond, if◌then◌else◌, eqb, List, [], ◌∷◌, ◌++◌, map, length, ℤ, refl, ap, ap₂, ◌∙◌, sym, arith, Some, None}
+use Rattle.std.specs.List.{filter, filter_map, cons_option, flat_map, range_with_len}
+use Rattle.std.proofs.lemmas.Bool.{eq-eqb, ne_eqb, cases_eq}
+use Rattle.std.proofs.lemmas.Nat.{div-add-mod'}
+use Rattle.std.proofs.lemmas.List.Elements.{filter-append}
+use Rattle.std.proofs.lemmas.List.{map-append, append-nil}
+use Rattle.abuf_raster.specs.declared.region.Hit.{Hit}
+use Rattle.abuf_raster.specs.declared.region.Region.{Region}
+use Rattle.abuf_raster.specs.Triangle.{Triangle}
+use Rattle.abuf_raster.specs.Hits.{hit_at, hits, placed, fragments, all_fragments}
+use Rattle.abuf_raster.specs.Coverage.{mask}
+use Rattle.abuf_raster.specs.Depth.{depth_key}
+use Rattle.abuf_raster.specs.Packing.{packed}
+use Rattle.abuf_raster.specs.Region.{IsRegion}
+use Rattle.abuf_resolve.specs.Colour.{triangle_at, numbers}
+use Rattle.abuf_frame.specs.Draws.{payloads_at}
+
+-- the word of primitive n at pixel (x, y)
+abbrev pub word_of : Triangle → List (ℤ × ℤ) → ℕ → ℕ → ℕ → ℕ
+word_of t os x y n = packed (record { depth = depth_key t x y; prim = n; mask = mask t os x y })
+
+-- its word, where its mask is not 0
+abbrev pub word_if : Triangle → List (ℤ × ℤ) → ℕ → ℕ → ℕ → List ℕ
+word_if t os x y n = if eqb (mask t os x y) 0 then [] else word_of t os x y n ∷ []
+
+-- the fragments of all primitives, by their numbers
+abbrev pub all_hits : List (ℤ × ℤ) → List Triangle → Region → List (ℕ × ℕ)
+all_hits os tris r = flat_map (λ n. fragments (triangle_at tris n) n os r) (numbers tris)
+
+from_number : (os : List (ℤ × ℤ)) (tris : List Triangle) (r : Region) (ts : List Triangle) (n : ℕ) → ((k : ℕ) → k < length ts → triangle_at tris (n + k) ≡ triangle_at ts k)
+    → all_fragments ts n os r ≡ flat_map (λ m. fragments (triangle_at tris m) m os r) (range_with_len n (length ts))
+from_number os tris r [] n h = refl
+from_number os tris r (t ∷ ts) n h =
+    let here : n ≡ n + 0 = omega arith in
+    ap₂ ◌++◌ (ap (λ (u : Triangle). fragments u n os r) (sym (ap (triangle_at tris) here ∙ h 0 (omega arith))))
+    (from_number os tris r ts (n + 1) (λ k l. let e : n + 1 + k ≡ n + suc k = omega arith in ap (triangle_at tris) e ∙ h (suc k) (omega arith)))
+
+pub all_fragments_are : (os : List (ℤ × ℤ)) (tris : List Triangle) (r : Region) → all_fragments tris 0 os r ≡ all_hits os tris r
+all_fragments_are os tris r = from_number os tris r tris 0 (λ k l. let e : 0 + k ≡ k = omega arith in ap (triangle_at tris) e)
+
+pub payloads_at-append : (xs ys : List (ℕ × ℕ)) (p : ℕ) → payloads_at p (xs ++ ys) ≡ payloads_at p xs ++ payloads_at p ys
+payloads_at-append xs ys p =
+    ap (map (λ (e : ℕ × ℕ). e.1)) (filter-append (λ (e : ℕ × ℕ). eqb e.0 p) xs ys)
+    ∙ map-append (λ (e : ℕ × ℕ). e.1) (filter (λ (e : ℕ × ℕ). eqb e.0 p) xs) (filter (λ (e : ℕ × ℕ). eqb e.0 p) ys)
+
+payloads_at-cons : (e : ℕ × ℕ) (es : List (ℕ × ℕ)) (p : ℕ) → payloads_at p (e ∷ es) ≡ cond (eqb e.0 p) (e.1 ∷ []) [] ++ payloads_at p es
+payloads_at-cons e es p =
+    elim (eqb e.0 p) as (λ (v : Bool). map (λ (d : ℕ × ℕ). d.1) (cond v (e ∷ filter (λ (d : ℕ × ℕ). eqb d.0 p) es) (filter (λ (d : ℕ × ℕ). eqb d.0 p) es)) ≡ cond v (e.1 ∷ []) [] ++ payloads_at p es)
+    [ true ↦ refl | false ↦ refl ]
+
+module _ (t : Triangle) (n : ℕ) (os : List (ℤ × ℤ)) (r : Region) (is : IsRegion r) (p : ℕ) where
+  -- the hit at place q of the region lies at p exactly where q is p
+  step : (q : ℕ) (rest : List Hit) → payloads_at p (map (placed r) (cons_option (hit_at t n os r q) rest))
+      ≡ cond (eqb q p) (word_if t os (r.x0 + q % r.w) (r.y0 + q / r.w) n) [] ++ payloads_at p (map (placed r) rest)
+  step q rest =
+      let e : ((r.y0 + q / r.w) - r.y0) * r.w + ((r.x0 + q % r.w) - r.x0) ≡ q = ap₂ (λ (a b : ℕ). a * r.w + b) (omega arith) (omega arith) ∙ div-add-mod' q r.w in
+      elim (eqb (mask t os (r.x0 + q % r.w) (r.y0 + q / r.w)) 0) as (λ (v : Bool).
+      payloads_at p (map (placed r) (cons_option (if v then None else Some (record { x = r.x0 + q % r.w; y = r.y0 + q / r.w; fragment = record { depth = depth_key t (r.x0 + q % r.w) (r.y0 + q / r.w); prim = n; mask = mask t os (r.x0 + q % r.w) (r.y0 + q / r.w) } })) rest))
+      ≡ cond (eqb q p) (if v then [] else word_of t os (r.x0 + q % r.w) (r.y0 + q / r.w) n ∷ []) [] ++ payloads_at p (map (placed r) rest)) [
+        | true ↦ elim (eqb q p) as (λ (v : Bool). payloads_at p (map (placed r) rest) ≡ cond v [] [] ++ payloads_at p (map (placed r) rest)) [ true ↦ refl | false ↦ refl ]
+        | false ↦ payloads_at-cons (((r.y0 + q / r.w) - r.y0) * r.w + ((r.x0 + q % r.w) - r.x0), word_of t os (r.x0 + q % r.w) (r.y0 + q / r.w) n) (map (placed r) rest) p
+            ∙ ap (λ (v : ℕ). cond (eqb v p) (word_of t os (r.x0 + q % r.w) (r.y0 + q / r.w) n ∷ []) [] ++ payloads_at p (map (placed r) rest)) e
+      ]
+
+  -- no place of the range is p
+  other : (count a : ℕ) → (p < a) ⊎ (a + count ≤ p) → payloads_at p (map (placed r) (filter_map (hit_at t n os r) (range_with_len a count))) ≡ []
+  other zero a h = refl
+  other (suc count) a (inl h) = step a (filter_map (hit_at t n os r) (range_with_len (a + 1) count)) ∙ rw (ne_eqb a p (λ e. omega arith)) (other count (a + 1) (inl (omega arith)))
+  other (suc count) a (inr h) = step a (filter_map (hit_at t n os r) (range_with_len (a + 1) count)) ∙ rw (ne_eqb a p (λ e. omega arith)) (other count (a + 1) (inr (omega arith)))
+
+  within : (count a : ℕ) → a ≤ p → p < a + count → payloads_at p (map (placed r) (filter_map (hit_at t n os r) (range_with_len a count))) ≡ word_if t os (r.x0 + p % r.w) (r.y0 + p / r.w) n
+  within zero a l h = absurd (omega arith)
+  within (suc count) a l h = go (λ m. within count (a + 1) m (omega arith)) (cases_eq a p) where
+    go : (a + 1 ≤ p → payloads_at p (map (placed r) (filter_map (hit_at t n os r) (range_with_len (a + 1) count))) ≡ word_if t os (r.x0 + p % r.w) (r.y0 + p / r.w) n)
+        → (a ≡ p) ⊎ (a ≡ p → ⊥)
+        → payloads_at p (map (placed r) (cons_option (hit_at t n os r a) (filter_map (hit_at t n os r) (range_with_len (a + 1) count)))) ≡ word_if t os (r.x0 + p % r.w) (r.y0 + p / r.w) n
+    go later (inl e) =
+        let first : cond (eqb a p) (word_if t os (r.x0 + a % r.w) (r.y0 + a / r.w) n) [] ≡ word_if t os (r.x0 + p % r.w) (r.y0 + p / r.w) n = rw (eq-eqb a p e) (ap (λ (q : ℕ). word_if t os (r.x0 + q % r.w) (r.y0 + q / r.w) n) e) in
+        step a (filter_map (hit_at t n os r) (range_with_len (a + 1) count)) ∙ (ap₂ ◌++◌ first (other count (a + 1) (inl (omega arith))) ∙ append-nil (word_if t os (r.x0 + p % r.w) (r.y0 + p / r.w) n))
+    go later (inr f) = step a (filter_map (hit_at t n os r) (range_with_len (a + 1) count)) ∙ rw (ne_eqb a p f) (later (omega arith))
+
+  pub hits_of_one : p < r.w * r.h → payloads_at p (map (placed r) (hits t n os r)) ≡ word_if t os (r.x0 + p % r.w) (r.y0 + p / r.w) n
+  hits_of_one h = within (r.w * r.h) 0 (omega arith) (omega arith)
+
+-- the words of all hits at a place
+pub words_are : (os : List (ℤ × ℤ)) (tris : List Triangle) (r : Region) (is : IsRegion r) (p : ℕ) → p < r.w * r.h → (ns : List ℕ)
+    → payloads_at p (flat_map (λ n. map (placed r) (hits (triangle_at tris n) n os r)) ns) ≡ flat_map (λ n. word_if (triangle_at tris n) os (r.x0 + p % r.w) (r.y0 + p / r.w) n) ns
+words_are os tris r is p h [] = refl
+words_are os tris r is p h (n ∷ ns) =
+    payloads_at-append (map (placed r) (hits (triangle_at tris n) n os r)) (flat_map (λ m. map (placed r) (hits (triangle_at tris m) m os r)) ns) p
+    ∙ ap₂ ◌++◌ (hits_of_one (triangle_at tris n) n os r is p h) (words_are os tris r is p h ns)

@@ -1,0 +1,75 @@
+//! Laws over the definitions. Each function takes the values that its law speaks of, and does nothing: its contract is
+//! the law.
+ghost use Rattle.std.specs.Prelude.{◌≡◌, ◌+◌, ◌*◌, ◌/◌, ◌%◌, ◌<◌, ◌≤◌, length, map, nat_lt, IsPermutation};
+ghost use Rattle.std.specs.List.Sorted.{IsNonDecreasing};
+ghost use Rattle.abuf_frame.specs.Draws.{payloads_at};
+ghost use Rattle.abuf_raster.specs.Region.{IsRegion};
+ghost use Rattle.abuf_raster.specs.Samples.{offsets_of};
+ghost use Rattle.abuf_raster.specs.Hits.{all_fragments};
+ghost use Rattle.abuf_resolve.specs.Order.{in_order};
+ghost use Rattle.abuf_resolve.specs.Colour.{colour};
+ghost use Rattle.abuf_resolve.specs.Sums.{region_sums};
+ghost use Rattle.abuf_resolve.specs.Words.{folded, pixel_sum, AreListsOf, AreFragmentLists};
+
+use abuf_frame::Closed;
+use abuf_num::Paint;
+use abuf_raster::{Pattern, Region, ScreenTri};
+
+/// The law of the list, for the pixel at one place of a region. The words of all fragments there, given in any order, put in
+/// ascending order and folded where they have a sample, give the colour of that sample.
+pub fn list_law(
+    triangles: &[ScreenTri],
+    paints: &[Paint],
+    pattern: Pattern,
+    background: [u16; 3],
+    region: Region,
+    place: u32,
+    sample: u32,
+    words: &[u64],
+)
+    requires few { length triangles.now ≤ 2097152 }
+    requires sample { sample < length (offsets_of pattern) }
+    requires region { IsRegion region }
+    requires place { place < region.w * region.h }
+    requires words { IsPermutation words.now (payloads_at place (all_fragments triangles.now 0 (offsets_of pattern) region)) }
+    ensures { folded background paints.now (in_order nat_lt words.now) sample ≡ colour (offsets_of pattern) background triangles.now paints.now (region.x0 + place % region.w) (region.y0 + place / region.w) sample }
+{}
+
+/// The law of order: a list that holds the same words and ascends is the list put in order.
+pub fn order_law(words: &[u64], sorted: &[u64])
+    requires same { IsPermutation words.now sorted.now }
+    requires ascending { IsNonDecreasing sorted.now }
+    ensures { sorted.now ≡ in_order nat_lt words.now }
+{}
+
+/// The law of the sums. Where the lists of a closed frame hold all fragments of a region, drawn in any order, the sums of its
+/// lists are those of the region's pixels.
+pub fn sums_law(
+    closed: &Closed,
+    triangles: &[ScreenTri],
+    paints: &[Paint],
+    pattern: Pattern,
+    background: [u16; 3],
+    region: Region,
+)
+    requires few { length triangles.now ≤ 2097152 }
+    requires region { IsRegion region }
+    requires pixels { length closed.now.lists ≡ region.w * region.h }
+    requires lists { AreListsOf (all_fragments triangles.now 0 (offsets_of pattern) region) closed.now.lists }
+    ensures { map (pixel_sum background paints.now (length (offsets_of pattern))) closed.now.lists ≡ region_sums (offsets_of pattern) background triangles.now paints.now region }
+{}
+
+/// The law of the words. Where the lists of a closed frame hold all fragments of a region, each of their words is one of a
+/// fragment of a primitive that has a paint.
+pub fn words_law(
+    closed: &Closed,
+    triangles: &[ScreenTri],
+    paints: &[Paint],
+    pattern: Pattern,
+    region: Region,
+)
+    requires few { length triangles.now ≤ 2097152 }
+    requires paints { length paints.now ≡ length triangles.now }
+    requires lists { AreListsOf (all_fragments triangles.now 0 (offsets_of pattern) region) closed.now.lists }
+    ensures { AreFragmentLists (length paints.now) closed.now.lists }
+{}
