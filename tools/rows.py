@@ -1,0 +1,436 @@
+"""Worked commands with the answers that abuf must give, each written out.
+
+A row is a command, the scene on its standard input, the libraries in its working folder, and the
+answer: the status, the bytes of standard output and the message on standard error.
+"""
+
+from dataclasses import dataclass, field
+
+
+@dataclass
+class Row:
+    title: str  # what the row shows
+    words: list
+    scene: bytes
+    status: int = 0
+    out: bytes = b""
+    err: bytes = b""
+    libraries: dict = field(default_factory=dict)
+    stdin: str = "scene"  # or "fault": a descriptor from which no read succeeds
+    stdout: str = "taken"  # or "full": a device that takes nothing
+    is_slow: bool = False
+
+
+@dataclass
+class Agreement:
+    """Commands that must give one and the same answer with each of these further words."""
+
+    title: str
+    words: list
+    further: list
+    first_line: bytes = b""
+    is_slow: bool = False
+
+
+# ---- answers
+
+
+def header(width, height, maxval=255):
+    text = f"P7\nWIDTH {width}\nHEIGHT {height}\nDEPTH 3\nMAXVAL {maxval}\n"
+    return (text + "TUPLTYPE RGB\nENDHDR\n").encode()
+
+
+def picture(*rows, **colours):
+    """An image of MAXVAL 255. Each row is a string with one letter per pixel: W is white, '.' is
+    black, and further letters are named with their three values."""
+    colours.update({"W": (255, 255, 255), ".": (0, 0, 0)})
+    pixels = b"".join(bytes(colours[letter]) for row in rows for letter in row)
+    return header(len(rows[0]), len(rows)) + pixels
+
+
+def pixel(red, green, blue):
+    """An image of one pixel."""
+    return picture("p", p=(red, green, blue))
+
+
+def text(*lines):
+    return "".join(line + "\n" for line in lines).encode()
+
+
+# ---- scenes
+
+
+def join(*lines):
+    return text(*lines)
+
+
+UPPER = ["v -4 4 0", "v 4 4 0", "v -4 -4 0"]
+UPPER_SCENE = join(*UPPER, "f 1 2 3")
+LOWER_SCENE = join("v 4 4 0", "v 4 -4 0", "v -4 -4 0", "f 1 2 3")
+SQUARE = ["v -4 4 0", "v 4 4 0", "v 4 -4 0", "v -4 -4 0", "f 1 2 4", "f 2 3 4"]
+SQUARE_SCENE = join(*SQUARE)
+BIG = ["v -8 8 0", "v 24 8 0", "v -8 -24 0"]
+LEFT_HALF_SCENE = join("v -8 8 0", "v 0 8 0", "v 0 -8 0", "v -8 -8 0", "f 1 2 3 4")
+ONE_BEHIND_SCENE = join("v -1 0 3", "v 1 0 3", "v 0 1 5", "f 1 2 3")
+TWO_BEHIND_SCENE = join("v 0 0 3", "v -1 1 5", "v 1 1 5", "f 1 2 3")
+SHARED_CUT_SCENE = join("v -1 0 3", "v 0 0 3", "v 1 0 3", "v 0 1 5", "f 1 2 4", "f 2 3 4")
+RED_SCENE = join("mtllib a.mtl", *BIG, "usemtl red", "f 1 2 3")
+HALF_RED = {"a.mtl": join("newmtl red", "Kd 1 0 0", "d 0.5")}
+RED_THEN_GREEN = join("mtllib a.mtl", *BIG, "usemtl red", "f 1 2 3", "usemtl green", "f 1 2 3")
+GREEN_THEN_RED = join("mtllib a.mtl", *BIG, "usemtl green", "f 1 2 3", "usemtl red", "f 1 2 3")
+RED_AND_GREEN = {
+    "a.mtl": join("newmtl red", "Kd 1 0 0", "d 0.5", "newmtl green", "Kd 0 1 0", "d 0.5")
+}
+CLEAR = {"a.mtl": join("newmtl red", "d 0")}
+HUGE_SCENE = join("v -32767 -32767 3.9375", "v 32767 -32767 3.9375", "v 0 32767 3.9375", "f 1 2 3")
+CUBE_LINES = [
+    "# Exported cube",
+    "mtllib cube.mtl",
+    "o Cube",
+    "v 1.000000 1.000000 -1.000000",
+    "v 1.000000 -1.000000 -1.000000",
+    "v 1.000000 1.000000 1.000000",
+    "v 1.000000 -1.000000 1.000000",
+    "v -1.000000 1.000000 -1.000000",
+    "v -1.000000 -1.000000 -1.000000",
+    "v -1.000000 1.000000 1.000000",
+    "v -1.000000 -1.000000 1.000000",
+    "vn 0.0000 1.0000 0.0000",
+    "vn 0.0000 0.0000 1.0000",
+    "vt 0.625000 0.500000",
+    "vt 0.875000 0.500000",
+    "s 0",
+    "usemtl Material",
+    "f 1/1/1 5/2/1 7/1/1 3/2/1",
+    "f 4/1/2 3/2/2 7/1/2 8/2/2",
+    "f 8/1/1 7/2/1 5/1/1 6/2/1",
+    "f 6/1/1 2/2/1 4/1/1 8/2/1",
+    "f 2/1/1 1/2/1 3/1/1 4/2/1",
+    "f 6/1/2 5/2/2 1/1/2 2/2/2",
+]
+CUBE_SCENE = join(*CUBE_LINES)
+CUBE_LIBRARY = [
+    "newmtl Material", "Ns 250.000000", "Ka 1.000000 1.000000 1.000000",
+    "Kd 0.800000 0.800000 0.800000", "Ks 0.500000 0.500000 0.500000",
+    "Ke 0.000000 0.000000 0.000000", "Ni 1.450000", "d 1.000000", "illum 2",
+]
+CUBE_MTL = {"cube.mtl": join(*CUBE_LIBRARY)}
+
+UPPER_IMAGE = picture("WWW.", "WW..", "W...", "....")
+LOWER_IMAGE = picture("...W", "..WW", ".WWW", "WWWW")
+RIGHT_IMAGE = picture("WWWW", ".WWW", "..WW", "...W")
+FLIPPED_IMAGE = picture("....", "W...", "WW..", "WWW.")
+WHITE_IMAGE = picture(*["WWWW"] * 4)
+BLACK_IMAGE = picture(*["...."] * 4)
+CUBE_IMAGE = picture("....", ".gg.", ".gg.", "....", g=(204, 204, 204))
+
+
+def rows():
+    made = []
+
+    def row(title, words, scene, *answer, **named):
+        """The answer is the output, or the status and the message."""
+        words = words.split(" ") if isinstance(words, str) else words
+        if len(answer) == 1:
+            made.append(Row(title, words, scene, 0, answer[0], b"", **named))
+        else:
+            made.append(Row(title, words, scene, answer[0], b"", text(answer[1]), **named))
+
+    small = "render --size 4x4"
+    one = "render --size 1x1"
+    words_refused = (2, "words not understood")
+
+    # the top-left rule
+    row("a right edge through centres covers none of them", small, UPPER_SCENE, UPPER_IMAGE)
+    row("a left edge through centres covers them", small, LOWER_SCENE, LOWER_IMAGE)
+    row("each centre on a shared edge is covered once", small, SQUARE_SCENE, WHITE_IMAGE)
+    row("blank lines and comments change nothing", small, b"\n# x\n" + UPPER_SCENE, UPPER_IMAGE)
+    row("an empty scene is background", one, b"", pixel(0, 0, 0))
+    row("a repeated corner has no area", small, join(*UPPER, "f 1 2 2"), BLACK_IMAGE)
+    row("a face of no area has no fragments", small + " --nodes 1", join(*UPPER, "f 1 2 2"),
+        BLACK_IMAGE)
+
+    # the pool
+    row("a pool that is just large enough", small + " --nodes 16", SQUARE_SCENE, WHITE_IMAGE)
+    row("a pool that is one too small", small + " --nodes 15", SQUARE_SCENE,
+        5, "pool full: 16 fragments, 15 nodes")
+    row("the pool on an image that isn't cut into whole tiles", "render --size 9x9 --nodes 81",
+        SQUARE_SCENE, picture(*["W" * 9] * 9))
+    row("the full pool on such an image", "render --size 9x9 --nodes 80", SQUARE_SCENE,
+        5, "pool full: 81 fragments, 80 nodes")
+    overlap = join(*SQUARE, "f 1 2 3")
+    for threads in (1, 2, 7, 64):
+        row(f"overlapping faces on {threads} threads", f"{small} --threads {threads}", overlap,
+            WHITE_IMAGE)
+        row(f"the pool of 26 on {threads} threads", f"{small} --threads {threads} --nodes 26",
+            overlap, WHITE_IMAGE)
+        row(f"a full pool on {threads} threads", f"{small} --threads {threads} --nodes 25",
+            overlap, 5, "pool full: 26 fragments, 25 nodes")
+    row("an invisible face has a fragment", one + " --background 1,1,1 --nodes 1", RED_SCENE,
+        pixel(255, 255, 255), libraries=CLEAR)
+    row("two invisible faces have two", one + " --background 1,1,1 --nodes 1",
+        RED_SCENE + b"f 1 2 3\n", 5, "pool full: 2 fragments, 1 nodes", libraries=CLEAR)
+
+    # colours
+    row("half red over white", one + " --background 1,1,1", RED_SCENE, pixel(255, 127, 127),
+        libraries=HALF_RED)
+    row("half red over black", one, RED_SCENE, pixel(128, 0, 0), libraries=HALF_RED)
+    row("two bytes a value", one + " --background 1,1,1 --maxval 65535", RED_SCENE,
+        header(1, 1, 65535) + bytes.fromhex("ffff7fff7fff"), libraries=HALF_RED)
+    row("at one depth the later face is on top", one, RED_THEN_GREEN, pixel(64, 128, 0),
+        libraries=RED_AND_GREEN)
+    row("and so with the faces exchanged", one, GREEN_THEN_RED, pixel(128, 64, 0),
+        libraries=RED_AND_GREEN)
+    row("four samples of which two are covered", one + " --samples 4", LEFT_HALF_SCENE,
+        pixel(128, 128, 128))
+    row("eight samples of which four are covered", one + " --samples 8", LEFT_HALF_SCENE,
+        pixel(128, 128, 128))
+
+    # the near plane and the camera
+    row("one corner behind the near plane", small, ONE_BEHIND_SCENE,
+        picture("WWWW", "WWWW", "....", "...."))
+    row("its fragments are eight", small + " --nodes 7", ONE_BEHIND_SCENE,
+        5, "pool full: 8 fragments, 7 nodes")
+    row("two corners behind the near plane", small, TWO_BEHIND_SCENE,
+        picture("WWW.", ".W..", "....", "...."))
+    row("its fragments are four", small + " --nodes 3", TWO_BEHIND_SCENE,
+        5, "pool full: 4 fragments, 3 nodes")
+    row("all corners behind the near plane", small,
+        join("v 0 0 5", "v -1 1 5", "v 1 1 5", "f 1 2 3"), BLACK_IMAGE)
+    row("a corner of the triangle is cut off", small,
+        join("v -4 4 0", "v 4 4 4", "v -4 -4 0", "f 1 2 3"), UPPER_IMAGE)
+    row("a shared edge that is cut covers each centre once", "render --size 3x4 --nodes 6",
+        SHARED_CUT_SCENE, picture("WWW", "WWW", "...", "..."))
+    row("its fragments are six", "render --size 3x4 --nodes 5", SHARED_CUT_SCENE,
+        5, "pool full: 6 fragments, 5 nodes")
+    row("a triangle of the greatest size", "render --size 1x4096 --focal 16 --near 0.0625",
+        HUGE_SCENE, picture(*["W"] * 4096))
+    row("a half turn about the vertical axis", small + " --turn 0,0,1,0", UPPER_SCENE,
+        RIGHT_IMAGE)
+    row("a factor of the turn changes nothing", small + " --turn 2,0,0,0", UPPER_SCENE,
+        UPPER_IMAGE)
+    row("the turn with all parts at their limit", small + " --turn=-1024,-1024,-1024,-1024",
+        join("v 4 0 -4", "v 4 0 4", "v -4 0 -4", "f 1 2 3"), UPPER_IMAGE)
+    row("as far ahead as can be", small + " --move=0,0,-32767.99999", UPPER_SCENE, BLACK_IMAGE)
+    row("as far behind as can be", small + " --move=0,0,32767.99999", UPPER_SCENE, BLACK_IMAGE)
+
+    # pick and demo
+    row("pick on a covered pixel", "pick 3,0 --size 4x4", SQUARE_SCENE,
+        text("fragments 1", "depth 524287 prim 1 mask 1"))
+    row("pick on a pixel that isn't covered", "pick 3,3 --size 4x4", UPPER_SCENE,
+        text("fragments 0"))
+    row("pick after clipping", "pick 1,1 --size 3x4", SHARED_CUT_SCENE,
+        text("fragments 1", "depth 3145727 prim 3 mask 1"))
+    row("pick shows the mask of the samples", "pick 0,0 --size 1x1 --samples 4", LEFT_HALF_SCENE,
+        text("fragments 1", "depth 524287 prim 0 mask 5"))
+    for place in ("0,0", "0,4095"):
+        row("the depth key is held at its greatest value",
+            f"pick {place} --size 1x4096 --focal 16 --near 0.0625", HUGE_SCENE,
+            text("fragments 1", "depth 16777215 prim 0 mask 1"))
+    row("a depth beyond the greatest value at a centre that isn't covered",
+        "pick 0,0 --size 1x1 --samples 4",
+        join("v -32000 32000 -31996", "v -0.0078125 0.125 3.875", "v -32000 -18000 -31996",
+             "f 1 2 3"), text("fragments 1", "depth 16777215 prim 0 mask 1"))
+    row("a depth below 0 at such a centre", "pick 0,0 --size 1x1 --samples 4",
+        join("v -0.125 0.125 3.875", "v -2000 32000 -31996", "v -0.125 -0.0703125 3.875",
+             "f 1 2 3"), text("fragments 1", "depth 0 prim 0 mask 1"))
+    row("pick with the farthest first", "pick 0,0 --size 1x1",
+        join("v -8 8 0", "v 24 8 0", "v -8 -24 0", "v -8 8 2", "v 24 8 2", "v -8 -24 2",
+             "f 4 5 6", "f 1 2 3", "f 1 2 3"),
+        text("fragments 3", "depth 524287 prim 1 mask 1", "depth 524287 prim 2 mask 1",
+             "depth 1048575 prim 0 mask 1"))
+    row("pick refuses a full pool", "pick 0,0 --size 4x4 --nodes 15", SQUARE_SCENE,
+        5, "pool full: 16 fragments, 15 nodes")
+    row("one triangle of the demonstration", "demo 1 --size 1x1 --move 0,0.3,-4", b"",
+        text("triangles 1", "fragments 1", "longest 1", "sum 32"))
+    for number in ("0", "200001", "1000000"):
+        row("a number of the demonstration out of range", f"demo {number}", b"",
+            2, "bad value: number")
+
+    # faces
+    for elements in ("1//1 2/5/1 -1", "1/ 2/0 3//", "1 2 3 # 4", "-3 -2 -1"):
+        row(f"a face of the elements {elements}", small, join(*UPPER, "f " + elements),
+            UPPER_IMAGE)
+    for elements in ("0 1 2", "1 2 9", "1 2 4", "-4 -3 -1", "00000000001 2 3", "1 2 3/x",
+                     "1 2 3/1/1/1", "1 2 +3", "1 2 3 \\", "1 2 -0"):
+        row(f"a face of the elements {elements}", small, join(*UPPER, "f " + elements),
+            3, "line 4: bad index")
+    row("a faulty line comes before an index beyond the points", small,
+        join(*UPPER, "f 1 2 9", "curv 0 1 1 2"), 3, "line 5: unknown keyword")
+    row("a point after its face", small, join("f 1 2 3", *UPPER), UPPER_IMAGE)
+    row("a keyword that isn't known is passed on", small, UPPER_SCENE + b"foo\n", UPPER_IMAGE)
+    row("a keyword of other bytes isn't", small, UPPER_SCENE + b"\xef\xbb\xbfv 1 2 3\n",
+        3, "line 5: unknown keyword")
+    row("two elements", small, join(*UPPER, "f 1 2"), 3, "line 4: too few elements")
+    row("two elements on a continued line", small, join(*UPPER, "f 1 \\", "2 3"),
+        3, "line 4: too few elements")
+    row("1024 elements", small, join(*UPPER, "f" + " 1" * 1024), BLACK_IMAGE)
+    row("1025 elements", small, join(*UPPER, "f" + " 1" * 1025), 3, "line 4: too many elements")
+    row("an element of a million slashes", small, join(*UPPER, "f 1" + "/" * 1000000 + " 2 3"),
+        3, "line 4: bad index")
+    row("too many triangles", small, join("v 0 0 0", *["f" + " 1" * 64] * 16913),
+        3, "line 16914: too many triangles")
+
+    # points
+    row("two coordinates", small, b"v 1 2\n" + UPPER_SCENE, 3, "line 1: bad number")
+    row("two coordinates before a comment", small, b"v 1 2 #3\n", 3, "line 1: bad number")
+    row("three coordinates and more", small, join("v -4 4 0 x", *UPPER[1:], "f 1 2 3"),
+        UPPER_IMAGE)
+    row("a number of a million digits", small, b"v " + b"0" * 1000000 + b" 0 0\n",
+        3, "line 1: bad number")
+    for number in ("nan", "inf", "1e", "32768", "-32768", "0x1", ".", "1e0001", "+-1"):
+        row(f"the number {number}", small, f"v {number} 0 0\n".encode(), 3, "line 1: bad number")
+    for number in (".5", "-1.", "1e-7", "32767.99999", "+.5e1", "1e-999",
+                   "0.0000012345678901234567"):
+        row(f"the number {number}", small, f"v {number} 0 0\n".encode(), BLACK_IMAGE)
+    row("an exponent", small, join("v -.4e1 4 0", "v 400e-2 4 0", "v -4 -4.000000 0", "f 1 2 3"),
+        UPPER_IMAGE)
+    close = "--focal 16 --near 0.0625 --move 0,0,-0.0625"
+    for number, columns in (("-0.00000762939453125", ".WWW"), ("-0.00000762939453124", "..WW"),
+                            ("0.00000762939453125", "...WW"), ("0.00000762939453124", "..WWW")):
+        row(f"{number} is rounded, halves away from 0",
+            f"render --size {len(columns)}x256 {close}",
+            join(f"v {number} 1 0", f"v {number} -1 0", "v 1 0 0", "f 1 2 3"),
+            picture(*[columns] * 256))
+    row("too many points", small, b"v 0 0 0\n" * 1048577, 3, "line 1048577: too many points")
+    row("a single point", small, b"v 0.5 0 0\n", BLACK_IMAGE)
+
+    # a scene that ends early
+    for length in range(len(UPPER_SCENE) + 1):
+        start = UPPER_SCENE[:length]
+        title = f"the first {length} bytes of a scene"
+        if length in (0, 8, 9, 16, 17, 26, 27):
+            row(title, small, start, BLACK_IMAGE)
+        elif length >= 34:
+            row(title, small, start, UPPER_IMAGE)
+        elif length >= 28:
+            row(title, small, start, 3, "line 4: too few elements")
+        else:
+            row(title, small, start, 3, f"line {1 + start.count(bytes([10]))}: bad number")
+
+    # names and libraries
+    row("a library without a name", small, UPPER_SCENE + b"mtllib\n", 3, "line 5: no name")
+    row("a material without a name", small, UPPER_SCENE + b"usemtl \t\r\n", 3, "line 5: no name")
+    row("17 libraries", small, join(*[f"mtllib {i}" for i in range(17)]),
+        3, "line 17: too many libraries")
+    row("4097 names of materials", small, join(*[f"usemtl {i}" for i in range(4097)]),
+        3, "line 4097: too many materials")
+    row("a library of 4097 materials", small, b"mtllib a.mtl\n",
+        4, "library 1 line 4097: too many materials",
+        libraries={"a.mtl": join(*[f"newmtl {i}" for i in range(4097)])})
+    row("a library of 4096 materials and one of them again", small, b"mtllib a.mtl\n",
+        BLACK_IMAGE, libraries={"a.mtl": join(*[f"newmtl {i % 4096}" for i in range(4097)])})
+    row("a material of no library", small, join(*UPPER, "usemtl blue", "f 1 2 3"),
+        3, "line 5: unknown material")
+    row("a colour before any material", small, join("mtllib a.mtl", *UPPER, "f 1 2 3"),
+        4, "library 1 line 1: no material", libraries={"a.mtl": b"Kd 1 1 1\n"})
+    row("a library that is missing", small, b"mtllib a.mtl\n", 4, "library 1 missing")
+    row("the first library is read before the second is fetched", small,
+        b"mtllib a.mtl\nmtllib b.mtl\n", 4, "library 1 line 1: no material",
+        libraries={"a.mtl": b"d 1\n"})
+    row("a library by a name with blanks", small, b"mtllib  my colours.mtl \r\n" + UPPER_SCENE,
+        UPPER_IMAGE, libraries={"my colours.mtl": b""})
+    row("a '#' within a name", small,
+        join("mtllib a #1.mtl", *UPPER, "usemtl red #2", "f 1 2 3"),
+        picture("rrr.", "rr..", "r...", "....", r=(255, 0, 0)),
+        libraries={"a #1.mtl": join("newmtl red #2", "Kd 1 0 0")})
+    named = join("mtllib a.mtl", "mtllib b.mtl", *BIG, "usemtl m", "f 1 2 3")
+    red = join("newmtl m", "Kd 1 0 0")
+    row("the last library has the last word", one, named, pixel(0, 255, 0),
+        libraries={"a.mtl": red, "b.mtl": join("newmtl m", "Kd 0 1 0")})
+    row("a later material of the name is a new one", one, named, pixel(255, 255, 255),
+        libraries={"a.mtl": red, "b.mtl": join("newmtl m")})
+    row("one number stands for three", one, named, pixel(128, 128, 128),
+        libraries={"a.mtl": red, "b.mtl": join("newmtl m", "Kd 0.5")})
+    row("a colour beyond 1 is held", one, named, pixel(255, 0, 128),
+        libraries={"a.mtl": red, "b.mtl": join("newmtl m", "Kd 7 -1 0.5 9")})
+    for colour in ("Kd 1 1", "Kd 1 1 #1", "Kd", "Kd spectral x", "d", "d -halo 0.5", "d x"):
+        row(f"the library's line {colour}", one, named, 4, "library 1 line 2: bad number",
+            libraries={"a.mtl": join("newmtl m", colour), "b.mtl": b""})
+    row("a number before a comment", one, named, pixel(255, 255, 255),
+        libraries={"a.mtl": join("newmtl m", "Kd 1 # 2 3"), "b.mtl": b""})
+    row("a folder as a library", small, b"mtllib .\n", 6, "read fault")
+    row("a library's name with a zero byte", small, b"mtllib a\0b\n", 6, "read fault")
+    row("a library's name that isn't UTF-8", small, b"mtllib \xff\n", 6, "read fault")
+
+    # a cube of an exporter
+    row("a cube as it is exported", small, CUBE_SCENE, CUBE_IMAGE, libraries=CUBE_MTL)
+    row("its fragments are eight", small + " --nodes 7", CUBE_SCENE,
+        5, "pool full: 8 fragments, 7 nodes", libraries=CUBE_MTL)
+    row("the cube with other line ends", small, b"\r\n".join(CUBE_SCENE.splitlines()), CUBE_IMAGE,
+        libraries={"cube.mtl": b"\r\n".join(CUBE_MTL["cube.mtl"].splitlines())})
+
+    # words
+    row("no words", [], UPPER_SCENE, *words_refused)
+    for words in ("draw --size 4x4", "--size 4x4", "render --size", "render --size 4x4 --size 4x4",
+                  "render --size 4x4 --move -1,0,-4", "render --size 4x4 x", "render --siz 4x4",
+                  "render -h", "render --help", "render -V", "render --version", "pick --size 4x4",
+                  "pick 0,0 1,1", "pick -1,0", "demo", "demo 1 2", "render --size --",
+                  "render --colour 1"):
+        row(f"the words {words}", words, UPPER_SCENE, *words_refused)
+    row("a word that isn't UTF-8", [b"render", b"--size", b"4x4", b"--near", b"\xff"],
+        UPPER_SCENE, *words_refused)
+    row("a value after an equals sign", "render --size=4x4 --move=0,0,-4", UPPER_SCENE,
+        UPPER_IMAGE)
+    row("a value as a word of its own", "render --move 0,0,-4 --size 4x4", UPPER_SCENE,
+        UPPER_IMAGE)
+    row("nothing after two hyphens", "render --size 4x4 --", UPPER_SCENE, UPPER_IMAGE)
+    row("a place after two hyphens", "pick --size 4x4 -- 3,3", UPPER_SCENE, text("fragments 0"))
+    row("a large image is read", "render --size 4096x1024 --near 0", UPPER_SCENE,
+        2, "bad value: near")
+    for option, values in {
+        "size": ("4096x4096", "0x4", "4097x1", "00001x1", "4", "4x4x4", "", "4X4", "4,4"),
+        "samples": ("2", "16", "01", ""),
+        "threads": ("0", "65", "001", "+1"),
+        "nodes": ("0", "8388609", "00000001", "-"),
+        "turn": ("0,0,0,0", "1,0,0", "1025,0,0,0", "+1,0,0,0", "00001,0,0,0"),
+        "move": ("0,0", "0,0,32768", "0,0,x", "0,,0"),
+        "focal": ("0", "16.1", "0.000001", "-1"),
+        "near": ("0.0624", "0", "x"),
+        "background": ("1,1", "1,1,nan"),
+        "maxval": ("256", "0255"),
+    }.items():
+        for value in values:
+            others = [] if option == "size" else ["--size", "4x4"]
+            row(f"the value {value!r} of --{option}", ["render", *others, f"--{option}={value}"],
+                UPPER_SCENE, 2, f"bad value: {option}")
+    row("the first value that fails is named", "render --near 0 --size 0x4", UPPER_SCENE,
+        2, "bad value: size")
+    row("words come before the scene", "render --size 0x4", b"v 1 2\n", 2, "bad value: size")
+    row("forms of numbers that pass",
+        "render --size 04x004 --turn=-0,0001,0,0 --threads 01 --nodes 0000016 --focal 1e0",
+        UPPER_SCENE, FLIPPED_IMAGE)
+    for place in ("4,0", "0,4", "0", "0,0,0", "00000,0", "-", "help"):
+        row(f"the place {place}", ["pick", "--size", "4x4", place], UPPER_SCENE,
+            2, "bad value: at")
+    row("a place that begins with a hyphen", "pick --size 4x4 -- -1,0", UPPER_SCENE,
+        2, "bad value: at")
+
+    # the outside
+    row("a scene that can't be read", small, b"", 6, "read fault", stdin="fault")
+    row("words come before reading", "render --size 0x4", b"", 2, "bad value: size",
+        stdin="fault")
+    row("demo reads no scene", "demo 1 --size 1x1 --move 0,0.3,-4", b"",
+        text("triangles 1", "fragments 1", "longest 1", "sum 32"), stdin="fault")
+    row("an output that takes nothing", small, UPPER_SCENE, 7, "write fault", stdout="full")
+    row("a scene of the greatest length", small, b"\n" * 67108864, BLACK_IMAGE, is_slow=True)
+    row("a scene that is one byte longer", small, b"\n" * 67108865, 3, "scene too long",
+        is_slow=True)
+    row("a library that is too long", small, b"mtllib a.mtl\n", 4, "library 1 too long",
+        libraries={"a.mtl": b"\n" * 67108865}, is_slow=True)
+    return made
+
+
+def agreements():
+    """Commands on several numbers of threads, and how the first line of the answer reads."""
+    words = ["demo", "1000", "--size", "64x48"]
+    first = b"triangles 1000\n"
+    return [
+        Agreement("a demonstration on several numbers of threads", words,
+                  [["--threads", "1"], ["--threads", "64"]], first),
+        Agreement("a larger one", ["demo", "20000", "--size", "64x48"],
+                  [["--threads", "1"], ["--threads", "7"]], is_slow=True),
+        Agreement("the largest one",
+                  ["demo", "200000", "--size", "64x48", "--nodes", "8388608"],
+                  [["--threads", "1"], ["--threads", "64"]], is_slow=True),
+    ]
