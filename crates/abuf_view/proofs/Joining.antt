@@ -1,0 +1,59 @@
+-- The primitives of a scene, triangle by triangle.
+use Rattle.std.proofs.Common.{◌≡◌, ◌∙◌, sym, ap, ap₂, refl, ℕ, ◌*◌, ◌≤◌, Bool, true, false, ℤ, List, [], ◌∷◌, ◌++◌, map, flat_map, take, length, arith}
+use Rattle.std.proofs.lemmas.List.{take_all, append_assoc, map-append, length-append, length-map}
+use Rattle.std.proofs.lemmas.Simd.{map-map}
+use Rattle.abuf_num.specs.declared.plain.Paint.{Paint}
+use Rattle.abuf_scene.specs.declared.triangles.Triangle.{Triangle}
+use Rattle.abuf_raster.specs.Triangle.{Triangle as OnScreen}
+use Rattle.abuf_view.specs.declared.clipping.Seen.{Seen}
+use Rattle.abuf_view.specs.declared.clipping.Corners.{Corners}
+use Rattle.abuf_view.specs.Camera.{Camera}
+use Rattle.abuf_view.specs.Clip.{clip_by}
+use Rattle.abuf_view.specs.declared.seeing.Eye.{Eye}
+use Rattle.abuf_view.specs.Eye.{eye_of, clipped_by, shown_by}
+use Rattle.abuf_view.specs.Primitives.{Primitive, primitive, prims, prims_of}
+
+-- two pushes in a row
+pub both_pushed : {X A : Type 0} (f : X → A) (old mid new : List A) (xs ys zs : List X) → mid ≡ old ++ map f xs → new ≡ mid ++ map f ys → xs ++ ys ≡ zs
+    → new ≡ old ++ map f zs
+both_pushed f old mid new xs ys zs first second all =
+    second ∙ ap (λ m. m ++ map f ys) first ∙ append_assoc old (map f xs) (map f ys) ∙ ap (λ l. old ++ l) (sym (map-append f xs ys) ∙ ap (map f) all)
+
+module _ (k : Camera) where
+  pub tris_are : (ts : List Triangle) → flat_map (λ t. map (shown_by (eye_of k)) (clipped_by (eye_of k) t)) ts ≡ map (λ q. q.triangle) (prims k ts)
+  tris_are [] = refl
+  tris_are (t ∷ ts) =
+      ap₂ (λ (xs ys : List OnScreen). xs ++ ys) (sym (map-map (λ (q : Primitive). q.triangle) (primitive k t.paint) (clipped_by (eye_of k) t))) (tris_are ts)
+      ∙ sym (map-append (λ (q : Primitive). q.triangle) (prims_of k t) (prims k ts))
+
+  pub paints_are : (ts : List Triangle) → flat_map (λ t. map (λ (c : Corners). t.paint) (clipped_by (eye_of k) t)) ts ≡ map (λ q. q.paint) (prims k ts)
+  paints_are [] = refl
+  paints_are (t ∷ ts) =
+      ap₂ (λ (xs ys : List Paint). xs ++ ys) (sym (map-map (λ (q : Primitive). q.paint) (primitive k t.paint) (clipped_by (eye_of k) t))) (paints_are ts)
+      ∙ sym (map-append (λ (q : Primitive). q.paint) (prims_of k t) (prims k ts))
+
+-- the parts of all triangles, as the eye of the camera sees them
+module _ (k : Camera) (e : Eye) (is : e ≡ eye_of k) (ts us : List Triangle) (same : us ≡ ts) (i : ℕ) (all : length us ≤ i) where
+  pub all_tris : (made : List OnScreen) → made ≡ flat_map (λ t. map (shown_by e) (clipped_by e t)) (take i us) → made ≡ map (λ q. q.triangle) (prims k ts)
+  all_tris made h =
+      h ∙ (λ j. flat_map (λ (t : Triangle). map (shown_by (is j)) (clipped_by (is j) t)) ((take_all i us all ∙ same) j)) ∙ tris_are k ts
+
+  pub all_paints : (made : List Paint) → made ≡ flat_map (λ t. map (λ (c : Corners). t.paint) (clipped_by e t)) (take i us) → made ≡ map (λ q. q.paint) (prims k ts)
+  all_paints made h =
+      h ∙ (λ j. flat_map (λ (t : Triangle). map (λ (c : Corners). t.paint) (clipped_by (is j) t)) ((take_all i us all ∙ same) j)) ∙ paints_are k ts
+
+clip_few : (u v w : Bool) (m : ℤ) (a b c : Seen) → length (clip_by u v w m a b c) ≤ 2
+clip_few true true true m a b c = omega arith
+clip_few true true false m a b c = omega arith
+clip_few true false true m a b c = omega arith
+clip_few true false false m a b c = omega arith
+clip_few false true true m a b c = omega arith
+clip_few false true false m a b c = omega arith
+clip_few false false true m a b c = omega arith
+clip_few false false false m a b c = omega arith
+
+pub prims_few : (k : Camera) (ts : List Triangle) → length (prims k ts) ≤ 2 * length ts
+prims_few k [] = omega arith
+prims_few k (t ∷ ts) =
+    let one : length (prims_of k t) ≤ 2 = rw (length-map (clipped_by (eye_of k) t) (primitive k t.paint)) (clip_few _ _ _ _ _ _ _) in
+    rw (length-append (prims_of k t) (prims k ts)) (omega (arith, one, prims_few k ts))

@@ -1,0 +1,5 @@
+pub mod Bounds
+pub mod Turning
+pub mod Joining
+pub mod Cutting
+pub mod Ring

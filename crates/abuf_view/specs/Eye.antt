@@ -1,0 +1,52 @@
+-- What is computed once of a camera.
+use Rattle.std.specs.Prelude.{◌≤◌, ℤ, pos, ◌+ℤ◌, ◌*ℤ◌, neg_ℤ, unsigned_abs, List}
+use Rattle.abuf_view.specs.Camera.{Camera, norm, row_x, row_y, row_z, dot, plane, place_of, IsNearby, IsFrom}
+use Rattle.abuf_scene.specs.declared.triangles.Triangle.{Triangle}
+use Rattle.abuf_raster.specs.Triangle.{Triangle as OnScreen}
+use Rattle.abuf_view.specs.Clip.{IsView, clipped}
+use Rattle.abuf_view.specs.Screen.{on_screen}
+use Rattle.abuf_view.specs.declared.clipping.Corners.{Corners}
+use Rattle.abuf_view.specs.declared.viewpoint.Place.{Place}
+use Rattle.abuf_view.specs.declared.clipping.Seen.{Seen}
+use Rattle.abuf_view.specs.declared.seeing.Eye.{Eye}
+
+abbrev pub eye_of : Camera → Eye
+eye_of k = record {
+  x = row_x k.turn;
+  y = row_y k.turn;
+  z = row_z k.turn;
+  shift = k.shift;
+  view = record { norm = norm k.turn; plane = plane k };
+  screen = record { width = k.width; height = k.height; focal = k.focal };
+}
+
+-- Where it sees a point.
+abbrev pub seen_by : Eye → Place → Seen
+seen_by e p = record {
+  x = dot e.x p +ℤ e.view.norm *ℤ e.shift.x;
+  y = dot e.y p +ℤ e.view.norm *ℤ e.shift.y;
+  w = neg_ℤ (dot e.z p +ℤ e.view.norm *ℤ e.shift.z);
+}
+
+-- The parts of a triangle in front of its near plane.
+abbrev pub clipped_by : Eye → Triangle → List Corners
+clipped_by e t = clipped e.view.plane (seen_by e (place_of t.a)) (seen_by e (place_of t.b)) (seen_by e (place_of t.c))
+
+-- A part on its screen.
+abbrev pub shown_by : Eye → Corners → OnScreen
+shown_by e t = on_screen e.screen.width e.screen.height e.screen.focal e.view.plane t
+
+-- No entry of a row is above the norm.
+abbrev pub IsRow : ℤ → Place → Type 0
+IsRow n r = (unsigned_abs r.x ≤ unsigned_abs n) × (unsigned_abs r.y ≤ unsigned_abs n) × (unsigned_abs r.z ≤ unsigned_abs n)
+
+-- What is computed of every camera keeps to this.
+pub record IsEye (e : Eye) : Type 0 where
+  pub view : IsView e.view.norm e.view.plane
+  pub x_row : IsRow e.view.norm e.x
+  pub y_row : IsRow e.view.norm e.y
+  pub z_row : IsRow e.view.norm e.z
+  pub shift : IsNearby e.shift
+  pub width : e.screen.width ≤ 4096
+  pub height : e.screen.height ≤ 4096
+  pub focal : IsFrom (pos 0) (pos 1048576) e.screen.focal

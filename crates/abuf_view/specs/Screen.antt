@@ -1,0 +1,29 @@
+-- The place of a point on the screen, in 1/256 pixel.
+use Rattle.std.specs.Prelude.{ℕ, ◌*◌, ℤ, pos, ◌+ℤ◌, ◌-ℤ◌, ◌*ℤ◌, unsigned_abs}
+use Rattle.abuf_raster.specs.declared.point.Point.{Point}
+use Rattle.abuf_raster.specs.Triangle.{Triangle}
+use Rattle.abuf_num.specs.Division.{floor_div, round_div}
+use Rattle.abuf_view.specs.declared.clipping.Seen.{Seen}
+use Rattle.abuf_view.specs.declared.clipping.Corners.{Corners}
+
+-- The place on the screen: x to the right and y downward from the upper left corner, both scaled by the height.
+abbrev pub shown : ℕ → ℕ → ℤ → Seen → Point
+shown width height focal s = record {
+  x = pos (128 * width) +ℤ round_div (pos (128 * height) *ℤ focal *ℤ s.x) (pos 65536 *ℤ s.w);
+  y = pos (128 * height) -ℤ round_div (pos (128 * height) *ℤ focal *ℤ s.y) (pos 65536 *ℤ s.w);
+}
+
+-- The depth value: 16777215 at the near plane, whose w is m, and less behind it; rounded down.
+abbrev pub depth_value : ℤ → Seen → ℕ
+depth_value m s = unsigned_abs (floor_div (pos 16777215 *ℤ m) s.w)
+
+-- A triangle on the screen.
+abbrev pub on_screen : ℕ → ℕ → ℤ → ℤ → Corners → Triangle
+on_screen width height focal m t = record {
+  a = shown width height focal t.a;
+  b = shown width height focal t.b;
+  c = shown width height focal t.c;
+  qa = depth_value m t.a;
+  qb = depth_value m t.b;
+  qc = depth_value m t.c;
+}

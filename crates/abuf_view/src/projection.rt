@@ -1,0 +1,94 @@
+// A scene's triangles on the screen.
+ghost use Rattle.std.specs.Prelude.{◌≡◌, ◌≤◌, ◌++◌, All, map, length, option_to_list, OnOk, IfOk, IfSome};
+ghost use Rattle.abuf_view.specs.Camera.{IsNearby, place_of};
+ghost use Rattle.abuf_view.specs.Clip.{IsInFront};
+ghost use Rattle.abuf_view.specs.Eye.{IsEye, clipped_by, shown_by};
+ghost use Rattle.abuf_obj.specs.Sound.{IsNear};
+ghost use Rattle.abuf_scene.specs.Triangles.{IsNearTriangle};
+ghost use Rattle.abuf_view.specs.Primitives.{prims};
+
+use crate::clipping::{Corners, clip};
+use crate::screen::on_screen;
+use crate::seeing::Eye;
+use crate::viewpoint::{Camera, Place};
+use abuf_num::{List, NoMemory, Paint};
+use abuf_raster::ScreenTri;
+use abuf_scene::{Scene, Triangle};
+use std::alloc::Global;
+
+/// The primitives of a scene, and the paint of each: two lists of one length, at most 2097152. The place in the lists is the
+/// primitive's number.
+#[derive(Drop)]
+pub struct Projected {
+    /// Corners in 1/256 pixel, and depth values from 0 to 16777215, at the near plane.
+    pub tris: List<ScreenTri>,
+    pub paints: List<Paint>,
+}
+
+fn place(point: [i64; 3]) -> Place
+    requires { IsNear point }
+    ensures value { result ≡ place_of point }
+    ensures near { IsNearby result }
+{
+    Place {
+        x: point[0],
+        y: point[1],
+        z: point[2],
+    }
+}
+
+impl Projected {
+    /// Puts the part of a triangle last, if there is one.
+    fn push_part(&mut self, eye: &Eye, part: Option<Corners>, paint: Paint) -> Result<(), NoMemory>
+        requires eye { IsEye eye.now }
+        requires part { IfSome part (IsInFront eye.now.view.norm eye.now.view.plane) }
+        ensures tris { OnOk result (self.new.tris ≡ self.old.tris ++ map (shown_by eye.now) (option_to_list part)) }
+        ensures paints { OnOk result (self.new.paints ≡ self.old.paints ++ map (λ _. paint) (option_to_list part)) }
+    {
+        match part {
+            None => Ok(()),
+            Some(corners) => {
+                self.tris.push(on_screen(eye.screen, eye.view, corners))?;
+                self.paints.push(paint)
+            }
+        }
+    }
+
+    /// Puts the primitives of a triangle last.
+    fn push_triangle(&mut self, eye: &Eye, t: &Triangle) -> Result<(), NoMemory>
+        requires eye { IsEye eye.now }
+        requires near { IsNearTriangle t.now }
+        ensures tris { OnOk result (self.new.tris ≡ self.old.tris ++ map (shown_by eye.now) (clipped_by eye.now t.now)) }
+        ensures paints { OnOk result (self.new.paints ≡ self.old.paints ++ map (λ _. t.now.paint) (clipped_by eye.now t.now)) }
+    {
+        let a = eye.sees(place(t.a));
+        let b = eye.sees(place(t.b));
+        let c = eye.sees(place(t.c));
+        let (first, second) = clip(eye.view, a, b, c);
+        self.push_part(eye, first, t.paint)?;
+        self.push_part(eye, second, t.paint)?;
+        Ok(())
+    }
+}
+
+/// The primitives of the scene's triangles, in order, each with the paint of its triangle: none, one or two of a triangle, by the
+/// corners that are in front of the near plane. The caller owes that the scene's coordinates are at most 2147483647 either way, in
+/// units of 1/65536, and that it has at most 1048576 triangles. The error is want of memory alone.
+pub fn project(alloc: Global, scene: &Scene, camera: &Camera) -> Result<Projected, NoMemory>
+    requires near { All IsNearTriangle scene.now.triangles }
+    requires few { length scene.now.triangles ≤ 1048576 }
+    ensures tris { IfOk result (λ p. p.tris ≡ map (λ q. q.triangle) (prims camera.now scene.now.triangles)) }
+    ensures paints { IfOk result (λ p. p.paints ≡ map (λ q. q.paint) (prims camera.now scene.now.triangles)) }
+    ensures one_length { IfOk result (λ p. length p.tris ≡ length p.paints) }
+    ensures few { IfOk result (λ p. length p.tris ≤ 2097152) }
+{
+    let eye = camera.eye();
+    let mut made = Projected {
+        tris: List::new(alloc),
+        paints: List::new(alloc),
+    };
+    for triangle in scene.triangles.as_slice() {
+        made.push_triangle(&eye, triangle)?;
+    }
+    Ok(made)
+}

@@ -1,0 +1,194 @@
+// Whole scenes before a camera, and the camera's bounds.
+ghost use Rattle.std.specs.Prelude.{◌≤◌, All, IfOk, length, unsigned_abs};
+ghost use Rattle.abuf_obj.specs.Sound.{IsNear};
+ghost use Rattle.abuf_scene.specs.Triangles.{IsNearTriangle};
+ghost use Rattle.abuf_raster.specs.Region.{IsRegion};
+
+use crate::{Camera, Projected, project};
+use abuf_num::{List, NoMemory, Paint};
+use abuf_raster::{Pattern, Region, TileWalk, mask_at};
+use abuf_scene::{Scene, Triangle};
+use std::alloc::Global;
+use std::test::Fail;
+
+const WHITE: Paint = Paint {
+    colour: [65535; 3],
+    alpha: 65535,
+};
+
+// A point, in units of 1/65536.
+fn point(x: i64, y: i64, z: i64) -> [i64; 3]
+    requires x { unsigned_abs x ≤ 2147483647 }
+    requires y { unsigned_abs y ≤ 2147483647 }
+    requires z { unsigned_abs z ≤ 2147483647 }
+    ensures { IsNear result }
+{
+    [x, y, z]
+}
+
+// What a camera sees of one white triangle.
+fn seen_by(
+    alloc: Global,
+    camera: &Camera,
+    a: [i64; 3],
+    b: [i64; 3],
+    c: [i64; 3],
+) -> Result<Projected, NoMemory>
+    requires a { IsNear a }
+    requires b { IsNear b }
+    requires c { IsNear c }
+{
+    let mut triangles = List::new(alloc);
+    triangles.push(Triangle {
+        a,
+        b,
+        c,
+        paint: WHITE,
+    })?;
+    let scene = Scene { triangles };
+    project(alloc, &scene, camera)
+}
+
+// How many primitives cover the centre of the pixel.
+fn covering(shown: &Projected, x: u32, y: u32) -> u32
+    requires x { x ≤ 4095 }
+    requires y { y ≤ 4095 }
+{
+    let mut count: u32 = 0;
+    for triangle in shown.tris.as_slice() {
+        count = count.saturating_add(u32::from(mask_at(triangle, x, y, Pattern::One)));
+    }
+    count
+}
+
+// How many pixels of the region the first primitive covers with this depth key.
+fn pixels_at(shown: &Projected, region: Region, depth: u32) -> u32
+    requires { IsRegion region }
+{
+    let mut count: u32 = 0;
+    if let Some(triangle) = shown.tris.as_slice().first() {
+        for hit in TileWalk::new(triangle, 0, region, Pattern::One) {
+            if hit.fragment.depth == depth {
+                count = count.saturating_add(1);
+            }
+        }
+    }
+    count
+}
+
+// The camera at z = 4 that looks along -z, with an image of 4 by 4 pixels.
+fn front() -> Option<Camera> {
+    Camera::new(4, 4, [1, 0, 0, 0], [0, 0, -262144], 65536, 8192)
+}
+
+const FOUR_BY_FOUR: Region = Region {
+    x0: 0,
+    y0: 0,
+    w: 4,
+    h: 4,
+};
+
+// The corners are (0, 0), (1024, 0) and (0, 1024) on the screen, so that the diagonal runs through centres and is a right
+// edge.
+#[test]
+fn upper_left_half_is_covered(rt: HostRuntime) -> Result<(), Fail> {
+    let camera = front().ok_or("camera")?;
+    let a = point(-262144, 262144, 0);
+    let b = point(262144, 262144, 0);
+    let c = point(-262144, -262144, 0);
+    let shown = seen_by(rt.alloc(), &camera, a, b, c)?;
+    assert!(rt; shown.tris.as_slice().len() == 1);
+    assert!(rt; shown.paints.as_slice() == [WHITE].as_slice());
+    for x in 0..4 {
+        for y in 0..4 {
+            assert!(rt; (covering(&shown, x, y) == 1) == (x + y < 3));
+        }
+    }
+    assert!(rt; pixels_at(&shown, FOUR_BY_FOUR, 524287) == 6);
+    Ok(())
+}
+
+// The third corner is behind the camera: the two parts cover the two upper rows, each pixel once.
+#[test]
+fn corner_behind_the_camera_is_cut_off(rt: HostRuntime) -> Result<(), Fail> {
+    let camera = front().ok_or("camera")?;
+    let a = point(-65536, 0, 196608);
+    let b = point(65536, 0, 196608);
+    let c = point(0, 65536, 327680);
+    let shown = seen_by(rt.alloc(), &camera, a, b, c)?;
+    assert!(rt; shown.tris.as_slice().len() == 2);
+    assert!(rt; shown.paints.as_slice() == [WHITE, WHITE].as_slice());
+    for x in 0..4 {
+        for y in 0..4 {
+            assert!(rt; (covering(&shown, x, y) == 1) == (y < 2));
+        }
+    }
+    Ok(())
+}
+
+// Two corners are behind the camera: one part is left, with its tip in the middle of the image.
+#[test]
+fn corner_alone_before_the_camera_is_kept(rt: HostRuntime) -> Result<(), Fail> {
+    let camera = front().ok_or("camera")?;
+    let a = point(0, 0, 196608);
+    let b = point(-65536, 65536, 327680);
+    let c = point(65536, 65536, 327680);
+    let shown = seen_by(rt.alloc(), &camera, a, b, c)?;
+    assert!(rt; shown.tris.as_slice().len() == 1);
+    for x in 0..4 {
+        for y in 0..4 {
+            let inside = (y == 0 && x < 3) || (y == 1 && x == 1);
+            assert!(rt; (covering(&shown, x, y) == 1) == inside);
+        }
+    }
+    Ok(())
+}
+
+// All corners lie on the near plane, and far off the screen: one at X = 4397912293504.
+#[test]
+fn far_corners_on_the_near_plane(rt: HostRuntime) -> Result<(), Fail> {
+    let camera = Camera::new(1, 4096, [1, 0, 0, 0], [0, 0, -262144], 1048576, 4096).ok_or(
+        "camera",
+    )?;
+    let a = point(-2147418112, -2147418112, 258048);
+    let b = point(2147418112, -2147418112, 258048);
+    let c = point(0, 2147418112, 258048);
+    let shown = seen_by(rt.alloc(), &camera, a, b, c)?;
+    let column = Region {
+        x0: 0,
+        y0: 0,
+        w: 1,
+        h: 4096,
+    };
+    assert!(rt; pixels_at(&shown, column, 16777215) == 4096);
+    Ok(())
+}
+
+const TURN: [i32; 4] = [1, 0, 0, 0];
+
+const STILL: [i64; 3] = [0, 0, 0];
+
+#[test]
+fn cameras_at_the_bounds_are_made(rt: HostRuntime) {
+    assert!(rt; Camera::new(1, 1, [0, 0, 0, 1], STILL, 1, 4096).is_some());
+    assert!(rt; Camera::new(4096, 1024, [-1024, 1024, 0, 0], STILL, 1048576, 2147483647).is_some());
+    assert!(rt; Camera::new(1024, 4096, TURN, [-2147483647, 2147483647, 0], 1, 4096).is_some());
+}
+
+#[test]
+fn cameras_past_a_bound_are_refused(rt: HostRuntime) {
+    assert!(rt; Camera::new(0, 1, TURN, STILL, 1, 4096).is_none());
+    assert!(rt; Camera::new(1, 0, TURN, STILL, 1, 4096).is_none());
+    assert!(rt; Camera::new(4097, 1, TURN, STILL, 1, 4096).is_none());
+    assert!(rt; Camera::new(1, 4097, TURN, STILL, 1, 4096).is_none());
+    assert!(rt; Camera::new(4096, 1025, TURN, STILL, 1, 4096).is_none());
+    assert!(rt; Camera::new(1, 1, [0, 0, 0, 0], STILL, 1, 4096).is_none());
+    assert!(rt; Camera::new(1, 1, [1025, 0, 0, 0], STILL, 1, 4096).is_none());
+    assert!(rt; Camera::new(1, 1, [0, 0, -1025, 0], STILL, 1, 4096).is_none());
+    assert!(rt; Camera::new(1, 1, TURN, [0, 2147483648, 0], 1, 4096).is_none());
+    assert!(rt; Camera::new(1, 1, TURN, [0, 0, -2147483648], 1, 4096).is_none());
+    assert!(rt; Camera::new(1, 1, TURN, STILL, 0, 4096).is_none());
+    assert!(rt; Camera::new(1, 1, TURN, STILL, 1048577, 4096).is_none());
+    assert!(rt; Camera::new(1, 1, TURN, STILL, 1, 4095).is_none());
+    assert!(rt; Camera::new(1, 1, TURN, STILL, 1, 2147483648).is_none());
+}
