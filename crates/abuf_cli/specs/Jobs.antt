@@ -1,0 +1,81 @@
+-- The job that the words of a command line ask for, or the refusal.
+use Rattle.std.specs.Prelude.{Bool, false, List, [], ◌∷◌, codes, Option, Some, None, Result, Ok, Err, ◌≡◌, if◌then◌else◌}
+use Rattle.std.specs.Str.{bytes_eq}
+use Rattle.clap.specs.Words.{Row, Text}
+use Rattle.abuf_view.specs.Camera.{camera}
+use Rattle.abuf_cli.specs.Commands.{render_app, matches, text_of}
+use Rattle.abuf_cli.specs.Values.{size_of, pattern_of, threads_of, nodes_of, turn_of, shift_of, focal_of, near_of, background_of, maxval_of}
+use Rattle.abuf_cli.specs.declared.job.Job.{Job}
+use Rattle.abuf_cli.specs.declared.job.Pose.{Pose}
+use Rattle.abuf_cli.specs.declared.job.What.{What}
+use Rattle.abuf_cli.specs.declared.job.What.TheVariants.{Render}
+use Rattle.abuf_cli.specs.declared.job.Opt.{Opt}
+use Rattle.abuf_cli.specs.declared.job.Opt.TheVariants as opt
+use Rattle.abuf_cli.specs.declared.job.WordFault.{WordFault}
+use Rattle.abuf_cli.specs.declared.job.WordFault.TheVariants.{Words, Value, Memory}
+
+-- A value and what follows from it, or the refusal of its option.
+abbrev pub need : {A B : Type 0} → Opt → Option A → (A → Result B WordFault) → Result B WordFault
+need option None next = Err (Value option)
+need option (Some x) next = next x
+
+-- What follows from a value, or its refusal.
+abbrev pub and_then : {A B : Type 0} → Result A WordFault → (A → Result B WordFault) → Result B WordFault
+and_then (Err fault) next = Err fault
+and_then (Ok x) next = next x
+
+-- Where the camera stands and looks, and its lens.
+abbrev pub pose_of : List Row → Result Pose WordFault
+pose_of rows =
+    need opt.Turn (turn_of (text_of (codes "turn") (codes "1,0,0,0") rows)) (λ turn.
+    need opt.Shift (shift_of (text_of (codes "move") (codes "0,0,-4") rows)) (λ shift.
+    need opt.Focal (focal_of (text_of (codes "focal") (codes "1") rows)) (λ focal.
+    need opt.Near (near_of (text_of (codes "near") (codes "0.125") rows)) (λ near.
+    Ok (record { turn = turn; shift = shift; focal = focal; near = near })))))
+
+-- The options in the order in which their texts are refused, each with the text of its default.
+abbrev pub job_of : What → List Row → Result Job WordFault
+job_of what rows =
+    need opt.Size (size_of (text_of (codes "size") (codes "640x480") rows)) (λ size.
+    need opt.Samples (pattern_of (text_of (codes "samples") (codes "1") rows)) (λ pattern.
+    need opt.Threads (threads_of (text_of (codes "threads") (codes "4") rows)) (λ threads.
+    need opt.Nodes (nodes_of (text_of (codes "nodes") (codes "4194304") rows)) (λ nodes.
+    and_then (pose_of rows) (λ pose.
+    need opt.Background (background_of (text_of (codes "background") (codes "0,0,0") rows)) (λ background.
+    need opt.Maxval (maxval_of (text_of (codes "maxval") (codes "255") rows)) (λ maxval.
+    Ok (record {
+      what = what;
+      camera = camera size.width size.height pose.turn pose.shift pose.focal pose.near;
+      pattern = pattern;
+      threads = threads;
+      nodes = nodes;
+      background = background;
+      maxval = maxval;
+    }))))))))
+
+-- Without matches the words aren't understood.
+abbrev pub of_matches : What → Option (List Row) → Result Job WordFault
+of_matches what None = Err Words
+of_matches what (Some rows) = job_of what rows
+
+-- The first word is this one.
+abbrev pub begins_with : Text → List Text → Bool
+begins_with name [] = false
+begins_with name (word ∷ words) = bytes_eq word name
+
+-- The first word names the command, and `clap` reads the words behind it. `Memory` never stands here.
+abbrev pub job : List Text → Result Job WordFault
+job words = if begins_with (codes "render") words then of_matches Render (matches render_app words) else Err Words
+
+-- An answer is the job or its refusal; want of memory may always come.
+abbrev pub Answers : Result Job WordFault → Result Job WordFault → Type 0
+Answers wanted (Ok job) = wanted ≡ Ok job
+Answers wanted (Err Words) = wanted ≡ Err Words
+Answers wanted (Err (Value option)) = wanted ≡ Err (Value option)
+Answers wanted (Err Memory) = Unit {0}
+
+-- A fault that no value has.
+abbrev pub IsOfWords : WordFault → Type 0
+IsOfWords Words = Unit {0}
+IsOfWords (Value option) = ⊥
+IsOfWords Memory = Unit {0}

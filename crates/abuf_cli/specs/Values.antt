@@ -1,0 +1,114 @@
+-- What the texts of the options stand for. None is a text that isn't in its form, or a value out of its range.
+use Rattle.std.specs.Prelude.{◌*◌, ℕ, ℤ, pos, negsuc, min, ◌&&◌, Bool, nat_le, int_lt, not, List, [], ◌∷◌, codes, unsigned_abs, Option, Some, None, option_map, option_and_then, if◌then◌else◌}
+use Rattle.std.specs.Str.{bytes_eq}
+use Rattle.std.specs.Ordering.{int_eq}
+use Rattle.abuf_cli.specs.Texts.{whole_number, cut_at, three_texts, four_texts, signed_number, scaled_number}
+use Rattle.abuf_cli.specs.declared.values.Size.{Size}
+use Rattle.abuf_cli.specs.declared.values.Triple.{Triple}
+use Rattle.abuf_raster.specs.declared.pattern.Pattern.{Pattern}
+use Rattle.abuf_raster.specs.declared.pattern.Pattern.TheVariants.{One, Four, Eight}
+
+-- A width and a height of 1 to 4096 pixels, whose product is at most 4194304.
+abbrev pub size_within : ℕ → ℕ → Option Size
+size_within width height =
+    if nat_le 1 width && (nat_le width 4096 && (nat_le 1 height && (nat_le height 4096 && nat_le (width * height) 4194304)))
+    then Some (record { width = width; height = height }) else None
+
+-- The size of a width and a height, where both are numbers.
+abbrev pub size_from : Option ℕ → Option ℕ → Option Size
+size_from None height = None
+size_from (Some width) None = None
+size_from (Some width) (Some height) = size_within width height
+
+-- `WxH`, each one to four digits; the first `x` (120) divides.
+abbrev pub size_of : List ℕ → Option Size
+size_of text = option_and_then (λ parts. size_from (whole_number 4 parts.0) (whole_number 4 parts.1)) (cut_at 120 text)
+
+-- `1`, `4` or `8`.
+abbrev pub pattern_of : List ℕ → Option Pattern
+pattern_of text =
+    if bytes_eq text (codes "1") then Some One
+    else (if bytes_eq text (codes "4") then Some Four
+    else (if bytes_eq text (codes "8") then Some Eight else None))
+
+-- A number from `least` to `most`.
+abbrev pub counted : ℕ → ℕ → Option ℕ → Option ℕ
+counted least most None = None
+counted least most (Some n) = if nat_le least n && nat_le n most then Some n else None
+
+-- One or two digits, 1 to 64.
+abbrev pub threads_of : List ℕ → Option ℕ
+threads_of text = counted 1 64 (whole_number 2 text)
+
+-- One to seven digits, 1 to 8388608.
+abbrev pub nodes_of : List ℕ → Option ℕ
+nodes_of text = counted 1 8388608 (whole_number 7 text)
+
+-- A number from -1024 to 1024.
+abbrev pub small_part : Option ℤ → Option ℤ
+small_part None = None
+small_part (Some z) = if nat_le (unsigned_abs z) 1024 then Some z else None
+
+-- A part of a turn: an optional `-` and one to four digits, from -1024 to 1024.
+abbrev pub turn_part : List ℕ → Option ℤ
+turn_part text = small_part (signed_number text)
+
+-- A quaternion whose parts are not all 0.
+abbrev pub some_turn : ℤ → ℤ → ℤ → ℤ → Option (List ℤ)
+some_turn a b c d =
+    if int_eq a (pos 0) && (int_eq b (pos 0) && (int_eq c (pos 0) && int_eq d (pos 0))) then None
+    else Some (a ∷ b ∷ c ∷ d ∷ [])
+
+-- The quaternion of four parts, where all are numbers within their range.
+abbrev pub turn_from : Option ℤ → Option ℤ → Option ℤ → Option ℤ → Option (List ℤ)
+turn_from None b c d = None
+turn_from (Some a) None c d = None
+turn_from (Some a) (Some b) None d = None
+turn_from (Some a) (Some b) (Some c) None = None
+turn_from (Some a) (Some b) (Some c) (Some d) = some_turn a b c d
+
+-- `a,b,c,d`.
+abbrev pub turn_of : List ℕ → Option (List ℤ)
+turn_of text = option_and_then (λ t. turn_from (turn_part t.0) (turn_part t.1) (turn_part t.2) (turn_part t.3)) (four_texts text)
+
+-- Three numbers, where there are all three.
+abbrev pub triple_from : Option ℤ → Option ℤ → Option ℤ → Option Triple
+triple_from None y z = None
+triple_from (Some x) None z = None
+triple_from (Some x) (Some y) None = None
+triple_from (Some x) (Some y) (Some z) = Some (record { x = x; y = y; z = z })
+
+-- `x,y,z`, each a decimal number, times k.
+abbrev pub three_scaled : ℕ → List ℕ → Option Triple
+three_scaled k text = option_and_then (λ t. triple_from (scaled_number k t.0) (scaled_number k t.1) (scaled_number k t.2)) (three_texts text)
+
+-- A shift, in units of 1/65536.
+abbrev pub shift_of : List ℕ → Option (List ℤ)
+shift_of text = option_map (λ t. t.x ∷ t.y ∷ t.z ∷ []) (three_scaled 65536 text)
+
+-- A length from `least` to `most`.
+abbrev pub between : ℤ → ℤ → Option ℤ → Option ℤ
+between least most None = None
+between least most (Some z) = if not (int_lt z least) && not (int_lt most z) then Some z else None
+
+-- A focal length of 1 to 1048576, in units of 1/65536.
+abbrev pub focal_of : List ℕ → Option ℤ
+focal_of text = between (pos 1) (pos 1048576) (scaled_number 65536 text)
+
+-- A near distance of 4096 to 2147483647, in units of 1/65536.
+abbrev pub near_of : List ℕ → Option ℤ
+near_of text = between (pos 4096) (pos 2147483647) (scaled_number 65536 text)
+
+-- A channel of a colour, held into 0 to 65535.
+abbrev pub channel : ℤ → ℕ
+channel (pos n) = min n 65535
+channel (negsuc n) = 0
+
+-- `r,g,b`, each a decimal number of which 1 is full; what lies past 0 or 1 is held.
+abbrev pub background_of : List ℕ → Option (List ℕ)
+background_of text = option_map (λ t. channel t.x ∷ channel t.y ∷ channel t.z ∷ []) (three_scaled 65535 text)
+
+-- `255` or `65535`.
+abbrev pub maxval_of : List ℕ → Option ℕ
+maxval_of text =
+    if bytes_eq text (codes "255") then Some 255 else (if bytes_eq text (codes "65535") then Some 65535 else None)

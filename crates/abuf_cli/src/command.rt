@@ -1,0 +1,101 @@
+// Commands by `clap`.
+ghost use Rattle.std.specs.Prelude.{◌≡◌, IfOk, IfErr, map, option_map, Some, None, Err, true};
+ghost use Rattle.std.specs.String.{string_bytes};
+ghost use Rattle.clap.specs.Words.{app_of, rule_of, rows_of, found_of, with_rule, first_of, is_simple_and_free};
+ghost use Rattle.abuf_cli.specs.Commands.{option_rule, option_names, with_options, render_app, matches, text_of};
+ghost use Rattle.abuf_cli.specs.Jobs.{IsOfWords};
+
+use crate::job::WordFault;
+use clap::error::ErrorKind;
+use clap::{Arg, ArgMatches, Command};
+use std::alloc::{AllocError, Global};
+
+// The options of every command.
+static OPTIONS: [&str; 10] = [
+    "size",
+    "samples",
+    "threads",
+    "nodes",
+    "turn",
+    "move",
+    "focal",
+    "near",
+    "background",
+    "maxval",
+];
+
+fn with_option<'a>(
+    alloc: Global,
+    command: Command<'a>,
+    name: &'a str,
+) -> Result<Command<'a>, AllocError>
+    ensures { IfOk result (λ r. app_of r ≡ with_rule (app_of command.entry) (option_rule name.entry.now)) }
+{
+    command.arg(Arg::new(alloc, name).long(name))
+}
+
+// A command with an option for each of the names.
+fn with_options_of<'a>(
+    alloc: Global,
+    command: Command<'a>,
+    names: &'static [&'static str],
+) -> Result<Command<'a>, AllocError>
+    ensures { IfOk result (λ r. app_of r ≡ with_options (app_of command.entry) (map (λ n. n.now) names.now)) }
+{
+    let mut command = command;
+    for name in names {
+        command = with_option(alloc, command, name)?;
+    }
+    Ok(command)
+}
+
+fn render<'a>(alloc: Global) -> Result<Command<'a>, AllocError>
+    ensures { IfOk result (λ r. app_of r ≡ render_app) }
+{
+    with_options_of(alloc, Command::new(alloc, "abuf"), &OPTIONS)
+}
+
+// What `clap` finds in the words, of which the first is the command's name.
+fn parse<'a>(command: Command<'a>, words: &'a [String]) -> Result<ArgMatches<'a>, WordFault>
+    requires { is_simple_and_free (app_of command) ≡ true }
+    ensures found { IfOk result (λ m. matches (app_of command.entry) (map string_bytes words.entry.now) ≡ Some (rows_of (found_of m))) }
+    ensures none { result ≡ Err WordFault.Words → matches (app_of command.entry) (map string_bytes words.entry.now) ≡ None }
+    ensures cause { IfErr result IsOfWords }
+{
+    match command.try_get_matches_from(words) {
+        Ok(matches) => Ok(matches),
+        Err(error) => match error.kind() {
+            ErrorKind::OutOfMemory => Err(WordFault::Memory),
+            _ => Err(WordFault::Words),
+        },
+    }
+}
+
+// The text that an option was given.
+fn given_text<'a>(matches: &ArgMatches<'a>, name: &str) -> Option<&'a str>
+    ensures { option_map (λ t. t.now) result ≡ first_of name.now (rows_of (found_of matches.now)) }
+{
+    matches.get_str(name)
+}
+
+/// The text of an option, or that of its default.
+pub fn text_of<'a>(matches: &ArgMatches<'a>, name: &str, default: &'a str) -> &'a str
+    ensures { result.now ≡ text_of name.now default.now (rows_of (found_of matches.now)) }
+{
+    match given_text(matches, name) {
+        Some(text) => text,
+        None => default,
+    }
+}
+
+/// What `clap` finds in the words of `render`, of which the first is the command's name.
+pub fn render_matches<'a>(alloc: Global, words: &'a [String]) -> Result<ArgMatches<'a>, WordFault>
+    ensures found { IfOk result (λ m. matches render_app (map string_bytes words.entry.now) ≡ Some (rows_of (found_of m))) }
+    ensures none { result ≡ Err WordFault.Words → matches render_app (map string_bytes words.entry.now) ≡ None }
+    ensures cause { IfErr result IsOfWords }
+{
+    let Ok(command) = render(alloc) else {
+        return Err(WordFault::Memory);
+    };
+    parse(command, words)
+}

@@ -1,0 +1,219 @@
+// The job that the words ask for.
+ghost use Rattle.std.specs.Prelude.{◌≡◌, map, IfOk};
+ghost use Rattle.std.specs.String.{string_bytes};
+ghost use Rattle.clap.specs.Words.{rows_of, found_of};
+ghost use Rattle.abuf_view.specs.Camera.{IsSize, IsCamera, camera};
+ghost use Rattle.abuf_cli.specs.Commands.{render_app, matches};
+ghost use Rattle.abuf_cli.specs.Sound.{IsJob};
+ghost use Rattle.abuf_cli.specs.Jobs.{pose_of, job_of, of_matches, begins_with, job, Answers};
+
+use crate::command::{render_matches, text_of};
+use crate::values::{
+    Size, background_of, focal_of, maxval_of, near_of, nodes_of, pattern_of, shift_of, size_of,
+    threads_of, turn_of,
+};
+use abuf_raster::Pattern;
+use abuf_view::Camera;
+use clap::ArgMatches;
+use std::alloc::Global;
+
+/// What is to be made: the command that the first word names.
+#[derive(Clone, Copy, Debug, PartialEq, Eq)]
+pub enum What {
+    /// The image of a scene, by `render`.
+    Render,
+}
+
+/// An option of the command line, in the order in which their texts are refused.
+#[derive(Clone, Copy, Debug, PartialEq, Eq)]
+pub enum Opt {
+    /// `--size WxH`, in pixels: each from 1 to 4096, and their product at most 4194304. 640x480 by default.
+    Size,
+    /// `--samples`: 1, 4 or 8 to a pixel. 1 by default.
+    Samples,
+    /// `--threads`, from 1 to 64. 4 by default.
+    Threads,
+    /// `--nodes`, the fragments that the pool has room for, from 1 to 8388608. 4194304 by default.
+    Nodes,
+    /// `--turn a,b,c,d`, a quaternion: each part from -1024 to 1024, and not all 0. 1,0,0,0 by default.
+    Turn,
+    /// `--move x,y,z`, a shift in lengths of the scene: at most 2147483647/65536 either way. 0,0,-4 by default.
+    Shift,
+    /// `--focal`, from 1/65536 to 16. 1 by default.
+    Focal,
+    /// `--near`, from 1/16 to 2147483647/65536. 0.125 by default.
+    Near,
+    /// `--background r,g,b`, of which 1 is full; what lies past 0 or 1 is held. 0,0,0 by default.
+    Background,
+    /// `--maxval`: 255 or 65535. 255 by default.
+    Maxval,
+}
+
+/// Why the words give no job.
+#[derive(Clone, Copy, Debug, PartialEq, Eq)]
+pub enum WordFault {
+    /// There is no word, the first names no command, or `clap` has no matches for the others.
+    Words,
+    /// The text of this option isn't in its form or range; it is the first such option.
+    Value { option: Opt },
+    /// Want of memory; it may come at any words.
+    Memory,
+}
+
+/// What the words ask for. Each value is within the range of its option.
+#[derive(Clone, Copy)]
+pub struct Job {
+    pub what: What,
+    /// The camera, and with it the size of the image.
+    pub camera: Camera,
+    /// The pattern of a pixel's samples.
+    pub pattern: Pattern,
+    /// The number of threads that draw and resolve, from 1 to 64.
+    pub threads: u32,
+    /// The number of fragments that the pool has room for, from 1 to 8388608.
+    pub nodes: u32,
+    /// The colour behind all primitives, each channel from 0 to 65535.
+    pub background: [u16; 3],
+    /// The greatest value in the image: 255 or 65535.
+    pub maxval: u32,
+}
+
+/// Where the camera stands and looks, and its lens. Lengths are in units of 1/65536.
+#[derive(Clone, Copy)]
+pub struct Pose {
+    pub turn: [i32; 4],
+    pub shift: [i64; 3],
+    pub focal: i64,
+    pub near: i64,
+}
+
+// What the pose of a camera keeps to is Camera's own invariant, in parts.
+impl Pose {
+    ghost use Rattle.std.specs.Prelude.{IfOk};
+    ghost use Rattle.abuf_cli.specs.Poses.{IsPose};
+
+    // The pose that the texts give.
+    fn read(matches: &ArgMatches) -> Result<Pose, WordFault>
+        ensures value { result ≡ pose_of (rows_of (found_of matches.now)) }
+        ensures sound { IfOk result IsPose }
+    {
+        let Some(turn) = turn_of(text_of(matches, "turn", "1,0,0,0").as_bytes()) else {
+            return Err(WordFault::Value { option: Opt::Turn });
+        };
+        let Some(shift) = shift_of(text_of(matches, "move", "0,0,-4").as_bytes()) else {
+            return Err(WordFault::Value { option: Opt::Shift });
+        };
+        let Some(focal) = focal_of(text_of(matches, "focal", "1").as_bytes()) else {
+            return Err(WordFault::Value { option: Opt::Focal });
+        };
+        let Some(near) = near_of(text_of(matches, "near", "0.125").as_bytes()) else {
+            return Err(WordFault::Value { option: Opt::Near });
+        };
+        Ok(Pose {
+            turn,
+            shift,
+            focal,
+            near,
+        })
+    }
+
+    // The camera of this size.
+    fn camera(self, size: Size) -> Camera
+        requires pose { IsPose self }
+        requires size { IsSize size.width size.height }
+        ensures value { result ≡ camera size.width size.height self.turn self.shift self.focal self.near }
+        ensures sound { IsCamera result }
+    {
+        match Camera::new(
+            size.width,
+            size.height,
+            self.turn,
+            self.shift,
+            self.focal,
+            self.near,
+        ) {
+            Some(camera) => camera,
+            None => unreachable!(),
+        }
+    }
+}
+
+// The job of the texts, in the order in which they are refused.
+fn job_of(what: What, matches: &ArgMatches) -> Result<Job, WordFault>
+    ensures value { result ≡ job_of what (rows_of (found_of matches.now)) }
+    ensures sound { IfOk result IsJob }
+{
+    let Some(size) = size_of(text_of(matches, "size", "640x480").as_bytes()) else {
+        return Err(WordFault::Value { option: Opt::Size });
+    };
+    let Some(pattern) = pattern_of(text_of(matches, "samples", "1")) else {
+        return Err(WordFault::Value {
+            option: Opt::Samples,
+        });
+    };
+    let Some(threads) = threads_of(text_of(matches, "threads", "4").as_bytes()) else {
+        return Err(WordFault::Value {
+            option: Opt::Threads,
+        });
+    };
+    let Some(nodes) = nodes_of(text_of(matches, "nodes", "4194304").as_bytes()) else {
+        return Err(WordFault::Value { option: Opt::Nodes });
+    };
+    let pose = Pose::read(matches)?;
+    let Some(background) = background_of(text_of(matches, "background", "0,0,0").as_bytes()) else {
+        return Err(WordFault::Value {
+            option: Opt::Background,
+        });
+    };
+    let Some(maxval) = maxval_of(text_of(matches, "maxval", "255")) else {
+        return Err(WordFault::Value {
+            option: Opt::Maxval,
+        });
+    };
+    Ok(Job {
+        what,
+        camera: pose.camera(size),
+        pattern,
+        threads,
+        nodes,
+        background,
+        maxval,
+    })
+}
+
+// The job of the words of `render`, of which the first is the command's name.
+fn render_job(alloc: Global, words: &[String]) -> Result<Job, WordFault>
+    ensures answer { Answers (of_matches What.Render (matches render_app (map string_bytes words.now))) result }
+    ensures sound { IfOk result IsJob }
+{
+    match render_matches(alloc, words) {
+        Ok(matches) => job_of(What::Render, &matches),
+        Err(fault) => Err(fault),
+    }
+}
+
+// The first word is this one.
+fn begins_with(words: &[String], name: &str) -> bool
+    ensures { result ≡ begins_with name.now (map string_bytes words.now) }
+{
+    match words.first() {
+        Some(word) => word.as_str() == name,
+        None => false,
+    }
+}
+
+/// Reads the words behind the program's name: the name of a command, then what `clap` reads.
+///
+/// `Words` comes where there is no first word, where it names no command, or where `clap` has no matches for the words
+/// behind it (a request for help is such a case). `Value` comes where the words parse and a text isn't in its form or
+/// range, and names the first such option in the order of [`Opt`].
+pub fn read_words(alloc: Global, words: &[String]) -> Result<Job, WordFault>
+    ensures answer { Answers (job (map string_bytes words.now)) result }
+    ensures sound { IfOk result IsJob }
+{
+    if begins_with(words, "render") {
+        render_job(alloc, words)
+    } else {
+        Err(WordFault::Words)
+    }
+}

@@ -1,0 +1,207 @@
+// What the texts of the options stand for.
+ghost use Rattle.std.specs.Prelude.{◌≡◌, ◌≤◌, ◌<◌, ◌^◌, ◌⊎◌, pos, IfSome, unsigned_abs};
+ghost use Rattle.abuf_view.specs.Camera.{IsSize, IsTurn, IsNearby, IsFrom, turn_of as quaternion, place_of};
+ghost use Rattle.abuf_cli.specs.Values.{size_of, size_within, pattern_of, counted, threads_of, nodes_of, turn_part, some_turn, turn_of, three_scaled, shift_of, between, focal_of, near_of, channel, background_of, maxval_of};
+
+use crate::parts::{cut_at, four_texts, scaled_number, signed_number, three_texts, whole_number};
+use abuf_raster::Pattern;
+
+/// A width and a height, in pixels.
+#[derive(Clone, Copy)]
+pub struct Size {
+    pub width: u32,
+    pub height: u32,
+}
+
+/// Three numbers of one text.
+#[derive(Clone, Copy)]
+pub struct Triple {
+    pub x: i64,
+    pub y: i64,
+    pub z: i64,
+}
+
+// A width and a height within the limits.
+fn size_within(width: u32, height: u32) -> Option<Size>
+    requires width { width < 10 ^ 4 }
+    requires height { height < 10 ^ 4 }
+    ensures value { result ≡ size_within width height }
+    ensures within { IfSome result (λ s. IsSize s.width s.height) }
+{
+    if 1 <= width && width <= 4096 && 1 <= height && height <= 4096 && width * height <= 4194304 {
+        Some(Size { width, height })
+    } else {
+        None
+    }
+}
+
+/// `WxH`.
+pub fn size_of(text: &[u8]) -> Option<Size>
+    ensures value { result ≡ size_of text.now }
+    ensures within { IfSome result (λ s. IsSize s.width s.height) }
+{
+    let (width, height) = cut_at(text, b'x')?;
+    match (whole_number(width, 4), whole_number(height, 4)) {
+        (Some(width), Some(height)) => size_within(width, height),
+        _ => None,
+    }
+}
+
+/// The pattern of so many samples.
+pub fn pattern_of(text: &str) -> Option<Pattern>
+    ensures { result ≡ pattern_of text.now }
+{
+    match text {
+        "1" => Some(Pattern::One),
+        "4" => Some(Pattern::Four),
+        "8" => Some(Pattern::Eight),
+        _ => None,
+    }
+}
+
+// A number from `least` to `most`.
+fn counted(least: u32, most: u32, number: Option<u32>) -> Option<u32>
+    ensures value { result ≡ counted least most number }
+    ensures range { IfSome result (λ n. (least ≤ n) × (n ≤ most)) }
+{
+    match number {
+        Some(n) if least <= n && n <= most => Some(n),
+        _ => None,
+    }
+}
+
+/// A number of threads.
+pub fn threads_of(text: &[u8]) -> Option<u32>
+    ensures value { result ≡ threads_of text.now }
+    ensures range { IfSome result (λ n. (1 ≤ n) × (n ≤ 64)) }
+{
+    counted(1, 64, whole_number(text, 2))
+}
+
+/// A number of nodes.
+pub fn nodes_of(text: &[u8]) -> Option<u32>
+    ensures value { result ≡ nodes_of text.now }
+    ensures range { IfSome result (λ n. (1 ≤ n) × (n ≤ 8388608)) }
+{
+    counted(1, 8388608, whole_number(text, 7))
+}
+
+// A part of a turn.
+fn turn_part(text: &[u8]) -> Option<i32>
+    ensures value { result ≡ turn_part text.now }
+    ensures small { IfSome result (λ z. unsigned_abs z ≤ 1024) }
+{
+    match signed_number(text) {
+        Some(part) if -1024 <= part && part <= 1024 => Some(part as i32),
+        _ => None,
+    }
+}
+
+// A quaternion whose parts are not all 0.
+fn some_turn(a: i32, b: i32, c: i32, d: i32) -> Option<[i32; 4]>
+    requires a { unsigned_abs a ≤ 1024 }
+    requires b { unsigned_abs b ≤ 1024 }
+    requires c { unsigned_abs c ≤ 1024 }
+    requires d { unsigned_abs d ≤ 1024 }
+    ensures value { result ≡ some_turn a b c d }
+    ensures turn { IfSome result (λ t. IsTurn (quaternion t)) }
+{
+    if a == 0 && b == 0 && c == 0 && d == 0 {
+        None
+    } else {
+        Some([a, b, c, d])
+    }
+}
+
+/// `a,b,c,d`.
+pub fn turn_of(text: &[u8]) -> Option<[i32; 4]>
+    ensures value { result ≡ turn_of text.now }
+    ensures turn { IfSome result (λ t. IsTurn (quaternion t)) }
+{
+    let (a, b, c, d) = four_texts(text)?;
+    match (turn_part(a), turn_part(b), turn_part(c), turn_part(d)) {
+        (Some(a), Some(b), Some(c), Some(d)) => some_turn(a, b, c, d),
+        _ => None,
+    }
+}
+
+// `x,y,z`, times k.
+fn three_scaled(text: &[u8], k: u32) -> Option<Triple>
+    requires least { 1 ≤ k }
+    requires most { k ≤ 65536 }
+    ensures value { result ≡ three_scaled k text.now }
+    ensures range { IfSome result (λ t. (unsigned_abs t.x ≤ 2147483647) × (unsigned_abs t.y ≤ 2147483647) × (unsigned_abs t.z ≤ 2147483647)) }
+{
+    let (x, y, z) = three_texts(text)?;
+    match (
+        scaled_number(x, k),
+        scaled_number(y, k),
+        scaled_number(z, k),
+    ) {
+        (Some(x), Some(y), Some(z)) => Some(Triple { x, y, z }),
+        _ => None,
+    }
+}
+
+/// A shift, in units of 1/65536.
+pub fn shift_of(text: &[u8]) -> Option<[i64; 3]>
+    ensures value { result ≡ shift_of text.now }
+    ensures range { IfSome result (λ t. IsNearby (place_of t)) }
+{
+    let t = three_scaled(text, 65536)?;
+    Some([t.x, t.y, t.z])
+}
+
+// A length from `least` to `most`.
+fn between(least: i64, most: i64, length: Option<i64>) -> Option<i64>
+    ensures value { result ≡ between least most length }
+    ensures range { IfSome result (IsFrom least most) }
+{
+    match length {
+        Some(length) if least <= length && length <= most => Some(length),
+        _ => None,
+    }
+}
+
+/// A focal length, in units of 1/65536.
+pub fn focal_of(text: &[u8]) -> Option<i64>
+    ensures value { result ≡ focal_of text.now }
+    ensures range { IfSome result (IsFrom (pos 1) (pos 1048576)) }
+{
+    between(1, 1048576, scaled_number(text, 65536))
+}
+
+/// A near distance, in units of 1/65536.
+pub fn near_of(text: &[u8]) -> Option<i64>
+    ensures value { result ≡ near_of text.now }
+    ensures range { IfSome result (IsFrom (pos 4096) (pos 2147483647)) }
+{
+    between(4096, 2147483647, scaled_number(text, 65536))
+}
+
+// A channel of a colour.
+fn channel(value: i64) -> u16
+    ensures { result ≡ channel value }
+{
+    value.clamp(0, 65535) as u16
+}
+
+/// `r,g,b`, each in parts of 65535.
+pub fn background_of(text: &[u8]) -> Option<[u16; 3]>
+    ensures { result ≡ background_of text.now }
+{
+    let t = three_scaled(text, 65535)?;
+    Some([channel(t.x), channel(t.y), channel(t.z)])
+}
+
+/// The greatest value in the image.
+pub fn maxval_of(text: &str) -> Option<u32>
+    ensures value { result ≡ maxval_of text.now }
+    ensures either { IfSome result (λ n. (n ≡ 255) ⊎ (n ≡ 65535)) }
+{
+    match text {
+        "255" => Some(255),
+        "65535" => Some(65535),
+        _ => None,
+    }
+}
