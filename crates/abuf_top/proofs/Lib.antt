@@ -1,0 +1,4 @@
+pub mod Asking
+pub mod Drawing
+pub mod Telling
+pub mod Answering

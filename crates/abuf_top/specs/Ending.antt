@@ -1,0 +1,61 @@
+-- What the drawing leaves, and how it ends.
+use Rattle.std.specs.Prelude.{◌≡◌, ◌≤◌, ◌*◌, ◌⊎◌, ℕ, List, length, codes, Option, IsSome, IsNone, Result, Ok, Err}
+use Rattle.std.specs.Io.KnownBytes.{Appends, Keeps}
+use Rattle.abuf_cli.specs.declared.job.Job.{Job}
+use Rattle.abuf_frame.specs.Closing.{Ended}
+use Rattle.abuf_resolve.specs.Words.{AreListsOf}
+use Rattle.abuf_top.specs.Refusals.{refusal_status, refusal_text, pool_text}
+use Rattle.abuf_top.specs.Image.{Drawing, fragments, total}
+use Rattle.abuf_top.specs.Verdict.{Verdict, Refuse, Write}
+use Rattle.abuf_top.specs.Table.{Taken, TookPart, TookLine, Failed}
+use Rattle.abuf_top.specs.declared.stop.Refusal.{Refusal}
+use Rattle.abuf_top.specs.declared.stop.Stop.{Stop}
+use Rattle.abuf_top.specs.declared.stop.Stop.TheVariants as stop
+
+-- The closed frame into which a drawing was drawn: it has a list for each pixel of the image, the job's nodes, and as many
+-- entries as there are fragments. Where these aren't more than the nodes, its lists are those of the fragments.
+pub record IsFrameOf (d : Drawing) (closed : Ended) : Type 0 where
+  pub pixels : closed.pixels ≡ d.job.camera.width * d.job.camera.height
+  pub nodes : closed.nodes ≡ d.job.nodes
+  pub count : closed.fragments ≡ total d
+  pub each : length closed.lists ≡ d.job.camera.width * d.job.camera.height
+  pub lists : total d ≤ d.job.nodes → AreListsOf (fragments d) closed.lists
+
+-- All that is to be written was written.
+abbrev pub Finished : Verdict → Taken → Type 0
+Finished line out = (bytes : List ℕ) × (line ≡ Write bytes) × Appends out.old out.new bytes
+
+-- By a full pool, by a fault of writing, which comes only where the count rose, or by want of memory.
+abbrev pub StopsDrawing : Verdict → Taken → Stop → Type 0
+StopsDrawing line out (stop.Refused r) = ⊥
+StopsDrawing line out (stop.PoolFull fragments nodes) = (line ≡ Refuse 5 (pool_text fragments nodes)) × Keeps out.old out.new
+StopsDrawing line out stop.ReadFault = ⊥
+StopsDrawing line out stop.WriteFault = ((bytes : List ℕ) × (line ≡ Write bytes) × TookPart out bytes) × Failed out
+StopsDrawing line out stop.Memory = Keeps out.old out.new
+
+-- A frame is handed back where the image was written, where writing it failed, and where the pool was full.
+abbrev pub HandsBack : {T : Type 0} → Result T Stop → Option Ended → Type 0
+HandsBack (Ok _) closed = IsSome closed
+HandsBack (Err (stop.Refused r)) closed = IsNone closed
+HandsBack (Err (stop.PoolFull fragments nodes)) closed = IsSome closed
+HandsBack (Err stop.ReadFault) closed = IsNone closed
+HandsBack (Err stop.WriteFault) closed = IsSome closed
+HandsBack (Err stop.Memory) closed = IsNone closed
+
+-- What a run says, and its status: those of its stop. Where memory runs out for the text of a refusal, it is that of want of
+-- memory.
+abbrev pub Says : ℕ → List ℕ → ℕ → Taken → Type 0
+Says wanted text status err =
+    ((status ≡ wanted) × TookLine err text) ⊎ ((status ≡ 8) × TookLine err (codes "no memory"))
+
+abbrev pub Reports : Stop → ℕ → Taken → Type 0
+Reports (stop.Refused r) status err = Says (refusal_status r) (refusal_text r) status err
+Reports (stop.PoolFull fragments nodes) status err = Says 5 (pool_text fragments nodes) status err
+Reports stop.ReadFault status err = (status ≡ 6) × TookLine err (codes "read fault")
+Reports stop.WriteFault status err = (status ≡ 7) × TookLine err (codes "write fault")
+Reports stop.Memory status err = (status ≡ 8) × TookLine err (codes "no memory")
+
+-- The frame of a run is that of its drawing.
+abbrev pub IsFrameOfLine : Result Drawing Refusal → Ended → Type 0
+IsFrameOfLine (Err refusal) closed = ⊥
+IsFrameOfLine (Ok d) closed = IsFrameOf d closed

@@ -1,0 +1,43 @@
+-- What a job draws, from its primitives alone, sample by sample.
+use Rattle.std.specs.Prelude.{ℕ, List, length, map}
+use Rattle.abuf_num.specs.declared.plain.Paint.{Paint}
+use Rattle.abuf_raster.specs.declared.region.Region.{Region}
+use Rattle.abuf_raster.specs.Samples.{offsets_of}
+use Rattle.abuf_raster.specs.Triangle.{Triangle}
+use Rattle.abuf_raster.specs.Hits.{all_fragments}
+use Rattle.abuf_view.specs.Primitives.{Primitive}
+use Rattle.abuf_resolve.specs.Sums.{region_sums}
+use Rattle.abuf_pam.specs.Image as pam
+use Rattle.abuf_cli.specs.declared.job.Job.{Job}
+
+-- What is drawn: the job, and the primitives of its scene in order, as their triangles on the screen and their paints. The
+-- place of a primitive in the lists is its number.
+pub record Drawing : Type 0 where
+  pub job : Job
+  pub triangles : List Triangle
+  pub paints : List Paint
+
+abbrev pub drawing_of : Job → List Primitive → Drawing
+drawing_of job primitives = record {
+  job = job;
+  triangles = map (λ p. p.triangle) primitives;
+  paints = map (λ p. p.paint) primitives;
+}
+
+-- All pixels of the image.
+abbrev pub whole_image : Job → Region
+whole_image job = record { x0 = 0; y0 = 0; w = job.camera.width; h = job.camera.height }
+
+-- The fragments of all primitives in the whole image: each the place of its pixel and its packed word.
+abbrev pub fragments : Drawing → List (ℕ × ℕ)
+fragments d = all_fragments d.triangles 0 (offsets_of d.job.pattern) (whole_image d.job)
+
+-- How many they are.
+abbrev pub total : Drawing → ℕ
+total d = length (fragments d)
+
+-- The image: for each pixel and channel the mean over the samples of the pattern, each sample's colour by the primitives
+-- that cover it.
+unfoldable pub image : Drawing → List ℕ
+image d = pam.image d.job.camera.width d.job.camera.height d.job.maxval (length (offsets_of d.job.pattern))
+    (region_sums (offsets_of d.job.pattern) d.job.background d.triangles d.paints (whole_image d.job))

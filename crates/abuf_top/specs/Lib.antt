@@ -1,0 +1,10 @@
+pub mod Refusals
+pub mod Libraries
+pub mod Stopped
+pub mod Ends
+pub mod Image
+pub mod Verdict
+pub mod Fetches
+pub mod Prepared
+pub mod Table
+pub mod Ending

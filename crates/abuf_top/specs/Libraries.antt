@@ -1,0 +1,59 @@
+-- The libraries of a scene, one after another: the first refusal, how many are asked for, and their contents.
+use Rattle.std.specs.Prelude.{◌++◌, ◌∷◌, [], ◌+◌, ℕ, nat_lt, List, length, Option, Some, None, if◌then◌else◌}
+use Rattle.abuf_mtl.specs.Fault.{library_fault}
+use Rattle.abuf_mtl.specs.declared.fault.MtlWhy.{MtlWhy}
+use Rattle.abuf_top.specs.declared.stop.Refusal.{Refusal}
+use Rattle.abuf_top.specs.declared.stop.Refusal.TheVariants.{LibraryMissing, LibraryTooLong, LibraryLine}
+
+-- What a shelf holds: the content under a name, or nothing.
+abbrev pub Held : Type 0
+Held = List ℕ → Option (List ℕ)
+
+abbrev pub line_refusal : ℕ → Option (ℕ × MtlWhy) → Option Refusal
+line_refusal k None = None
+line_refusal k (Some fault) = Some (LibraryLine k fault.0 fault.1)
+
+-- What refuses library k, which stands behind the libraries `before`: it isn't held, it is longer than 67108864 bytes,
+-- or its first faulty line.
+abbrev pub library_refusal : ℕ → List (List ℕ) → Option (List ℕ) → Option Refusal
+library_refusal k before None = Some (LibraryMissing k)
+library_refusal k before (Some content) =
+    if nat_lt 67108864 (length content) then Some (LibraryTooLong k) else line_refusal k (library_fault before content)
+
+abbrev pub or_later : Option Refusal → Option Refusal → Option Refusal
+or_later None later = later
+or_later (Some refusal) later = Some refusal
+
+abbrev pub with_content : List (List ℕ) → Option (List ℕ) → List (List ℕ)
+with_content before None = before
+with_content before (Some content) = before ++ content ∷ []
+
+-- The first refusal of the libraries of these names, of which the first has the number k.
+abbrev pub refusal_from : Held → ℕ → List (List ℕ) → List (List ℕ) → Option Refusal
+refusal_from held k before [] = None
+refusal_from held k before (name ∷ names) =
+    or_later (library_refusal k before (held name)) (refusal_from held (k + 1) (with_content before (held name)) names)
+
+abbrev pub first_refusal : Held → List (List ℕ) → Option Refusal
+first_refusal held names = refusal_from held 1 [] names
+
+abbrev pub one_and : Option Refusal → ℕ → ℕ
+one_and None later = 1 + later
+one_and (Some refusal) later = 1
+
+-- How many of the libraries are asked for: up to the first that is refused.
+abbrev pub asked_from : Held → ℕ → List (List ℕ) → List (List ℕ) → ℕ
+asked_from held k before [] = 0
+asked_from held k before (name ∷ names) =
+    one_and (library_refusal k before (held name)) (asked_from held (k + 1) (with_content before (held name)) names)
+
+abbrev pub asked : Held → List (List ℕ) → ℕ
+asked held names = asked_from held 1 [] names
+
+-- The contents of the libraries of these names, behind others.
+abbrev pub contents_from : Held → List (List ℕ) → List (List ℕ) → List (List ℕ)
+contents_from held before [] = before
+contents_from held before (name ∷ names) = contents_from held (with_content before (held name)) names
+
+abbrev pub contents : Held → List (List ℕ) → List (List ℕ)
+contents held names = contents_from held [] names

@@ -1,0 +1,89 @@
+-- The statuses and texts of everything that a run can be refused by.
+use Rattle.std.specs.Prelude.{◌++◌, ℕ, List, codes}
+use Rattle.std.specs.Fmt.{decimal}
+use Rattle.abuf_cli.specs.declared.job.Opt.{Opt}
+use Rattle.abuf_cli.specs.declared.job.Opt.TheVariants as opt
+use Rattle.abuf_obj.specs.declared.fault.Why.{Why}
+use Rattle.abuf_obj.specs.declared.fault.Why.TheVariants as obj
+use Rattle.abuf_mtl.specs.declared.fault.MtlWhy.{MtlWhy}
+use Rattle.abuf_mtl.specs.declared.fault.MtlWhy.TheVariants as mtl
+use Rattle.abuf_top.specs.declared.stop.Refusal.{Refusal}
+use Rattle.abuf_top.specs.declared.stop.Refusal.TheVariants as refusal
+use Rattle.abuf_top.specs.declared.stop.Stop.{Stop}
+use Rattle.abuf_top.specs.declared.stop.Stop.TheVariants as stop
+
+-- The name of an option in messages: what the user writes behind `--`.
+abbrev pub option_text : Opt → List ℕ
+option_text opt.Size = codes "size"
+option_text opt.Samples = codes "samples"
+option_text opt.Threads = codes "threads"
+option_text opt.Nodes = codes "nodes"
+option_text opt.Turn = codes "turn"
+option_text opt.Shift = codes "move"
+option_text opt.Focal = codes "focal"
+option_text opt.Near = codes "near"
+option_text opt.Background = codes "background"
+option_text opt.Maxval = codes "maxval"
+
+-- What is wrong with a line of a scene.
+abbrev pub scene_cause : Why → List ℕ
+scene_cause obj.Keyword = codes "unknown keyword"
+scene_cause obj.BadNumber = codes "bad number"
+scene_cause obj.BadIndex = codes "bad index"
+scene_cause obj.TooFewElements = codes "too few elements"
+scene_cause obj.TooManyElements = codes "too many elements"
+scene_cause obj.NoName = codes "no name"
+scene_cause obj.TooManyPoints = codes "too many points"
+scene_cause obj.TooManyTriangles = codes "too many triangles"
+scene_cause obj.TooManyLibraries = codes "too many libraries"
+scene_cause obj.TooManyMaterials = codes "too many materials"
+
+-- What is wrong with a line of a library.
+abbrev pub library_cause : MtlWhy → List ℕ
+library_cause mtl.BadNumber = codes "bad number"
+library_cause mtl.NoName = codes "no name"
+library_cause mtl.TooMany = codes "too many materials"
+library_cause mtl.NoMaterial = codes "no material"
+
+-- A line of the scene, and what is wrong with it.
+abbrev pub line_text : ℕ → List ℕ → List ℕ
+line_text line cause = codes "line " ++ decimal line ++ codes ": " ++ cause
+
+-- Refusals of the words have status 2, those of the scene 3, those of a library 4.
+abbrev pub refusal_status : Refusal → ℕ
+refusal_status refusal.Words = 2
+refusal_status (refusal.Value option) = 2
+refusal_status refusal.SceneTooLong = 3
+refusal_status (refusal.SceneLine line why) = 3
+refusal_status (refusal.UnknownMaterial line) = 3
+refusal_status (refusal.LibraryMissing k) = 4
+refusal_status (refusal.LibraryTooLong k) = 4
+refusal_status (refusal.LibraryLine k line why) = 4
+
+abbrev pub refusal_text : Refusal → List ℕ
+refusal_text refusal.Words = codes "words not understood"
+refusal_text (refusal.Value option) = codes "bad value: " ++ option_text option
+refusal_text refusal.SceneTooLong = codes "scene too long"
+refusal_text (refusal.SceneLine line why) = line_text line (scene_cause why)
+refusal_text (refusal.UnknownMaterial line) = line_text line (codes "unknown material")
+refusal_text (refusal.LibraryMissing k) = codes "library " ++ decimal k ++ codes " missing"
+refusal_text (refusal.LibraryTooLong k) = codes "library " ++ decimal k ++ codes " too long"
+refusal_text (refusal.LibraryLine k line why) = codes "library " ++ decimal k ++ codes " line " ++ decimal line ++ codes ": " ++ library_cause why
+
+-- A full pool, with the number of the scene's fragments and that of the nodes.
+abbrev pub pool_text : ℕ → ℕ → List ℕ
+pool_text fragments nodes = codes "pool full: " ++ decimal fragments ++ codes " fragments, " ++ decimal nodes ++ codes " nodes"
+
+abbrev pub stop_status : Stop → ℕ
+stop_status (stop.Refused r) = refusal_status r
+stop_status (stop.PoolFull fragments nodes) = 5
+stop_status stop.ReadFault = 6
+stop_status stop.WriteFault = 7
+stop_status stop.Memory = 8
+
+abbrev pub stop_text : Stop → List ℕ
+stop_text (stop.Refused r) = refusal_text r
+stop_text (stop.PoolFull fragments nodes) = pool_text fragments nodes
+stop_text stop.ReadFault = codes "read fault"
+stop_text stop.WriteFault = codes "write fault"
+stop_text stop.Memory = codes "no memory"

@@ -1,0 +1,15 @@
+//! The top call: from the words of a command line and the bytes of a scene to the bytes of an image.
+//!
+//! [`run`] has the contract that the whole program rests on. What it answers is the verdict (`specs/Verdict.antt`), a chain of
+//! lines in the order of refusals; `specs/Table.antt` says what each status means for what was written, `specs/Image.antt`
+//! what the image is, sample by sample, and `specs/Fetches.antt` how often the shelf is asked.
+#![tactic(auto)]
+
+mod finish;
+mod libraries;
+mod prepare;
+mod stop;
+mod top;
+
+pub use stop::{Refusal, Stop};
+pub use top::{Ran, run, run_with};

@@ -1,0 +1,167 @@
+// The work before the drawing: the words, the scene, the libraries, the materials, and the view.
+ghost use Rattle.std.specs.Prelude.{◌≡◌, ◌⊎◌, ◌≤◌, ◌+◌, [], List as Items, ℕ, length, map, true, All, IfOk, IfErr, IsErr, IfSome, None, Some, option_and_then};
+ghost use Rattle.std.specs.String.{string_bytes};
+ghost use Rattle.abuf_io.specs.Causes.{Rose};
+ghost use Rattle.abuf_obj.specs.Sound.{IsScene};
+ghost use Rattle.abuf_mtl.specs.StandsFor.{StandsFor};
+ghost use Rattle.abuf_cli.specs.Jobs.{job};
+ghost use Rattle.abuf_cli.specs.Sound.{IsJob};
+ghost use Rattle.abuf_top.specs.Libraries.{asked};
+ghost use Rattle.abuf_top.specs.Stopped.{HasReadCause};
+ghost use Rattle.abuf_obj.specs.Scene.{libraries, obj_fault};
+ghost use Rattle.abuf_top.specs.Fetches.{fault_fetches, scene_fetches, fetches, CallsAtMost};
+ghost use Rattle.abuf_top.specs.Verdict.{material_line, library_line, fault_line, scene_line, scene_of, drawing};
+ghost use Rattle.abuf_top.specs.Prepared.{Prepares, PreparesJob, told_by};
+
+use crate::libraries::{MOST_BYTES, read_libraries};
+use crate::stop::{Refusal, Stop};
+use abuf_cli::{Job, WordFault, read_words};
+use abuf_io::{ReadEnd, Shelf, Source, read_all};
+use abuf_mtl::Materials;
+use abuf_obj::{Obj, ObjFault, read_obj};
+use abuf_scene::{SceneFault, assemble};
+use abuf_view::{Projected, project};
+use std::alloc::Global;
+
+impl From<ReadEnd> for Stop {
+    ghost use Rattle.abuf_top.specs.Ends.{read_stop};
+
+    ghost from_gives = { λ end stop. stop ≡ read_stop end };
+
+    fn from(end: ReadEnd) -> Self {
+        match end {
+            ReadEnd::ReadFault => Stop::ReadFault,
+            ReadEnd::TooLong => Stop::Refused(Refusal::SceneTooLong),
+            ReadEnd::Memory => Stop::Memory,
+        }
+    }
+}
+
+impl From<ObjFault> for Stop {
+    ghost use Rattle.abuf_top.specs.Ends.{obj_stop};
+
+    ghost from_gives = { λ fault stop. stop ≡ obj_stop fault };
+
+    fn from(fault: ObjFault) -> Self {
+        match fault {
+            ObjFault::Line { line, why } => Stop::Refused(Refusal::SceneLine(line, why)),
+            ObjFault::Memory => Stop::Memory,
+        }
+    }
+}
+
+impl From<SceneFault> for Stop {
+    ghost use Rattle.abuf_top.specs.Ends.{scene_stop};
+
+    ghost from_gives = { λ fault stop. stop ≡ scene_stop fault };
+
+    fn from(fault: SceneFault) -> Self {
+        match fault {
+            SceneFault::UnknownMaterial { line } => Stop::Refused(Refusal::UnknownMaterial(line)),
+            SceneFault::Memory => Stop::Memory,
+        }
+    }
+}
+
+impl From<WordFault> for Stop {
+    ghost use Rattle.abuf_top.specs.Ends.{word_stop};
+
+    ghost from_gives = { λ fault stop. stop ≡ word_stop fault };
+
+    fn from(fault: WordFault) -> Self {
+        match fault {
+            WordFault::Words => Stop::Refused(Refusal::Words),
+            WordFault::Value { option } => Stop::Refused(Refusal::Value(option)),
+            WordFault::Memory => Stop::Memory,
+        }
+    }
+}
+
+// The primitives of a scene whose libraries are read.
+fn show(alloc: Global, job: &Job, obj: &Obj, materials: &Materials) -> Result<Projected, Stop>
+    requires scene { IsScene obj.now }
+    ensures told { (libraries : Items (Items ℕ)) → StandsFor libraries materials.now → Prepares (material_line job.now obj.now libraries) ⊥ job.now result }
+    ensures cause { IfErr result (HasReadCause ⊥) }
+    ensures one_length { IfOk result (λ p. length p.tris ≡ length p.paints) }
+    ensures few { IfOk result (λ p. length p.tris ≤ 2097152) }
+{
+    let scene = assemble(alloc, obj, materials)?;
+    match project(alloc, &scene, &job.camera) {
+        Ok(shown) => Ok(shown),
+        Err(_) => Err(Stop::Memory),
+    }
+}
+
+// The primitives of a scene whose libraries are yet to be read.
+fn furnish<H: Shelf>(alloc: Global, job: &Job, obj: &Obj, shelf: &mut H) -> Result<Projected, Stop>
+    requires scene { IsScene obj.now }
+    ensures told { H.tells shelf.old ≡ true → Prepares (library_line job.now obj.now (H.holds shelf.old)) (Rose (H.faults shelf.old) (H.faults shelf.new)) job.now result }
+    ensures none { obj.now.libraries ≡ [] → Prepares (material_line job.now obj.now []) ⊥ job.now result }
+    ensures cause { IfErr result (HasReadCause (Rose (H.faults shelf.old) (H.faults shelf.new))) }
+    ensures calls { H.tells shelf.old ≡ true → H.calls shelf.new ≤ H.calls shelf.old + asked (H.holds shelf.old) obj.now.libraries }
+    ensures still { obj.now.libraries ≡ [] → (H.calls shelf.new ≡ H.calls shelf.old) × (H.faults shelf.new ≡ H.faults shelf.old) }
+    ensures later { H.faults shelf.old ≤ H.faults shelf.new }
+    ensures one_length { IfOk result (λ p. length p.tris ≡ length p.paints) }
+    ensures few { IfOk result (λ p. length p.tris ≤ 2097152) }
+{
+    let materials = read_libraries(alloc, shelf, obj.libraries.as_slice())?;
+    show(alloc, job, obj, &materials)
+}
+
+// The primitives of the scene that these bytes define.
+fn read_bytes<H: Shelf>(
+    alloc: Global,
+    job: &Job,
+    bytes: &[u8],
+    shelf: &mut H,
+) -> Result<Projected, Stop>
+    requires { length bytes.now ≤ 67108864 }
+    ensures told { IfSome (fault_line job.now (scene_of bytes.now) (told_by (H.tells shelf.old) (H.holds shelf.old)) (obj_fault bytes.now)) (λ line. Prepares line (Rose (H.faults shelf.old) (H.faults shelf.new)) job.now result) }
+    ensures cause { IfErr result (HasReadCause (Rose (H.faults shelf.old) (H.faults shelf.new))) }
+    ensures calls { IfSome (fault_fetches (libraries bytes.now) (told_by (H.tells shelf.old) (H.holds shelf.old)) (obj_fault bytes.now)) (CallsAtMost (H.calls shelf.old) (H.calls shelf.new) (H.faults shelf.old) (H.faults shelf.new)) }
+    ensures later { H.faults shelf.old ≤ H.faults shelf.new }
+    ensures one_length { IfOk result (λ p. length p.tris ≡ length p.paints) }
+    ensures few { IfOk result (λ p. length p.tris ≤ 2097152) }
+{
+    let obj = read_obj(alloc, bytes)?;
+    furnish(alloc, job, &obj, shelf)
+}
+
+// The primitives of the scene that the source has left.
+fn read_scene<S: Source, H: Shelf>(
+    alloc: Global,
+    job: &Job,
+    scene: &mut S,
+    shelf: &mut H,
+) -> Result<Projected, Stop>
+    ensures told { IfSome (option_and_then (scene_line job.now (told_by (H.tells shelf.old) (H.holds shelf.old))) (S.left scene.old)) (λ line. Prepares line (Rose (S.faults scene.old) (S.faults scene.new) ⊎ Rose (H.faults shelf.old) (H.faults shelf.new)) job.now result) }
+    ensures cause { IfErr result (HasReadCause (Rose (S.faults scene.old) (S.faults scene.new) ⊎ Rose (H.faults shelf.old) (H.faults shelf.new))) }
+    ensures calls { IfSome (option_and_then (scene_fetches (told_by (H.tells shelf.old) (H.holds shelf.old))) (S.left scene.old)) (CallsAtMost (H.calls shelf.old) (H.calls shelf.new) (H.faults shelf.old) (H.faults shelf.new)) }
+    ensures one_length { IfOk result (λ p. length p.tris ≡ length p.paints) }
+    ensures few { IfOk result (λ p. length p.tris ≤ 2097152) }
+{
+    let bytes = read_all(alloc, scene, MOST_BYTES)?;
+    read_bytes(alloc, job, bytes.as_slice(), shelf)
+}
+
+/// Reads the words, the scene and its libraries, and projects the scene: all that comes before the drawing, up to the first
+/// refusal. Where the words give no job, the source isn't called.
+#[tactic(auto, unfolding(crate::specs::Verdict::drawing, crate::specs::Fetches::fetches))]
+pub fn prepare<S: Source, H: Shelf>(
+    alloc: Global,
+    words: &[String],
+    scene: &mut S,
+    shelf: &mut H,
+) -> Result<(Job, Projected), Stop>
+    ensures told { IfSome (drawing (map string_bytes words.now) (S.left scene.old) (told_by (H.tells shelf.old) (H.holds shelf.old))) (λ line. PreparesJob line (Rose (S.faults scene.old) (S.faults scene.new) ⊎ Rose (H.faults shelf.old) (H.faults shelf.new)) result) }
+    ensures cause { IfErr result (HasReadCause (Rose (S.faults scene.old) (S.faults scene.new) ⊎ Rose (H.faults shelf.old) (H.faults shelf.new))) }
+    ensures calls { IfSome (fetches (map string_bytes words.now) (S.left scene.old) (told_by (H.tells shelf.old) (H.holds shelf.old))) (CallsAtMost (H.calls shelf.old) (H.calls shelf.new) (H.faults shelf.old) (H.faults shelf.new)) }
+    ensures source { IsErr (job (map string_bytes words.now)) → (S.left scene.new ≡ S.left scene.old) × (S.faults scene.new ≡ S.faults scene.old) }
+    ensures job { IfOk result (λ p. IsJob p.0) }
+    ensures one_length { IfOk result (λ p. length p.1.tris ≡ length p.1.paints) }
+    ensures few { IfOk result (λ p. length p.1.tris ≤ 2097152) }
+{
+    let job = read_words(alloc, words)?;
+    let shown = read_scene(alloc, &job, scene, shelf)?;
+    Ok((job, shown))
+}

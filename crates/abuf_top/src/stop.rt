@@ -1,0 +1,161 @@
+// Why a run stops before its end, and what it then says.
+ghost use Rattle.std.specs.Prelude.{◌≡◌, ◌++◌, ◌∷◌, [], IfOk, codes};
+ghost use Rattle.std.specs.String.{string_bytes};
+ghost use Rattle.std.specs.Fmt.{decimal};
+ghost use Rattle.abuf_top.specs.Refusals.{option_text, scene_cause, library_cause, line_text, refusal_status, refusal_text, pool_text};
+
+use abuf_cli::Opt;
+use abuf_mtl::MtlWhy;
+use abuf_obj::Why;
+use std::alloc::{AllocError, Global};
+
+/// What is wrong with the words, the scene or a library.
+#[derive(Clone, Copy, Debug, PartialEq, Eq)]
+pub enum Refusal {
+    /// The words aren't understood.
+    Words,
+    /// The text of this option isn't in its form or range.
+    Value(Opt),
+    /// The scene has more than 67108864 bytes.
+    SceneTooLong,
+    /// The first line of the scene that is at fault, from 1, and its cause.
+    SceneLine(u32, Why),
+    /// The line, from 1, of the first face whose material no library has.
+    UnknownMaterial(u32),
+    /// The shelf has no library of this name: the library's number among the scene's names, from 1.
+    LibraryMissing(usize),
+    /// The library of this number, from 1, has more than 67108864 bytes.
+    LibraryTooLong(usize),
+    /// The number of the library, from 1, its first line that is at fault, from 1, and the cause.
+    LibraryLine(usize, u32, MtlWhy),
+}
+
+/// Why a run stops before its end.
+#[derive(Clone, Copy, Debug, PartialEq, Eq)]
+pub enum Stop {
+    /// By the words, the scene or a library.
+    Refused(Refusal),
+    /// The number of the scene's fragments, and of the pool's nodes, which are fewer.
+    PoolFull(u64, u32),
+    /// The source or the shelf failed.
+    ReadFault,
+    /// The output failed before all of the image was written.
+    WriteFault,
+    /// Want of memory; it may come at any time before the image is written.
+    Memory,
+}
+
+fn option_text(option: Opt) -> &'static str
+    ensures { result.now ≡ option_text option }
+{
+    match option {
+        Opt::Size => "size",
+        Opt::Samples => "samples",
+        Opt::Threads => "threads",
+        Opt::Nodes => "nodes",
+        Opt::Turn => "turn",
+        Opt::Shift => "move",
+        Opt::Focal => "focal",
+        Opt::Near => "near",
+        Opt::Background => "background",
+        Opt::Maxval => "maxval",
+    }
+}
+
+fn scene_cause(why: Why) -> &'static str
+    ensures { result.now ≡ scene_cause why }
+{
+    match why {
+        Why::Keyword => "unknown keyword",
+        Why::BadNumber => "bad number",
+        Why::BadIndex => "bad index",
+        Why::TooFewElements => "too few elements",
+        Why::TooManyElements => "too many elements",
+        Why::NoName => "no name",
+        Why::TooManyPoints => "too many points",
+        Why::TooManyTriangles => "too many triangles",
+        Why::TooManyLibraries => "too many libraries",
+        Why::TooManyMaterials => "too many materials",
+    }
+}
+
+fn library_cause(why: MtlWhy) -> &'static str
+    ensures { result.now ≡ library_cause why }
+{
+    match why {
+        MtlWhy::BadNumber => "bad number",
+        MtlWhy::NoName => "no name",
+        MtlWhy::TooMany => "too many materials",
+        MtlWhy::NoMaterial => "no material",
+    }
+}
+
+fn bad_value(alloc: Global, name: &str) -> Result<String, AllocError>
+    ensures { IfOk result (λ line. string_bytes line ≡ codes "bad value: " ++ name.now ++ 10 ∷ []) }
+{
+    format!(in alloc; "bad value: {name}\n")
+}
+
+fn at_line(alloc: Global, line: u32, cause: &str) -> Result<String, AllocError>
+    ensures { IfOk result (λ text. string_bytes text ≡ line_text line cause.now ++ 10 ∷ []) }
+{
+    format!(in alloc; "line {line}: {cause}\n")
+}
+
+fn library_missing(alloc: Global, k: usize) -> Result<String, AllocError>
+    ensures { IfOk result (λ text. string_bytes text ≡ codes "library " ++ decimal k ++ codes " missing" ++ 10 ∷ []) }
+{
+    format!(in alloc; "library {k} missing\n")
+}
+
+fn library_too_long(alloc: Global, k: usize) -> Result<String, AllocError>
+    ensures { IfOk result (λ text. string_bytes text ≡ codes "library " ++ decimal k ++ codes " too long" ++ 10 ∷ []) }
+{
+    format!(in alloc; "library {k} too long\n")
+}
+
+fn at_library_line(alloc: Global, k: usize, line: u32, cause: &str) -> Result<String, AllocError>
+    ensures { IfOk result (λ text. string_bytes text ≡ codes "library " ++ decimal k ++ codes " line " ++ decimal line ++ codes ": " ++ cause.now ++ 10 ∷ []) }
+{
+    format!(in alloc; "library {k} line {line}: {cause}\n")
+}
+
+/// The text of a full pool, with its line feed.
+pub fn pool_full(alloc: Global, fragments: u64, nodes: u32) -> Result<String, AllocError>
+    ensures { IfOk result (λ text. string_bytes text ≡ pool_text fragments nodes ++ 10 ∷ []) }
+{
+    format!(in alloc; "pool full: {fragments} fragments, {nodes} nodes\n")
+}
+
+impl Refusal {
+    /// The status of the process: 2 for the words, 3 for the scene, 4 for a library.
+    pub fn status(self) -> u8
+        ensures { result ≡ refusal_status self }
+    {
+        match self {
+            Refusal::Words | Refusal::Value(_) => 2,
+            Refusal::SceneTooLong | Refusal::SceneLine(_, _) | Refusal::UnknownMaterial(_) => 3,
+            Refusal::LibraryMissing(_)
+            | Refusal::LibraryTooLong(_)
+            | Refusal::LibraryLine(_, _, _) => 4,
+        }
+    }
+
+    /// The text, with its line feed. The error is want of memory.
+    pub fn line(self, alloc: Global) -> Result<String, AllocError>
+        ensures { IfOk result (λ line. string_bytes line ≡ refusal_text self ++ 10 ∷ []) }
+    {
+        match self {
+            Refusal::Words => String::from_str(alloc, "words not understood\n"),
+            Refusal::Value(option) => bad_value(alloc, option_text(option)),
+            Refusal::SceneTooLong => String::from_str(alloc, "scene too long\n"),
+            Refusal::SceneLine(line, why) => at_line(alloc, line, scene_cause(why)),
+            Refusal::UnknownMaterial(line) => at_line(alloc, line, "unknown material"),
+            Refusal::LibraryMissing(k) => library_missing(alloc, k),
+            Refusal::LibraryTooLong(k) => library_too_long(alloc, k),
+            Refusal::LibraryLine(k, line, why) => {
+                at_library_line(alloc, k, line, library_cause(why))
+            }
+        }
+    }
+}
