@@ -62,8 +62,8 @@ mod tests {
         let bytes = image_bytes(rt.alloc(), 2, 1, 255, 2, &sums)?;
         let values = bytes.as_slice();
         assert!(rt; values.len() == 65);
-        assert!(rt; &values[..59] == HEADER);
-        assert!(rt; &values[59..] == [255, 255, 255, 128, 1, 0].as_slice());
+        assert!(rt; values.get(..59) == Some(HEADER));
+        assert!(rt; values.get(59..) == Some([255, 255, 255, 128, 1, 0].as_slice()));
         let wide = image_bytes(rt.alloc(), 2, 1, 65535, 2, &sums)?;
         let values = wide.as_slice();
         assert!(rt; values.len() == 73);

@@ -1,0 +1,27 @@
+//! Tests of whole commands, run over memory. It has no other contents.
+#![tactic(auto)]
+
+#[cfg(test)]
+mod camera;
+#[cfg(test)]
+mod colours;
+#[cfg(test)]
+mod command;
+#[cfg(test)]
+mod coverage;
+#[cfg(test)]
+mod exported;
+#[cfg(test)]
+mod limits;
+#[cfg(test)]
+mod materials;
+#[cfg(test)]
+mod meeting;
+#[cfg(test)]
+mod obj;
+#[cfg(test)]
+mod outside;
+#[cfg(test)]
+mod scenes;
+#[cfg(test)]
+mod words;

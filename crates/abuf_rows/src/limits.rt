@@ -1,0 +1,76 @@
+// Images and scenes at the limits.
+use crate::command::{Library, Outside, carry_out, is_answer};
+use crate::scenes::{RED, UPPER};
+use std::test::Fail;
+
+/// A triangle of the greatest size, on an image of the greatest height: all of its 4096 pixels are white.
+#[test]
+fn greatest_triangle(rt: HostRuntime) -> Result<(), Fail> {
+    let alloc = rt.alloc();
+    let scene = b"v -32767 -32767 3.9375\nv 32767 -32767 3.9375\nv 0 32767 3.9375\nf 1 2 3\n";
+    let words = "render --size 1x4096 --focal 16 --near 0.0625";
+    let outcome = carry_out(&rt, alloc, words, scene, &[], Outside::steady(alloc))?;
+    assert!(rt; outcome.status == 0);
+    let Some((header, values)) = outcome.out.taken().split_at_checked(62) else {
+        panic!(rt; "no header")
+    };
+    let expected = b"P7\nWIDTH 1\nHEIGHT 4096\nDEPTH 3\nMAXVAL 255\nTUPLTYPE RGB\nENDHDR\n";
+    assert!(rt; header == expected.as_slice());
+    assert!(rt; values.len() == 12288 && values.iter().all(|&value| value == 255));
+    Ok(())
+}
+
+/// Half red over white, with two bytes a value.
+#[test]
+fn two_bytes_a_value(rt: HostRuntime) -> Result<(), Fail> {
+    let alloc = rt.alloc();
+    let held: [Library; 1] = [(b"a.mtl", b"newmtl red\nKd 1 0 0\nd 0.5\n")];
+    let words = "render --size 1x1 --background 1,1,1 --maxval 65535";
+    let outcome = carry_out(&rt, alloc, words, RED, &held, Outside::steady(alloc))?;
+    assert!(rt; outcome.status == 0);
+    let expected =
+        b"P7\nWIDTH 1\nHEIGHT 1\nDEPTH 3\nMAXVAL 65535\nTUPLTYPE RGB\nENDHDR\n\xff\xff\x7f\xff\x7f\xff";
+    assert!(rt; outcome.out.taken() == expected.as_slice());
+    Ok(())
+}
+
+/// A face has at most 1024 elements.
+#[test]
+fn elements_of_a_face(rt: HostRuntime) -> Result<(), Fail> {
+    let alloc = rt.alloc();
+    let mut scene = b"v -4 4 0\nv 4 4 0\nv -4 -4 0\nf".to_vec(alloc)?;
+    for _ in 0..1024 {
+        scene.extend_from_slice(b" 1")?;
+    }
+    let steady = Outside::steady(alloc);
+    let outcome = carry_out(&rt, alloc, "render --size 4x4", &scene, &[], steady)?;
+    assert!(rt; is_answer(alloc, &outcome, 0, ".... .... .... ....")?);
+    scene.extend_from_slice(b" 1")?;
+    let steady = Outside::steady(alloc);
+    let outcome = carry_out(&rt, alloc, "render --size 4x4", &scene, &[], steady)?;
+    assert!(rt; is_answer(alloc, &outcome, 3, "line 4: too many elements")?);
+    Ok(())
+}
+
+/// A scene that ends early.
+#[test]
+fn starts_of_a_scene(rt: HostRuntime) -> Result<(), Fail> {
+    let alloc = rt.alloc();
+    for length in 0..36 {
+        let Some(start) = UPPER.get(..length) else {
+            panic!(rt; "the scene has 35 bytes")
+        };
+        let (status, says) = match length {
+            0 | 8 | 9 | 16 | 17 | 26 | 27 => (0, ".... .... .... ...."),
+            34 | 35 => (0, "WWW. WW.. W... ...."),
+            28..=33 => (3, "line 4: too few elements"),
+            1..=7 => (3, "line 1: bad number"),
+            10..=15 => (3, "line 2: bad number"),
+            _ => (3, "line 3: bad number"),
+        };
+        let steady = Outside::steady(alloc);
+        let outcome = carry_out(&rt, alloc, "render --size 4x4", start, &[], steady)?;
+        assert!(rt; is_answer(alloc, &outcome, status, says)?, "{length} bytes");
+    }
+    Ok(())
+}

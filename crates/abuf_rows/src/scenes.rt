@@ -1,0 +1,55 @@
+// The scenes of which several tests speak.
+
+/// The half of a square of 8 by 8 that is left of and above its diagonal.
+pub(crate) const UPPER: &[u8] = b"v -4 4 0\nv 4 4 0\nv -4 -4 0\nf 1 2 3\n";
+
+/// The other half.
+pub(crate) const LOWER: &[u8] = b"v 4 4 0\nv 4 -4 0\nv -4 -4 0\nf 1 2 3\n";
+
+/// Both halves.
+pub(crate) const SQUARE: &[u8] = b"v -4 4 0\nv 4 4 0\nv 4 -4 0\nv -4 -4 0\nf 1 2 4\nf 2 3 4\n";
+
+/// The left half of what an image of 1 by 1 shows.
+pub(crate) const LEFT_HALF: &[u8] = b"v -8 8 0\nv 0 8 0\nv 0 -8 0\nv -8 -8 0\nf 1 2 3 4\n";
+
+/// A triangle with one corner behind the camera.
+pub(crate) const ONE_BEHIND: &[u8] = b"v -1 0 3\nv 1 0 3\nv 0 1 5\nf 1 2 3\n";
+
+/// A triangle with two corners behind the camera.
+pub(crate) const TWO_BEHIND: &[u8] = b"v 0 0 3\nv -1 1 5\nv 1 1 5\nf 1 2 3\n";
+
+/// Two triangles with one edge in common, which ends behind the camera.
+pub(crate) const SHARED_CUT: &[u8] = b"v -1 0 3\nv 0 0 3\nv 1 0 3\nv 0 1 5\nf 1 2 4\nf 2 3 4\n";
+
+/// A triangle over all of an image of 1 by 1, in a material of the first library.
+pub(crate) const RED: &[u8] =
+    b"mtllib a.mtl\nv -8 8 0\nv 24 8 0\nv -8 -24 0\nusemtl red\nf 1 2 3\n";
+
+/// A cube as exporters write it.
+pub(crate) const CUBE: &[u8] = b"# Exported cube\n\
+mtllib cube.mtl\n\
+o Cube\n\
+v 1.000000 1.000000 -1.000000\n\
+v 1.000000 -1.000000 -1.000000\n\
+v 1.000000 1.000000 1.000000\n\
+v 1.000000 -1.000000 1.000000\n\
+v -1.000000 1.000000 -1.000000\n\
+v -1.000000 -1.000000 -1.000000\n\
+v -1.000000 1.000000 1.000000\n\
+v -1.000000 -1.000000 1.000000\n\
+vn 0.0000 1.0000 0.0000\n\
+vn 0.0000 0.0000 1.0000\n\
+vt 0.625000 0.500000\n\
+vt 0.875000 0.500000\n\
+s 0\n\
+usemtl Material\n\
+f 1/1/1 5/2/1 7/1/1 3/2/1\n\
+f 4/1/2 3/2/2 7/1/2 8/2/2\n\
+f 8/1/1 7/2/1 5/1/1 6/2/1\n\
+f 6/1/1 2/2/1 4/1/1 8/2/1\n\
+f 2/1/1 1/2/1 3/1/1 4/2/1\n\
+f 6/1/2 5/2/2 1/1/2 2/2/2\n";
+
+/// A triangle over all of an image of 1 by 1, in a material of either of two libraries.
+pub(crate) const NAMED: &[u8] =
+    b"mtllib a.mtl\nmtllib b.mtl\nv -8 8 0\nv 24 8 0\nv -8 -24 0\nusemtl m\nf 1 2 3\n";
