@@ -67,9 +67,8 @@ mod tests {
         let wide = image_bytes(rt.alloc(), 2, 1, 65535, 2, &sums)?;
         let values = wide.as_slice();
         assert!(rt; values.len() == 73);
-        assert!(rt;
-            &values[61..] == [255, 255, 255, 255, 255, 255, 128, 0, 0, 129, 0, 64].as_slice()
-        );
+        let pixels = [255, 255, 255, 255, 255, 255, 128, 0, 0, 129, 0, 64];
+        assert!(rt; values.get(61..) == Some(pixels.as_slice()));
         Ok(())
     }
 }

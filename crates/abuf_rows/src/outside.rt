@@ -30,7 +30,7 @@ fn bytewise(alloc: Global, count: usize) -> Result<List<Step>, Fail>
     ensures { IfOk result IsPlan }
 {
     let mut plan = List::new(alloc);
-    for _ in 0..count {
+    'steps: for _ in 0..count {
         then(&mut plan, Step::Take(1))?;
     }
     then(&mut plan, Step::Fail)?;
