@@ -69,6 +69,11 @@ mod tests {
         assert!(rt; values.len() == 73);
         let pixels = [255, 255, 255, 255, 255, 255, 128, 0, 0, 129, 0, 64];
         assert!(rt; values.get(61..) == Some(pixels.as_slice()));
+        let sums = [PixelSum {
+            channels: [131070, 2, 1],
+        }];
+        let four = image_bytes(rt.alloc(), 1, 1, 65535, 4, &sums)?;
+        assert!(rt; four.as_slice().get(61..) == Some([128, 0, 0, 1, 0, 0].as_slice()));
         Ok(())
     }
 }

@@ -94,6 +94,19 @@ pub(crate) fn carry_out<R: Threads + Sync>(
     held: &[Library],
     outside: Outside,
 ) -> Result<Outcome, Fail> {
+    let pairs = libraries(alloc, held)?;
+    carry_out_over(rt, alloc, words, scene, pairs, outside)
+}
+
+/// The same over a shelf of these pairs.
+pub(crate) fn carry_out_over<R: Threads + Sync>(
+    rt: &R,
+    alloc: Global,
+    words: &str,
+    scene: &[u8],
+    pairs: List<(List<u8>, List<u8>)>,
+    outside: Outside,
+) -> Result<Outcome, Fail> {
     let Outside {
         reads,
         writes,
@@ -102,7 +115,7 @@ pub(crate) fn carry_out<R: Threads + Sync>(
     } = outside;
     let words = words_of(alloc, words)?;
     let mut source = MemSource::new(bytes(alloc, scene)?, reads);
-    let mut shelf = MemShelf::new(libraries(alloc, held)?, fails);
+    let mut shelf = MemShelf::new(pairs, fails);
     let mut out = MemSink::new(alloc, 1 << 20, writes)?;
     let mut err = MemSink::new(alloc, 1 << 10, reports)?;
     let ran = run(

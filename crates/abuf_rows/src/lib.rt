@@ -8,6 +8,8 @@ mod colours;
 #[cfg(test)]
 mod command;
 #[cfg(test)]
+mod counts;
+#[cfg(test)]
 mod coverage;
 #[cfg(test)]
 mod exported;
