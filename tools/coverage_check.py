@@ -136,6 +136,9 @@ def main():
         corners = random_corners(rng, width, height, offsets, given.plain)
         scene = scene_of(corners, width, height, given.plain)
         words = ["render", "--size", f"{width}x{height}"]
+        if not given.plain:
+            # Room for one fragment a pixel, which is all that a triangle has: a large pool would take most of the time.
+            words += ["--nodes", str(width * height)]
         if not given.plain and samples > 1:
             words += ["--samples", str(samples)]
         counts, outline = covered(corners, width, height, offsets)
