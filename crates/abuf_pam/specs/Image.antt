@@ -24,6 +24,10 @@ abbrev pub channel : ℕ → ℕ → ℕ → List ℕ
 channel maxval samples sum =
     if maxval == 255 then narrow samples sum ∷ [] else (wide samples sum / 256 ∷ wide samples sum % 256 ∷ [])
 
+-- The bytes of a pixel: three values of one byte at MAXVAL 255, of two at 65535.
+abbrev pub pixel_size : ℕ → ℕ
+pixel_size maxval = if maxval == 255 then 3 else 6
+
 -- Red, green and blue.
 abbrev pub pixel : ℕ → ℕ → PixelSum → List ℕ
 pixel maxval samples p =

@@ -1,10 +1,10 @@
 // The whole image.
-ghost use Rattle.std.specs.Prelude.{◌≡◌, ◌≤◌, ◌*◌, ◌⊎◌, All, length, IfOk};
-ghost use Rattle.abuf_pam.specs.Image.{image};
+ghost use Rattle.std.specs.Prelude.{◌≡◌, ◌≤◌, ◌+◌, ◌*◌, ◌⊎◌, All, length, IfOk};
+ghost use Rattle.abuf_pam.specs.Image.{header, pixel_size, image};
 ghost use Rattle.abuf_pam.specs.Sums.{HasSums};
 
 use crate::header::push_header;
-use crate::pixels::{push_all_narrow, push_all_wide};
+use crate::pixels::{pixel_size, push_all_narrow, push_all_wide};
 use abuf_num::{List, NoMemory, PixelSum};
 use std::alloc::Global;
 
@@ -14,7 +14,8 @@ const HEADER_ROOM: usize = 128;
 /// The bytes of an RGB image in Netpbm PAM (tuple type RGB, depth 3), from the sum of the samples of each pixel.
 ///
 /// `sums` has the pixels row by row from the top, each row from the left. At `maxval` 255 a value is one byte, at 65535
-/// two, the high byte first. All memory is taken at once, before the first byte is written.
+/// two, the high byte first. The values begin behind the header, `pixel_size` bytes a pixel. All memory is taken at once,
+/// before the first byte is written.
 #[tactic(auto, unfolding(crate::specs::Image::image))]
 pub fn image_bytes(
     alloc: Global,
@@ -28,10 +29,10 @@ pub fn image_bytes(
     requires samples { (1 ≤ samples) × (samples ≤ 16) }
     requires pixels { length sums.now ≡ width * height }
     requires sums { All (HasSums samples) sums.now }
-    ensures { IfOk result (λ bytes. bytes ≡ image width height maxval samples sums.now) }
+    ensures bytes { IfOk result (λ bytes. bytes ≡ image width height maxval samples sums.now) }
+    ensures size { IfOk result (λ bytes. length bytes ≡ length (header width height maxval) + pixel_size maxval * (width * height)) }
 {
-    let pixel_room = if maxval == 255 { 3 } else { 6 };
-    let mut out = Vec::with_capacity(alloc, HEADER_ROOM + pixel_room * sums.len())?;
+    let mut out = Vec::with_capacity(alloc, HEADER_ROOM + pixel_size(maxval) * sums.len())?;
     push_header(&mut out, width, height, maxval)?;
     if maxval == 255 {
         push_all_narrow(&mut out, samples, sums)?;
@@ -47,6 +48,12 @@ mod tests {
     use std::test::Fail;
 
     const HEADER: &[u8] = b"P7\nWIDTH 2\nHEIGHT 1\nDEPTH 3\nMAXVAL 255\nTUPLTYPE RGB\nENDHDR\n";
+
+    #[test]
+    fn pixels_of_one_and_of_two_bytes_a_value(rt: HostRuntime) {
+        assert_eq!(rt; pixel_size(255), 3);
+        assert_eq!(rt; pixel_size(65535), 6);
+    }
 
     // Two samples to a pixel: white, and a half of each channel.
     #[test]

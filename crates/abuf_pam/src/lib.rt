@@ -9,3 +9,4 @@ mod image;
 mod pixels;
 
 pub use image::image_bytes;
+pub use pixels::pixel_size;

@@ -1,6 +1,6 @@
 // The pixels of an image, from the sums of their samples.
 ghost use Rattle.std.specs.Prelude.{◌≡◌, ◌≤◌, ◌*◌, ◌/◌, ◌%◌, ◌++◌, ◌∷◌, [], All, flat_map, slice_index_or, OnOk};
-ghost use Rattle.abuf_pam.specs.Image.{narrow, wide, pixel};
+ghost use Rattle.abuf_pam.specs.Image.{narrow, wide, pixel_size, pixel};
 ghost use Rattle.abuf_pam.specs.Sums.{HasSums};
 
 use abuf_num::{NoMemory, PixelSum};
@@ -27,6 +27,13 @@ fn wide(samples: u32, sum: u32) -> u16
     ensures { result ≡ wide samples sum }
 {
     ((2 * sum + samples) / (2 * samples)) as u16
+}
+
+/// The bytes of a pixel: three values of one byte at `maxval` 255, of two bytes at 65535.
+pub fn pixel_size(maxval: u32) -> usize
+    ensures { result ≡ pixel_size maxval }
+{
+    if maxval == 255 { 3 } else { 6 }
 }
 
 // Puts a pixel of three bytes last.

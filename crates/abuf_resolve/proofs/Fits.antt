@@ -11,7 +11,7 @@ use Rattle.abuf_raster.specs.Depth.{depth_key, held_in_range}
 use Rattle.abuf_raster.specs.Hits.{hit_at, hits, placed}
 use Rattle.abuf_raster.proofs.Masks.{mask_small}
 use Rattle.abuf_resolve.specs.Colour.{triangle_at, numbers}
-use Rattle.abuf_resolve.specs.Words.{IsFragmentWord, AreFragmentLists, AreListsOf}
+use Rattle.abuf_resolve.specs.Words.{IsFragmentWord, AreFragmentLists, AreListsOf, AreWordsAt}
 use Rattle.abuf_resolve.proofs.Hits.{all_hits, word_of}
 use Rattle.abuf_resolve.proofs.Words.{Below, Below-range}
 
@@ -48,12 +48,22 @@ fit_at bound (e ∷ es) p h =
     elim (eqb e.0 p) as (λ (v : Bool). All (IsFragmentWord bound) (map (λ (d : ℕ × ℕ). d.1) (cond v (e ∷ filter (λ (d : ℕ × ℕ). eqb d.0 p) es) (filter (λ (d : ℕ × ℕ). eqb d.0 p) es))))
     [ true ↦ All-cons (IsFragmentWord bound) e.1 (payloads_at p es) (All-head (λ d. IsFragmentWord bound d.1) e es h) rest | false ↦ rest ]
 
--- lists of words of fragments, whatever fragments they are
+-- the words of fragments at a place, and lists of words of fragments, whatever fragments they are
+pub words_fit_all : (bound : ℕ) (fragments : List (ℕ × ℕ)) (p : ℕ) (words : List ℕ) → All (λ e. IsFragmentWord bound e.1) fragments → AreWordsAt fragments p words → All (IsFragmentWord bound) words
+words_fit_all bound fragments p words all are =
+    let drawn_all = All-permutation (λ e. IsFragmentWord bound e.1) fragments are.entries (IsPermutation-sym _ _ are.drawn) all in
+    All-permutation (IsFragmentWord bound) (payloads_at p are.entries) words (IsPermutation-sym _ _ are.here) (fit_at bound are.entries p drawn_all)
+
 pub lists_fit_all : (bound : ℕ) (fragments : List (ℕ × ℕ)) (lists : List (List ℕ)) → All (λ e. IsFragmentWord bound e.1) fragments → AreListsOf fragments lists → AreFragmentLists bound lists
 lists_fit_all bound fragments lists all are p l =
-    let drawn_all = All-permutation (λ e. IsFragmentWord bound e.1) fragments are.entries (IsPermutation-sym _ _ are.drawn) all in
-    All-permutation (IsFragmentWord bound) (payloads_at p are.entries) (slice_index_or lists p []) (IsPermutation-sym _ _ (are.each p l)) (fit_at bound are.entries p drawn_all)
+    words_fit_all bound fragments p (slice_index_or lists p []) all (record { entries = are.entries; drawn = are.drawn; here = are.each p l })
+
+all_hits_fit : (os : List (ℤ × ℤ)) (tris : List Triangle) (r : Region) → length os ≤ 8 → length tris ≤ 2 ^ 24 → All (λ e. IsFragmentWord (length tris) e.1) (all_hits os tris r)
+all_hits_fit os tris r few limit = all_fit (length tris) limit os few tris r (numbers tris) (Below-range (length tris) (length tris) 0 (omega arith))
+
+pub words_fit : (os : List (ℤ × ℤ)) (tris : List Triangle) (r : Region) (p : ℕ) (words : List ℕ) → length os ≤ 8 → length tris ≤ 2 ^ 24 → AreWordsAt (all_hits os tris r) p words → All (IsFragmentWord (length tris)) words
+words_fit os tris r p words few limit are = words_fit_all (length tris) (all_hits os tris r) p words (all_hits_fit os tris r few limit) are
 
 pub lists_fit : (os : List (ℤ × ℤ)) (tris : List Triangle) (r : Region) (lists : List (List ℕ)) → length os ≤ 8 → length tris ≤ 2 ^ 24 → AreListsOf (all_hits os tris r) lists → AreFragmentLists (length tris) lists
 lists_fit os tris r lists few limit are =
-    lists_fit_all (length tris) (all_hits os tris r) lists (all_fit (length tris) limit os few tris r (numbers tris) (Below-range (length tris) (length tris) 0 (omega arith))) are
+    lists_fit_all (length tris) (all_hits os tris r) lists (all_hits_fit os tris r few limit) are

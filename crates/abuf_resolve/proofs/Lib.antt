@@ -6,3 +6,4 @@ pub mod Lists
 pub mod Joined
 pub mod Totals
 pub mod Fits
+pub mod Present

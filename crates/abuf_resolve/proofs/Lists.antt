@@ -25,13 +25,13 @@ use Rattle.abuf_resolve.proofs.Words.{Below, Below-range, Below-filter, Below-in
 
 module _ (tris : List Triangle) (os : List (ℤ × ℤ)) (few : length os ≤ 8) (x y : ℕ) where
   -- the parts of a word
-  prim_is : (n : ℕ) → n < 2 ^ 24 → (unpacked (word_of (triangle_at tris n) os x y n)).prim ≡ n
+  pub prim_is : (n : ℕ) → n < 2 ^ 24 → (unpacked (word_of (triangle_at tris n) os x y n)).prim ≡ n
   prim_is n h = omega (arith, mask_small (triangle_at tris n) os x y few)
 
-  mask_is : (n : ℕ) → (unpacked (word_of (triangle_at tris n) os x y n)).mask ≡ mask (triangle_at tris n) os x y
+  pub mask_is : (n : ℕ) → (unpacked (word_of (triangle_at tris n) os x y n)).mask ≡ mask (triangle_at tris n) os x y
   mask_is n = omega (arith, mask_small (triangle_at tris n) os x y few)
 
-  agree : (m n : ℕ) → m < 2 ^ 24 → n < 2 ^ 24 → is_beneath tris x y m n ≡ ltb (word_of (triangle_at tris m) os x y m) (word_of (triangle_at tris n) os x y n)
+  pub agree : (m n : ℕ) → m < 2 ^ 24 → n < 2 ^ 24 → is_beneath tris x y m n ≡ ltb (word_of (triangle_at tris m) os x y m) (word_of (triangle_at tris n) os x y n)
   agree m n h l =
       words_ordered (depth_key (triangle_at tris m) x y) (depth_key (triangle_at tris n) x y) m n (mask (triangle_at tris m) os x y) (mask (triangle_at tris n) os x y)
       (mask_small (triangle_at tris m) os x y few) (mask_small (triangle_at tris n) os x y few) h l

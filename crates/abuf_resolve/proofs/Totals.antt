@@ -28,7 +28,7 @@ kept_at q (e ∷ es) p =
     ∙ sym (sum_by-cons (λ d. cond (eqb d.0 p && q d.1) 1 0) e es)
 
 -- so entries in another order give the same words
-Alike-drawn : (hits entries : List (ℕ × ℕ)) (list : List ℕ) (p : ℕ) → IsPermutation entries hits → IsPermutation list (payloads_at p entries) → Alike (payloads_at p hits) list
+pub Alike-drawn : (hits entries : List (ℕ × ℕ)) (list : List ℕ) (p : ℕ) → IsPermutation entries hits → IsPermutation list (payloads_at p entries) → Alike (payloads_at p hits) list
 Alike-drawn hits entries list p drawn here = record {
   times = λ q. kept_at q hits p
       ∙ (sum_by-IsPermutation (λ e. cond (eqb e.0 p && q e.1) 1 0) entries hits drawn

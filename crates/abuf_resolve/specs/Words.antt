@@ -47,6 +47,13 @@ pub record AreListsOf (fragments : List (ℕ × ℕ)) (lists : List (List ℕ)) 
   pub drawn : IsPermutation entries fragments
   pub each : (p : ℕ) → p < length lists → IsPermutation (slice_index_or lists p []) (payloads_at p entries)
 
+-- The words are those of the fragments at this place: entries are the fragments in some order, and the words are those of
+-- the entries there, in an order of their own.
+pub record AreWordsAt (fragments : List (ℕ × ℕ)) (place : ℕ) (words : List ℕ) : Type 0 where
+  pub entries : List (ℕ × ℕ)
+  pub drawn : IsPermutation entries fragments
+  pub here : IsPermutation words (payloads_at place entries)
+
 -- A pixel's sums over so many samples, from its list put in ascending order.
 abbrev pub pixel_sum : List ℕ → List Paint → ℕ → List ℕ → PixelSum
 pixel_sum background paints samples list = summed (folded background paints (in_order nat_lt list)) samples

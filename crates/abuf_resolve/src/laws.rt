@@ -1,15 +1,18 @@
 //! Laws over the definitions. Each function takes the values that its law speaks of, and does nothing: its contract is
 //! the law.
-ghost use Rattle.std.specs.Prelude.{◌≡◌, ◌+◌, ◌*◌, ◌/◌, ◌%◌, ◌<◌, ◌≤◌, length, map, nat_lt, IsPermutation};
+ghost use Rattle.std.specs.Prelude.{◌≡◌, ℕ, List as Items, ◌+◌, ◌*◌, ◌/◌, ◌%◌, ◌^◌, ◌<◌, ◌≤◌, length, map, nat_lt, IsPermutation};
+ghost use Rattle.std.specs.List.{range_with_len, All};
 ghost use Rattle.std.specs.List.Sorted.{IsNonDecreasing};
 ghost use Rattle.abuf_frame.specs.Draws.{payloads_at};
+ghost use Rattle.abuf_raster.specs.Packing.{unpacked};
 ghost use Rattle.abuf_raster.specs.Region.{IsRegion};
 ghost use Rattle.abuf_raster.specs.Samples.{offsets_of};
 ghost use Rattle.abuf_raster.specs.Hits.{all_fragments};
 ghost use Rattle.abuf_resolve.specs.Order.{in_order};
 ghost use Rattle.abuf_resolve.specs.Colour.{colour};
 ghost use Rattle.abuf_resolve.specs.Sums.{region_sums};
-ghost use Rattle.abuf_resolve.specs.Words.{folded, pixel_sum, AreListsOf, AreFragmentLists};
+ghost use Rattle.abuf_resolve.specs.Pixel.{present, pixel_fragments};
+ghost use Rattle.abuf_resolve.specs.Words.{folded, pixel_sum, AreListsOf, AreWordsAt, AreFragmentLists};
 
 use abuf_frame::Closed;
 use abuf_num::Paint;
@@ -72,4 +75,44 @@ pub fn words_law(
     requires paints { length paints.now ≡ length triangles.now }
     requires lists { AreListsOf (all_fragments triangles.now 0 (offsets_of pattern) region) closed.now.lists }
     ensures { AreFragmentLists (length paints.now) closed.now.lists }
+{}
+
+/// The law of the pixel, for the pixel at one place of a region. The words of all fragments there, given in any order, unpack
+/// in ascending order to the pixel's fragments from the farthest to the nearest, one for each primitive that is present.
+/// Each word is below 2^56, so it may be unpacked.
+pub fn pixel_law(
+    triangles: &[ScreenTri],
+    pattern: Pattern,
+    region: Region,
+    place: u32,
+    words: &[u64],
+)
+    requires few { length triangles.now ≤ 2097152 }
+    requires region { IsRegion region }
+    requires place { place < region.w * region.h }
+    requires words { AreWordsAt (all_fragments triangles.now 0 (offsets_of pattern) region) place words.now }
+    ensures fragments { map unpacked (in_order nat_lt words.now) ≡ pixel_fragments (offsets_of pattern) triangles.now (region.x0 + place % region.w) (region.y0 + place / region.w) }
+    ensures count { length words.now ≡ length (present (offsets_of pattern) triangles.now (region.x0 + place % region.w) (region.y0 + place / region.w)) }
+    ensures most { length words.now ≤ length triangles.now }
+    ensures fit { All (λ word. word < 2 ^ 56) words.now }
+    ensures ordered_fit { All (λ word. word < 2 ^ 56) (in_order nat_lt words.now) }
+{}
+
+/// The law of one each: at one place of a region there is at most one fragment of each primitive, in whatever order all
+/// fragments of the region were drawn.
+pub fn one_each_law(triangles: &[ScreenTri], pattern: Pattern, region: Region, place: u32)
+    requires few { length triangles.now ≤ 2097152 }
+    requires region { IsRegion region }
+    requires place { place < region.w * region.h }
+    ensures { (entries : Items (ℕ × ℕ)) → IsPermutation entries (all_fragments triangles.now 0 (offsets_of pattern) region) → length (payloads_at place entries) ≤ length triangles.now }
+{}
+
+/// The law of the lengths. Where the lists of a closed frame hold all fragments of a region, drawn in any order, each list is
+/// as long as there are primitives present in its pixel.
+pub fn lengths_law(closed: &Closed, triangles: &[ScreenTri], pattern: Pattern, region: Region)
+    requires few { length triangles.now ≤ 2097152 }
+    requires region { IsRegion region }
+    requires pixels { length closed.now.lists ≡ region.w * region.h }
+    requires lists { AreListsOf (all_fragments triangles.now 0 (offsets_of pattern) region) closed.now.lists }
+    ensures { map length closed.now.lists ≡ map (λ place. length (present (offsets_of pattern) triangles.now (region.x0 + place % region.w) (region.y0 + place / region.w))) (range_with_len 0 (region.w * region.h)) }
 {}

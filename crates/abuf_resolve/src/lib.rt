@@ -6,7 +6,9 @@
 //!
 //! `laws` ties that to the definition of a sample's colour, which speaks of the primitives alone. By `list_law` the words of
 //! all fragments at a pixel, given in any order, put in ascending order and folded give the colour. By `words_law` and
-//! `sums_law` a frame into which all fragments of a region were drawn, in any order, resolves to the sums of the colours.
+//! `sums_law` a frame into which all fragments of a region were drawn, in any order, resolves to the sums of the colours. By
+//! `pixel_law` the sorted words of a pixel unpack to its fragments, and by `lengths_law` a list of such a frame is as long as
+//! there are primitives that cover a sample of its pixel.
 //! Only `resolve` takes memory.
 #![tactic(auto)]
 
