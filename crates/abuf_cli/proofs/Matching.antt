@@ -1,8 +1,8 @@
 -- What a parse by `clap` says of the matches.
-use Rattle.std.proofs.Common.{◌≡◌, ◌⊎◌, ◌<◌, ◌+◌, ℕ, List, [], ◌∷◌, Bor, map, take, length, get_or, fold, codes, Option, Some, None, true, refl, ap, sym, ◌∙◌}
+use Rattle.std.proofs.Common.{◌≡◌, ◌<◌, ◌+◌, ℕ, List, [], ◌∷◌, Bor, map, take, length, get_or, Some, None, refl, ap, sym, ◌∙◌}
 use Rattle.std.proofs.lemmas.List.{map-append, take_more}
 use Rattle.std.proofs.lemmas.List.Sums.{fold-append}
-use Rattle.clap.specs.Words.{App, Row, Rule, Text, with_rule, fault_of, matches_of, first_of}
+use Rattle.clap.specs.Words.{App, Row, with_rule}
 use Rattle.clap.specs.Kinds.{Kinds, IsAmong}
 use Rattle.clap.specs.declared.error.kind.ErrorKind.{ErrorKind}
 use Rattle.abuf_cli.specs.Commands.{option_rule, with_options, matches_if}

@@ -1,7 +1,10 @@
 -- The commands, as `clap` reads the words behind a command's name.
-use Rattle.std.specs.Prelude.{ℕ, List, [], ◌∷◌, Option, Some, None, fold, codes, unwrap_or}
+use Rattle.std.specs.Prelude.{List, [], ◌∷◌, Option, Some, None, fold, codes, unwrap_or, true, if◌then◌else◌}
+use Rattle.std.specs.Str.{bytes_eq}
 use Rattle.clap.specs.Words.{App, Row, Rule, Text, new_app, new_rule, with_rule, matches_of, first_of, fault_of}
 use Rattle.clap.specs.Kinds.{Kinds}
+use Rattle.abuf_cli.specs.declared.command.Name.{Name}
+use Rattle.abuf_cli.specs.declared.command.Name.TheVariants.{Render, Pick, Demo}
 
 -- An option that takes a value: `--name value` or `--name=value`.
 abbrev pub option_rule : Text → Rule
@@ -17,9 +20,33 @@ option_names =
     codes "size" ∷ codes "samples" ∷ codes "threads" ∷ codes "nodes" ∷ codes "turn" ∷ codes "move" ∷ codes "focal" ∷ codes "near"
     ∷ codes "background" ∷ codes "maxval" ∷ []
 
+-- A value behind no name that has to be given.
+abbrev pub required_rule : Text → Rule
+required_rule name = record (new_rule name) { required = true }
+
 -- The command of `render`.
 abbrev pub render_app : App
 render_app = with_options (new_app (codes "abuf")) option_names
+
+-- The command of `pick`: the options of `render`, and a pixel.
+abbrev pub pick_app : App
+pick_app = with_rule render_app (required_rule (codes "at"))
+
+-- The command of `demo`: the options of `render`, and a number of triangles.
+abbrev pub demo_app : App
+demo_app = with_rule render_app (required_rule (codes "number"))
+
+abbrev pub app_of_command : Name → App
+app_of_command Render = render_app
+app_of_command Pick = pick_app
+app_of_command Demo = demo_app
+
+-- The command that a word names.
+abbrev pub command_named : Text → Option Name
+command_named word =
+    if bytes_eq word (codes "render") then Some Render
+    else (if bytes_eq word (codes "pick") then Some Pick
+    else (if bytes_eq word (codes "demo") then Some Demo else None))
 
 -- The matches, where `clap` finds no fault.
 abbrev pub matches_if : Kinds → List Row → Option (List Row)
@@ -30,6 +57,6 @@ matches_if (kind ∷ kinds) rows = None
 abbrev pub matches : App → List Text → Option (List Row)
 matches app words = matches_if (fault_of app words) (matches_of app words)
 
--- The text that an option was given, or the text of its default.
+-- The text that an option or a value was given, or the text of its default.
 abbrev pub text_of : Text → Text → List Row → Text
 text_of name default rows = unwrap_or (first_of name rows) default

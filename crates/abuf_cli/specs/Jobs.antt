@@ -1,20 +1,22 @@
 -- The job that the words of a command line ask for, or the refusal.
-use Rattle.std.specs.Prelude.{Bool, false, List, [], ◌∷◌, codes, Option, Some, None, Result, Ok, Err, ◌≡◌, if◌then◌else◌}
-use Rattle.std.specs.Str.{bytes_eq}
+use Rattle.std.specs.Prelude.{List, [], ◌∷◌, codes, Option, Some, None, Result, Ok, Err, ◌≡◌}
 use Rattle.clap.specs.Words.{Row, Text}
 use Rattle.abuf_view.specs.Camera.{camera}
-use Rattle.abuf_cli.specs.Commands.{render_app, matches, text_of}
-use Rattle.abuf_cli.specs.Values.{size_of, pattern_of, threads_of, nodes_of, turn_of, shift_of, focal_of, near_of, background_of, maxval_of}
+use Rattle.abuf_cli.specs.Commands.{app_of_command, command_named, matches, text_of}
+use Rattle.abuf_cli.specs.Values.{size_of, pattern_of, threads_of, nodes_of, turn_of, shift_of, focal_of, near_of, background_of, maxval_of, at_of, number_of}
+use Rattle.abuf_cli.specs.declared.command.Name.{Name}
+use Rattle.abuf_cli.specs.declared.command.Name.TheVariants.{Render, Pick, Demo}
+use Rattle.abuf_cli.specs.declared.values.Size.{Size}
 use Rattle.abuf_cli.specs.declared.job.Job.{Job}
 use Rattle.abuf_cli.specs.declared.job.Pose.{Pose}
 use Rattle.abuf_cli.specs.declared.job.What.{What}
-use Rattle.abuf_cli.specs.declared.job.What.TheVariants.{Render}
+use Rattle.abuf_cli.specs.declared.job.What.TheVariants as what
 use Rattle.abuf_cli.specs.declared.job.Opt.{Opt}
 use Rattle.abuf_cli.specs.declared.job.Opt.TheVariants as opt
 use Rattle.abuf_cli.specs.declared.job.WordFault.{WordFault}
 use Rattle.abuf_cli.specs.declared.job.WordFault.TheVariants.{Words, Value, Memory}
 
--- A value and what follows from it, or the refusal of its option.
+-- A value and what follows from it, or the refusal of its text.
 abbrev pub need : {A B : Type 0} → Opt → Option A → (A → Result B WordFault) → Result B WordFault
 need option None next = Err (Value option)
 need option (Some x) next = next x
@@ -33,9 +35,15 @@ pose_of rows =
     need opt.Near (near_of (text_of (codes "near") (codes "0.125") rows)) (λ near.
     Ok (record { turn = turn; shift = shift; focal = focal; near = near })))))
 
--- The options in the order in which their texts are refused, each with the text of its default.
-abbrev pub job_of : What → List Row → Result Job WordFault
-job_of what rows =
+-- What a command makes, where the image has this size. Its value has to be given, so that no text stands by default.
+abbrev pub what_of : Name → Size → List Row → Result What WordFault
+what_of Render size rows = Ok what.Render
+what_of Pick size rows = need opt.At (at_of size (text_of (codes "at") [] rows)) (λ pixel. Ok (what.Pick pixel.x pixel.y))
+what_of Demo size rows = need opt.Number (number_of (text_of (codes "number") [] rows)) (λ number. Ok (what.Demo number))
+
+-- The options in the order in which their texts are refused, each with the text of its default; then what the command makes.
+abbrev pub job_of : Name → List Row → Result Job WordFault
+job_of name rows =
     need opt.Size (size_of (text_of (codes "size") (codes "640x480") rows)) (λ size.
     need opt.Samples (pattern_of (text_of (codes "samples") (codes "1") rows)) (λ pattern.
     need opt.Threads (threads_of (text_of (codes "threads") (codes "4") rows)) (λ threads.
@@ -43,6 +51,7 @@ job_of what rows =
     and_then (pose_of rows) (λ pose.
     need opt.Background (background_of (text_of (codes "background") (codes "0,0,0") rows)) (λ background.
     need opt.Maxval (maxval_of (text_of (codes "maxval") (codes "255") rows)) (λ maxval.
+    and_then (what_of name size rows) (λ what.
     Ok (record {
       what = what;
       camera = camera size.width size.height pose.turn pose.shift pose.focal pose.near;
@@ -51,21 +60,26 @@ job_of what rows =
       nodes = nodes;
       background = background;
       maxval = maxval;
-    }))))))))
+    })))))))))
 
 -- Without matches the words aren't understood.
-abbrev pub of_matches : What → Option (List Row) → Result Job WordFault
-of_matches what None = Err Words
-of_matches what (Some rows) = job_of what rows
+abbrev pub of_matches : Name → Option (List Row) → Result Job WordFault
+of_matches name None = Err Words
+of_matches name (Some rows) = job_of name rows
 
--- The first word is this one.
-abbrev pub begins_with : Text → List Text → Bool
-begins_with name [] = false
-begins_with name (word ∷ words) = bytes_eq word name
+-- The command that the first word names.
+abbrev pub first_command : List Text → Option Name
+first_command [] = None
+first_command (word ∷ words) = command_named word
 
--- The first word names the command, and `clap` reads the words behind it. `Memory` never stands here.
+-- Where no command is named the words aren't understood; else `clap` reads the words behind its name.
+abbrev pub of_command : Option Name → List Text → Result Job WordFault
+of_command None words = Err Words
+of_command (Some name) words = of_matches name (matches (app_of_command name) words)
+
+-- The first word names the command. `Memory` never stands here.
 abbrev pub job : List Text → Result Job WordFault
-job words = if begins_with (codes "render") words then of_matches Render (matches render_app words) else Err Words
+job words = of_command (first_command words) words
 
 -- An answer is the job or its refusal; want of memory may always come.
 abbrev pub Answers : Result Job WordFault → Result Job WordFault → Type 0

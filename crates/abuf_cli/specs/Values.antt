@@ -1,9 +1,10 @@
--- What the texts of the options stand for. None is a text that isn't in its form, or a value out of its range.
-use Rattle.std.specs.Prelude.{◌*◌, ℕ, ℤ, pos, negsuc, min, ◌&&◌, Bool, nat_le, int_lt, not, List, [], ◌∷◌, codes, unsigned_abs, Option, Some, None, option_map, option_and_then, if◌then◌else◌}
+-- What the texts of the options and values stand for. None is a text that isn't in its form, or a value out of its range.
+use Rattle.std.specs.Prelude.{◌*◌, ℕ, ℤ, pos, negsuc, min, ◌&&◌, nat_le, nat_lt, int_lt, not, List, [], ◌∷◌, codes, unsigned_abs, Option, Some, None, option_map, option_and_then, if◌then◌else◌}
 use Rattle.std.specs.Str.{bytes_eq}
 use Rattle.std.specs.Ordering.{int_eq}
 use Rattle.abuf_cli.specs.Texts.{whole_number, cut_at, three_texts, four_texts, signed_number, scaled_number}
 use Rattle.abuf_cli.specs.declared.values.Size.{Size}
+use Rattle.abuf_cli.specs.declared.values.Pixel.{Pixel}
 use Rattle.abuf_cli.specs.declared.values.Triple.{Triple}
 use Rattle.abuf_raster.specs.declared.pattern.Pattern.{Pattern}
 use Rattle.abuf_raster.specs.declared.pattern.Pattern.TheVariants.{One, Four, Eight}
@@ -112,3 +113,21 @@ background_of text = option_map (λ t. channel t.x ∷ channel t.y ∷ channel t
 abbrev pub maxval_of : List ℕ → Option ℕ
 maxval_of text =
     if bytes_eq text (codes "255") then Some 255 else (if bytes_eq text (codes "65535") then Some 65535 else None)
+
+-- The pixel x from the left and y from the top, where it is within an image of this size.
+abbrev pub pixel_within : Size → ℕ → ℕ → Option Pixel
+pixel_within size x y = if nat_lt x size.width && nat_lt y size.height then Some (record { x = x; y = y }) else None
+
+-- The pixel of two numbers, where both are numbers.
+abbrev pub pixel_from : Size → Option ℕ → Option ℕ → Option Pixel
+pixel_from size None y = None
+pixel_from size (Some x) None = None
+pixel_from size (Some x) (Some y) = pixel_within size x y
+
+-- `X,Y`, each one to four digits, a pixel within an image of this size; the first comma (44) divides.
+abbrev pub at_of : Size → List ℕ → Option Pixel
+at_of size text = option_and_then (λ parts. pixel_from size (whole_number 4 parts.0) (whole_number 4 parts.1)) (cut_at 44 text)
+
+-- One to six digits, 1 to 200000.
+abbrev pub number_of : List ℕ → Option ℕ
+number_of text = counted 1 200000 (whole_number 6 text)

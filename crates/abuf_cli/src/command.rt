@@ -2,13 +2,36 @@
 ghost use Rattle.std.specs.Prelude.{◌≡◌, IfOk, IfErr, map, option_map, Some, None, Err, true};
 ghost use Rattle.std.specs.String.{string_bytes};
 ghost use Rattle.clap.specs.Words.{app_of, rule_of, rows_of, found_of, with_rule, first_of, is_simple_and_free};
-ghost use Rattle.abuf_cli.specs.Commands.{option_rule, option_names, with_options, render_app, matches, text_of};
+ghost use Rattle.abuf_cli.specs.Commands.{option_rule, option_names, with_options, required_rule, render_app, app_of_command, command_named, matches, text_of};
 ghost use Rattle.abuf_cli.specs.Jobs.{IsOfWords};
 
 use crate::job::WordFault;
 use clap::error::ErrorKind;
 use clap::{Arg, ArgMatches, Command};
 use std::alloc::{AllocError, Global};
+
+/// A command, by the word that names it.
+#[derive(Clone, Copy, Debug, PartialEq, Eq)]
+pub enum Name {
+    /// `render`, the image of a scene.
+    Render,
+    /// `pick`, the fragments of one pixel.
+    Pick,
+    /// `demo`, the demonstration scene.
+    Demo,
+}
+
+/// The command that this word names.
+pub fn command_named(word: &str) -> Option<Name>
+    ensures { result ≡ command_named word.now }
+{
+    match word {
+        "render" => Some(Name::Render),
+        "pick" => Some(Name::Pick),
+        "demo" => Some(Name::Demo),
+        _ => None,
+    }
+}
 
 // The options of every command.
 static OPTIONS: [&str; 10] = [
@@ -34,6 +57,17 @@ fn with_option<'a>(
     command.arg(Arg::new(alloc, name).long(name))
 }
 
+// A command with a value that has to be given, behind no name.
+fn with_required<'a>(
+    alloc: Global,
+    command: Command<'a>,
+    name: &'a str,
+) -> Result<Command<'a>, AllocError>
+    ensures { IfOk result (λ r. app_of r ≡ with_rule (app_of command.entry) (required_rule name.entry.now)) }
+{
+    command.arg(Arg::new(alloc, name).required(true))
+}
+
 // A command with an option for each of the names.
 fn with_options_of<'a>(
     alloc: Global,
@@ -55,6 +89,16 @@ fn render<'a>(alloc: Global) -> Result<Command<'a>, AllocError>
     with_options_of(alloc, Command::new(alloc, "abuf"), &OPTIONS)
 }
 
+fn command_of<'a>(alloc: Global, name: Name) -> Result<Command<'a>, AllocError>
+    ensures { IfOk result (λ r. app_of r ≡ app_of_command name) }
+{
+    match name {
+        Name::Render => render(alloc),
+        Name::Pick => with_required(alloc, render(alloc)?, "at"),
+        Name::Demo => with_required(alloc, render(alloc)?, "number"),
+    }
+}
+
 // What `clap` finds in the words, of which the first is the command's name.
 fn parse<'a>(command: Command<'a>, words: &'a [String]) -> Result<ArgMatches<'a>, WordFault>
     requires { is_simple_and_free (app_of command) ≡ true }
@@ -71,14 +115,14 @@ fn parse<'a>(command: Command<'a>, words: &'a [String]) -> Result<ArgMatches<'a>
     }
 }
 
-// The text that an option was given.
+// The text that an option or a value was given.
 fn given_text<'a>(matches: &ArgMatches<'a>, name: &str) -> Option<&'a str>
     ensures { option_map (λ t. t.now) result ≡ first_of name.now (rows_of (found_of matches.now)) }
 {
     matches.get_str(name)
 }
 
-/// The text of an option, or that of its default.
+/// The text that an option or a value was given, or that of its default.
 pub fn text_of<'a>(matches: &ArgMatches<'a>, name: &str, default: &'a str) -> &'a str
     ensures { result.now ≡ text_of name.now default.now (rows_of (found_of matches.now)) }
 {
@@ -88,13 +132,17 @@ pub fn text_of<'a>(matches: &ArgMatches<'a>, name: &str, default: &'a str) -> &'
     }
 }
 
-/// What `clap` finds in the words of `render`, of which the first is the command's name.
-pub fn render_matches<'a>(alloc: Global, words: &'a [String]) -> Result<ArgMatches<'a>, WordFault>
-    ensures found { IfOk result (λ m. matches render_app (map string_bytes words.entry.now) ≡ Some (rows_of (found_of m))) }
-    ensures none { result ≡ Err WordFault.Words → matches render_app (map string_bytes words.entry.now) ≡ None }
+/// What `clap` finds in the words of a command, of which the first is its name.
+pub fn matches_of<'a>(
+    alloc: Global,
+    name: Name,
+    words: &'a [String],
+) -> Result<ArgMatches<'a>, WordFault>
+    ensures found { IfOk result (λ m. matches (app_of_command name) (map string_bytes words.entry.now) ≡ Some (rows_of (found_of m))) }
+    ensures none { result ≡ Err WordFault.Words → matches (app_of_command name) (map string_bytes words.entry.now) ≡ None }
     ensures cause { IfErr result IsOfWords }
 {
-    let Ok(command) = render(alloc) else {
+    let Ok(command) = command_of(alloc, name) else {
         return Err(WordFault::Memory);
     };
     parse(command, words)

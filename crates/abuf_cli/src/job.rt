@@ -3,28 +3,33 @@ ghost use Rattle.std.specs.Prelude.{◌≡◌, map, IfOk};
 ghost use Rattle.std.specs.String.{string_bytes};
 ghost use Rattle.clap.specs.Words.{rows_of, found_of};
 ghost use Rattle.abuf_view.specs.Camera.{IsSize, IsCamera, camera};
-ghost use Rattle.abuf_cli.specs.Commands.{render_app, matches};
-ghost use Rattle.abuf_cli.specs.Sound.{IsJob};
-ghost use Rattle.abuf_cli.specs.Jobs.{pose_of, job_of, of_matches, begins_with, job, Answers};
+ghost use Rattle.abuf_cli.specs.Commands.{app_of_command, matches};
+ghost use Rattle.abuf_cli.specs.Sound.{IsWhat, IsJob};
+ghost use Rattle.abuf_cli.specs.Jobs.{pose_of, what_of, job_of, of_matches, first_command, job, Answers};
 
-use crate::command::{render_matches, text_of};
+use crate::command::{Name, command_named, matches_of, text_of};
 use crate::values::{
-    Size, background_of, focal_of, maxval_of, near_of, nodes_of, pattern_of, shift_of, size_of,
-    threads_of, turn_of,
+    Size, at_of, background_of, focal_of, maxval_of, near_of, nodes_of, number_of, pattern_of,
+    shift_of, size_of, threads_of, turn_of,
 };
 use abuf_raster::Pattern;
 use abuf_view::Camera;
 use clap::ArgMatches;
 use std::alloc::Global;
 
-/// What is to be made: the command that the first word names.
+/// What is to be made: the command that the first word names, and the value behind no name that it takes.
 #[derive(Clone, Copy, Debug, PartialEq, Eq)]
 pub enum What {
     /// The image of a scene, by `render`.
     Render,
+    /// The fragments of one pixel, by `pick`: x from the left and y from the top, both from 0, and within the image.
+    Pick { x: u32, y: u32 },
+    /// The demonstration scene of this many triangles, from 1 to 200000, by `demo`.
+    Demo { number: u32 },
 }
 
-/// An option of the command line, in the order in which their texts are refused.
+/// What a text on the command line is given for, in the order in which their texts are refused: the options of every
+/// command, and then the value behind no name that the command takes.
 #[derive(Clone, Copy, Debug, PartialEq, Eq)]
 pub enum Opt {
     /// `--size WxH`, in pixels: each from 1 to 4096, and their product at most 4194304. 640x480 by default.
@@ -47,6 +52,10 @@ pub enum Opt {
     Background,
     /// `--maxval`: 255 or 65535. 255 by default.
     Maxval,
+    /// The `X,Y` of `pick`, a pixel: X from 0 to the width less 1, and Y from 0 to the height less 1. It has to be given.
+    At,
+    /// The `N` of `demo`, a number of triangles, from 1 to 200000. It has to be given.
+    Number,
 }
 
 /// Why the words give no job.
@@ -54,7 +63,7 @@ pub enum Opt {
 pub enum WordFault {
     /// There is no word, the first names no command, or `clap` has no matches for the others.
     Words,
-    /// The text of this option isn't in its form or range; it is the first such option.
+    /// The text of this option or value isn't in its form or range; it is the first such text.
     Value { option: Opt },
     /// Want of memory; it may come at any words.
     Memory,
@@ -138,9 +147,32 @@ impl Pose {
     }
 }
 
+// What a command makes, where the image has this size.
+fn what_of(name: Name, size: Size, matches: &ArgMatches) -> Result<What, WordFault>
+    ensures value { result ≡ what_of name size (rows_of (found_of matches.now)) }
+    ensures sound { IfOk result (IsWhat size.width size.height) }
+{
+    match name {
+        Name::Render => Ok(What::Render),
+        Name::Pick => match at_of(size, text_of(matches, "at", "").as_bytes()) {
+            Some(pixel) => Ok(What::Pick {
+                x: pixel.x,
+                y: pixel.y,
+            }),
+            None => Err(WordFault::Value { option: Opt::At }),
+        },
+        Name::Demo => match number_of(text_of(matches, "number", "").as_bytes()) {
+            Some(number) => Ok(What::Demo { number }),
+            None => Err(WordFault::Value {
+                option: Opt::Number,
+            }),
+        },
+    }
+}
+
 // The job of the texts, in the order in which they are refused.
-fn job_of(what: What, matches: &ArgMatches) -> Result<Job, WordFault>
-    ensures value { result ≡ job_of what (rows_of (found_of matches.now)) }
+fn job_of(name: Name, matches: &ArgMatches) -> Result<Job, WordFault>
+    ensures value { result ≡ job_of name (rows_of (found_of matches.now)) }
     ensures sound { IfOk result IsJob }
 {
     let Some(size) = size_of(text_of(matches, "size", "640x480").as_bytes()) else {
@@ -170,6 +202,7 @@ fn job_of(what: What, matches: &ArgMatches) -> Result<Job, WordFault>
             option: Opt::Maxval,
         });
     };
+    let what = what_of(name, size, matches)?;
     Ok(Job {
         what,
         camera: pose.camera(size),
@@ -181,39 +214,38 @@ fn job_of(what: What, matches: &ArgMatches) -> Result<Job, WordFault>
     })
 }
 
-// The job of the words of `render`, of which the first is the command's name.
-fn render_job(alloc: Global, words: &[String]) -> Result<Job, WordFault>
-    ensures answer { Answers (of_matches What.Render (matches render_app (map string_bytes words.now))) result }
+// The job of the words of a command, of which the first is its name.
+fn command_job(alloc: Global, name: Name, words: &[String]) -> Result<Job, WordFault>
+    ensures answer { Answers (of_matches name (matches (app_of_command name) (map string_bytes words.now))) result }
     ensures sound { IfOk result IsJob }
 {
-    match render_matches(alloc, words) {
-        Ok(matches) => job_of(What::Render, &matches),
+    match matches_of(alloc, name, words) {
+        Ok(matches) => job_of(name, &matches),
         Err(fault) => Err(fault),
     }
 }
 
-// The first word is this one.
-fn begins_with(words: &[String], name: &str) -> bool
-    ensures { result ≡ begins_with name.now (map string_bytes words.now) }
+// The command that the first word names.
+fn first_command(words: &[String]) -> Option<Name>
+    ensures { result ≡ first_command (map string_bytes words.now) }
 {
     match words.first() {
-        Some(word) => word.as_str() == name,
-        None => false,
+        Some(word) => command_named(word.as_str()),
+        None => None,
     }
 }
 
 /// Reads the words behind the program's name: the name of a command, then what `clap` reads.
 ///
 /// `Words` comes where there is no first word, where it names no command, or where `clap` has no matches for the words
-/// behind it (a request for help is such a case). `Value` comes where the words parse and a text isn't in its form or
-/// range, and names the first such option in the order of [`Opt`].
+/// behind it (a request for help is such a case, and a value that has to be given and isn't). `Value` comes where the
+/// words parse and a text isn't in its form or range, and names the first such text in the order of [`Opt`].
 pub fn read_words(alloc: Global, words: &[String]) -> Result<Job, WordFault>
     ensures answer { Answers (job (map string_bytes words.now)) result }
     ensures sound { IfOk result IsJob }
 {
-    if begins_with(words, "render") {
-        render_job(alloc, words)
-    } else {
-        Err(WordFault::Words)
+    match first_command(words) {
+        Some(name) => command_job(alloc, name, words),
+        None => Err(WordFault::Words),
     }
 }

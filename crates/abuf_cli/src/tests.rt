@@ -1,5 +1,5 @@
 // Words, and what they ask for.
-use crate::{Job, Opt, WordFault, read_words};
+use crate::{Job, Opt, What, WordFault, read_words};
 use abuf_raster::Pattern;
 use std::alloc::Global;
 
@@ -34,6 +34,24 @@ const NOT_UNDERSTOOD: &[&[&str]] = &[
     &["render", "--help"],
     &["render", "-V"],
     &["render", "--version"],
+    &["render", "1,1"],
+    &["Pick", "1,1"],
+    &["1,1", "pick"],
+    &["pick"],
+    &["pick", "--"],
+    &["pick", "1,1", "2,2"],
+    &["pick", "1,1", "--", "2,2"],
+    &["pick", "-1,0"],
+    &["pick", "--at", "1,1"],
+    &["pick", "--at=1,1"],
+    &["pick", "--size", "1,1"],
+    &["pick", "--size", "0x0"],
+    &["pick", "1,1", "--help"],
+    &["demo"],
+    &["demo", "1", "2"],
+    &["demo", "-1"],
+    &["demo", "--number", "1"],
+    &["demo", "--size", "0x0"],
 ];
 
 const BAD_VALUES: &[(&[&str], Opt)] = &[
@@ -60,6 +78,38 @@ const BAD_VALUES: &[(&[&str], Opt)] = &[
     (&["render", "--near", "0.0624"], Opt::Near),
     (&["render", "--background", "1,1"], Opt::Background),
     (&["render", "--maxval", "256"], Opt::Maxval),
+    (&["pick", "640,0"], Opt::At),
+    (&["pick", "0,480"], Opt::At),
+    (&["pick", "4,0", "--size", "4x4"], Opt::At),
+    (&["pick", "--size=4x5", "4,0"], Opt::At),
+    (&["pick", "--size=5x4", "0,4"], Opt::At),
+    (&["pick", "--", "-1,0"], Opt::At),
+    (&["pick", ""], Opt::At),
+    (&["pick", "-"], Opt::At),
+    (&["pick", "1"], Opt::At),
+    (&["pick", "1,"], Opt::At),
+    (&["pick", ",1"], Opt::At),
+    (&["pick", "1,2,3"], Opt::At),
+    (&["pick", "1x2"], Opt::At),
+    (&["pick", "1, 2"], Opt::At),
+    (&["pick", "+1,0"], Opt::At),
+    (&["pick", "00001,0"], Opt::At),
+    (&["pick", "0,00001"], Opt::At),
+    (&["pick", "9999,0", "--size", "0x4"], Opt::Size),
+    (&["pick", "9999,0", "--near", "0"], Opt::Near),
+    (&["pick", "9999,0", "--maxval", "256"], Opt::Maxval),
+    (&["demo", "0"], Opt::Number),
+    (&["demo", "000000"], Opt::Number),
+    (&["demo", "200001"], Opt::Number),
+    (&["demo", "1000000"], Opt::Number),
+    (&["demo", "0000001"], Opt::Number),
+    (&["demo", "+1"], Opt::Number),
+    (&["demo", "--", "-1"], Opt::Number),
+    (&["demo", ""], Opt::Number),
+    (&["demo", "1,1"], Opt::Number),
+    (&["demo", "0", "--size", "0x4"], Opt::Size),
+    (&["demo", "0", "--near", "0"], Opt::Near),
+    (&["demo", "0", "--maxval", "256"], Opt::Maxval),
 ];
 
 #[test]
@@ -133,6 +183,136 @@ fn defaults_and_values_of_a_job(rt: HostRuntime) {
             assert!(rt; job.background == [0, 32768, 65535]);
             assert!(rt; job.maxval == 65535);
         }
+        Err(_) => assert!(rt; false),
+    }
+}
+
+// What a job is, apart from where its camera stands and looks.
+#[derive(Clone, Copy, Debug, PartialEq, Eq)]
+struct Asked {
+    what: What,
+    size: (u32, u32),
+    pattern: Pattern,
+    threads: u32,
+    nodes: u32,
+    background: [u16; 3],
+    maxval: u32,
+}
+
+fn asked_by(job: &Job) -> Asked {
+    Asked {
+        what: job.what,
+        size: (job.camera.width(), job.camera.height()),
+        pattern: job.pattern,
+        threads: job.threads,
+        nodes: job.nodes,
+        background: job.background,
+        maxval: job.maxval,
+    }
+}
+
+// What is asked where no option but the size is given.
+fn by_default(what: What, size: (u32, u32)) -> Asked {
+    Asked {
+        what,
+        size,
+        pattern: Pattern::One,
+        threads: 4,
+        nodes: 4194304,
+        background: [0, 0, 0],
+        maxval: 255,
+    }
+}
+
+const MADE: &[(&[&str], (u32, u32), What)] = &[
+    (&["render"], (640, 480), What::Render),
+    (&["pick", "0,0"], (640, 480), What::Pick { x: 0, y: 0 }),
+    (
+        &["pick", "639,479"],
+        (640, 480),
+        What::Pick { x: 639, y: 479 },
+    ),
+    (
+        &["pick", "3,0", "--size", "4x1"],
+        (4, 1),
+        What::Pick { x: 3, y: 0 },
+    ),
+    (
+        &["pick", "--size=1x4", "0,3"],
+        (1, 4),
+        What::Pick { x: 0, y: 3 },
+    ),
+    (
+        &["pick", "4095,1023", "--size", "4096x1024"],
+        (4096, 1024),
+        What::Pick { x: 4095, y: 1023 },
+    ),
+    (
+        &["pick", "0002,0001"],
+        (640, 480),
+        What::Pick { x: 2, y: 1 },
+    ),
+    (
+        &["pick", "--size", "4x4", "--", "2,1"],
+        (4, 4),
+        What::Pick { x: 2, y: 1 },
+    ),
+    (&["demo", "1"], (640, 480), What::Demo { number: 1 }),
+    (&["demo", "000001"], (640, 480), What::Demo { number: 1 }),
+    (
+        &["demo", "200000"],
+        (640, 480),
+        What::Demo { number: 200000 },
+    ),
+    (
+        &["demo", "--size=1x1", "--", "12"],
+        (1, 1),
+        What::Demo { number: 12 },
+    ),
+];
+
+#[test]
+fn what_each_command_makes(rt: HostRuntime) {
+    let alloc = rt.alloc();
+    for (words, size, what) in MADE {
+        match read(alloc, words) {
+            Ok(job) => assert!(rt; asked_by(&job) == by_default(*what, *size)),
+            Err(_) => assert!(rt; false),
+        }
+    }
+}
+
+#[test]
+fn options_before_and_behind_a_value(rt: HostRuntime) {
+    let alloc = rt.alloc();
+    match read(
+        alloc,
+        &[
+            "demo",
+            "--size",
+            "3x4",
+            "--samples=4",
+            "1000",
+            "--threads",
+            "64",
+            "--nodes=8388608",
+            "--background",
+            "0,1,0",
+            "--maxval=65535",
+        ],
+    ) {
+        Ok(job) => assert!(rt;
+            asked_by(&job)
+                == Asked {
+                    what: What::Demo { number: 1000 },
+                    size: (3, 4),
+                    pattern: Pattern::Four,
+                    threads: 64,
+                    nodes: 8388608,
+                    background: [0, 65535, 0],
+                    maxval: 65535,
+                }
+        ),
         Err(_) => assert!(rt; false),
     }
 }

@@ -1,7 +1,7 @@
-// What the texts of the options stand for.
+// What the texts of the options and values stand for.
 ghost use Rattle.std.specs.Prelude.{◌≡◌, ◌≤◌, ◌<◌, ◌^◌, ◌⊎◌, pos, IfSome, unsigned_abs};
 ghost use Rattle.abuf_view.specs.Camera.{IsSize, IsTurn, IsNearby, IsFrom, turn_of as quaternion, place_of};
-ghost use Rattle.abuf_cli.specs.Values.{size_of, size_within, pattern_of, counted, threads_of, nodes_of, turn_part, some_turn, turn_of, three_scaled, shift_of, between, focal_of, near_of, channel, background_of, maxval_of};
+ghost use Rattle.abuf_cli.specs.Values.{size_of, size_within, pattern_of, counted, threads_of, nodes_of, turn_part, some_turn, turn_of, three_scaled, shift_of, between, focal_of, near_of, channel, background_of, maxval_of, pixel_within, at_of, number_of};
 
 use crate::parts::{cut_at, four_texts, scaled_number, signed_number, three_texts, whole_number};
 use abuf_raster::Pattern;
@@ -11,6 +11,13 @@ use abuf_raster::Pattern;
 pub struct Size {
     pub width: u32,
     pub height: u32,
+}
+
+/// The place of a pixel, from the left and from the top, both from 0.
+#[derive(Clone, Copy)]
+pub struct Pixel {
+    pub x: u32,
+    pub y: u32,
 }
 
 /// Three numbers of one text.
@@ -204,4 +211,36 @@ pub fn maxval_of(text: &str) -> Option<u32>
         "65535" => Some(65535),
         _ => None,
     }
+}
+
+// The pixel at this place, within an image of this size.
+fn pixel_within(size: Size, x: u32, y: u32) -> Option<Pixel>
+    ensures value { result ≡ pixel_within size x y }
+    ensures within { IfSome result (λ p. (p.x < size.width) × (p.y < size.height)) }
+{
+    if x < size.width && y < size.height {
+        Some(Pixel { x, y })
+    } else {
+        None
+    }
+}
+
+/// `X,Y`, a pixel of an image of this size.
+pub fn at_of(size: Size, text: &[u8]) -> Option<Pixel>
+    ensures value { result ≡ at_of size text.now }
+    ensures within { IfSome result (λ p. (p.x < size.width) × (p.y < size.height)) }
+{
+    let (x, y) = cut_at(text, b',')?;
+    match (whole_number(x, 4), whole_number(y, 4)) {
+        (Some(x), Some(y)) => pixel_within(size, x, y),
+        _ => None,
+    }
+}
+
+/// A number of triangles.
+pub fn number_of(text: &[u8]) -> Option<u32>
+    ensures value { result ≡ number_of text.now }
+    ensures range { IfSome result (λ n. (1 ≤ n) × (n ≤ 200000)) }
+{
+    counted(1, 200000, whole_number(text, 6))
 }

@@ -1,5 +1,5 @@
 -- The answer of a run that drew its scene.
-use Rattle.std.proofs.Common.{◌≡◌, ◌⊎◌, inl, inr, ℕ, List, Option, Some, None, option_map, Result, Ok, Err, MatchResult, IfSome, refl, sym, ap, ◌∙◌, subst, arith}
+use Rattle.std.proofs.Common.{◌≡◌, inl, inr, ℕ, List, Option, Some, None, option_map, Result, Ok, Err, MatchResult, IfSome, refl, sym, ap, ◌∙◌, subst, arith}
 use Rattle.std.specs.Io.KnownBytes.{Appends, Keeps}
 use Rattle.abuf_top.specs.Image.{Drawing}
 use Rattle.abuf_top.specs.Refusals.{pool_text}

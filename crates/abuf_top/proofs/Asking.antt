@@ -1,8 +1,8 @@
 -- What holds where the libraries up to some were read.
-use Rattle.std.proofs.Common.{◌≡◌, ◌+◌, ◌++◌, ◌∷◌, ℕ, List, [], None, Some, Option, add_assoc, sym, ◌∙◌, refl}
+use Rattle.std.proofs.Common.{◌≡◌, ◌+◌, ◌++◌, ◌∷◌, ℕ, List, [], None, Some, add_assoc, sym, ◌∙◌, refl}
 use Rattle.abuf_num.specs.declared.plain.Paint.{Paint}
 use Rattle.abuf_mtl.specs.StandsFor.{StandsFor}
-use Rattle.abuf_top.specs.Libraries.{Held, refusal_from, library_refusal, or_later, with_content, asked_from, one_and, contents_from}
+use Rattle.abuf_top.specs.Libraries.{Held, refusal_from, library_refusal, asked_from, contents_from}
 use Rattle.abuf_top.specs.declared.stop.Refusal.{Refusal}
 
 -- `read` are the contents of the first libraries, and the names of the others are `rest`

@@ -1,4 +1,6 @@
 pub mod Asking
-pub mod Drawing
+pub mod Frames
+pub mod Sights
+pub mod Longest
 pub mod Telling
 pub mod Answering

@@ -1,18 +1,16 @@
 -- What is told of the source and of the shelf, and what follows for the lines of the verdict.
-use Rattle.std.proofs.Common.{◌≡◌, ◌⊎◌, inl, inr, ◌+◌, ◌++◌, ◌∷◌, [], ◌≤◌, ◌<◌, ℕ, Bool, true, false, nat_lt, List, length, Option, Some, None, option_map, option_and_then, Result, Ok, Err, IfSome, refl, sym, ap, ◌∙◌, subst, append-nil, length-append, arith}
+use Rattle.std.proofs.Common.{◌≡◌, ◌⊎◌, inl, inr, ◌+◌, ◌++◌, ◌∷◌, [], ◌≤◌, ℕ, Bool, true, false, List, Option, Some, None, option_map, option_and_then, Result, Ok, Err, IfSome, refl, sym, ap, ◌∙◌, subst, append-nil, arith}
 use Rattle.std.specs.Io.KnownBytes.{Consumes, IsAtEnd}
-use Rattle.std.proofs.lemmas.Bool.Decides.{nat_tests}
-use Rattle.abuf_io.specs.declared.whole.ReadEnd.TheVariants.{TooLong}
-use Rattle.abuf_io.specs.Whole.{ReadsUpTo}
-use Rattle.abuf_obj.specs.Scene.{points, faces, names, libraries, obj_fault}
+use Rattle.abuf_io.specs.Causes.{Rose}
+use Rattle.abuf_obj.specs.Scene.{names}
 use Rattle.abuf_obj.specs.declared.scene.Obj.{Obj}
 use Rattle.abuf_cli.specs.declared.job.Job.{Job}
 use Rattle.abuf_view.specs.declared.projection.Projected.{Projected}
 use Rattle.abuf_top.specs.Image.{Drawing}
 use Rattle.abuf_top.specs.Libraries.{Held, first_refusal, contents, asked, one_and}
 use Rattle.abuf_top.specs.Prepared.{Prepares, StopsAt, told_by}
-use Rattle.abuf_top.specs.Verdict.{library_line, material_line, or_refusal, shelf_for, scene_of, fault_line}
-use Rattle.abuf_top.specs.Fetches.{CallsAtMost, fault_fetches}
+use Rattle.abuf_top.specs.Verdict.{library_line, material_line, or_refusal, shelf_for}
+use Rattle.abuf_top.specs.Fetches.{CallsAtMost}
 use Rattle.abuf_top.specs.declared.stop.Refusal.{Refusal}
 use Rattle.abuf_top.specs.declared.stop.Stop.{Stop}
 use Rattle.abuf_top.specs.declared.stop.Stop.TheVariants as stop
@@ -28,6 +26,16 @@ stops-weaker line few more stop.Memory f h = h
 pub prepares-weaker : (line : Result Drawing Refusal) (few more : Type 0) (job : Job) (r : Result Projected Stop) → (few → more) → Prepares line few job r → Prepares line more job r
 prepares-weaker line few more job (Ok shown) f h = h
 prepares-weaker line few more job (Err s) f h = stops-weaker line few more s f h
+
+pub told-weaker : (line : Option (Result Drawing Refusal)) (few more : Type 0) (job : Job) (r : Result Projected Stop) → (few → more)
+    → IfSome line (λ l. Prepares l few job r) → IfSome line (λ l. Prepares l more job r)
+told-weaker None few more job r f h = tt
+told-weaker (Some line) few more job r f h = prepares-weaker line few more job r f h
+
+-- a count that stays at 0 didn't rise
+pub still : Rose 0 0 ⊎ Rose 0 0 → ⊥
+still (inl h) = absurd (omega (arith, h))
+still (inr h) = absurd (omega (arith, h))
 
 -- a scene's libraries are read from a shelf that tells, or there are none
 pub furnish_told : (job : Job) (obj : Obj) (tells : Bool) (held : Held) (rose : Type 0) (r : Result Projected Stop)

@@ -1,7 +1,6 @@
 -- What the drawing leaves, and how it ends.
 use Rattle.std.specs.Prelude.{◌≡◌, ◌≤◌, ◌*◌, ◌⊎◌, ℕ, List, length, codes, Option, IsSome, IsNone, Result, Ok, Err}
 use Rattle.std.specs.Io.KnownBytes.{Appends, Keeps}
-use Rattle.abuf_cli.specs.declared.job.Job.{Job}
 use Rattle.abuf_frame.specs.Closing.{Ended}
 use Rattle.abuf_resolve.specs.Words.{AreListsOf}
 use Rattle.abuf_top.specs.Refusals.{refusal_status, refusal_text, pool_text}
@@ -21,6 +20,15 @@ pub record IsFrameOf (d : Drawing) (closed : Ended) : Type 0 where
   pub each : length closed.lists ≡ d.job.camera.width * d.job.camera.height
   pub lists : total d ≤ d.job.nodes → AreListsOf (fragments d) closed.lists
 
+-- The bytes that are to be written, or how a drawing stops before that: by a full pool, or by want of memory.
+abbrev pub Produces : Verdict → Result (List ℕ) Stop → Type 0
+Produces line (Ok bytes) = line ≡ Write bytes
+Produces line (Err (stop.Refused r)) = ⊥
+Produces line (Err (stop.PoolFull fragments nodes)) = line ≡ Refuse 5 (pool_text fragments nodes)
+Produces line (Err stop.ReadFault) = ⊥
+Produces line (Err stop.WriteFault) = ⊥
+Produces line (Err stop.Memory) = Unit {0}
+
 -- All that is to be written was written.
 abbrev pub Finished : Verdict → Taken → Type 0
 Finished line out = (bytes : List ℕ) × (line ≡ Write bytes) × Appends out.old out.new bytes
@@ -33,7 +41,7 @@ StopsDrawing line out stop.ReadFault = ⊥
 StopsDrawing line out stop.WriteFault = ((bytes : List ℕ) × (line ≡ Write bytes) × TookPart out bytes) × Failed out
 StopsDrawing line out stop.Memory = Keeps out.old out.new
 
--- A frame is handed back where the image was written, where writing it failed, and where the pool was full.
+-- A frame is handed back where the output was written, where writing it failed, and where the pool was full.
 abbrev pub HandsBack : {T : Type 0} → Result T Stop → Option Ended → Type 0
 HandsBack (Ok _) closed = IsSome closed
 HandsBack (Err (stop.Refused r)) closed = IsNone closed

@@ -3,8 +3,13 @@ pub mod Libraries
 pub mod Stopped
 pub mod Ends
 pub mod Image
+pub mod Report
+pub mod Summary
+pub mod Output
+pub mod Demonstration
 pub mod Verdict
 pub mod Fetches
 pub mod Prepared
 pub mod Table
 pub mod Ending
+pub mod Drawn

@@ -12,7 +12,8 @@ use Rattle.abuf_top.specs.declared.stop.Refusal.TheVariants as refusal
 use Rattle.abuf_top.specs.declared.stop.Stop.{Stop}
 use Rattle.abuf_top.specs.declared.stop.Stop.TheVariants as stop
 
--- The name of an option in messages: what the user writes behind `--`.
+-- The name of an option in messages: what the user writes behind `--`, and for the value of `pick` and of `demo` a name of
+-- its own.
 abbrev pub option_text : Opt → List ℕ
 option_text opt.Size = codes "size"
 option_text opt.Samples = codes "samples"
@@ -24,6 +25,8 @@ option_text opt.Focal = codes "focal"
 option_text opt.Near = codes "near"
 option_text opt.Background = codes "background"
 option_text opt.Maxval = codes "maxval"
+option_text opt.At = codes "at"
+option_text opt.Number = codes "number"
 
 -- What is wrong with a line of a scene.
 abbrev pub scene_cause : Why → List ℕ

@@ -11,7 +11,9 @@ use Rattle.abuf_cli.specs.declared.job.Job.{Job}
 use Rattle.abuf_cli.specs.declared.job.WordFault.{WordFault}
 use Rattle.abuf_cli.specs.declared.job.WordFault.TheVariants as fault
 use Rattle.abuf_top.specs.Libraries.{Held, first_refusal, contents}
-use Rattle.abuf_top.specs.Image.{Drawing, drawing_of, total, image}
+use Rattle.abuf_top.specs.Demonstration.{scene_for, shelf_of}
+use Rattle.abuf_top.specs.Image.{Drawing, drawing_of, total}
+use Rattle.abuf_top.specs.Output.{output}
 use Rattle.abuf_top.specs.Refusals.{refusal_status, refusal_text, pool_text}
 use Rattle.abuf_top.specs.declared.stop.Refusal.{Refusal}
 use Rattle.abuf_top.specs.declared.stop.Refusal.TheVariants.{Words, Value, SceneTooLong, SceneLine, UnknownMaterial}
@@ -63,18 +65,18 @@ word_refusal fault.Words = Words
 word_refusal (fault.Value option) = Value option
 word_refusal fault.Memory = Words
 
--- The words, and then the scene.
+-- The words, and then the scene: that of the source and the shelf, or `demo`'s own.
 abbrev pub words_line : Result Job WordFault → Option (List ℕ) → Option Held → Option (Result Drawing Refusal)
 words_line (Err why) scene shelf = Some (Err (word_refusal why))
-words_line (Ok job) scene shelf = option_and_then (scene_line job shelf) scene
+words_line (Ok job) scene shelf = option_and_then (scene_line job (shelf_of job.what shelf)) (scene_for job.what scene)
 
 -- The first refusal of the words, the scene, the libraries and the materials, or what is drawn.
 unfoldable pub drawing : List (List ℕ) → Option (List ℕ) → Option Held → Option (Result Drawing Refusal)
 drawing words scene shelf = words_line (job words) scene shelf
 
--- The pool, and then the image.
+-- The pool, and then the output.
 abbrev pub pool_line : Drawing → Verdict
-pool_line d = if nat_lt d.job.nodes (total d) then Refuse 5 (pool_text (total d) d.job.nodes) else Write (image d)
+pool_line d = if nat_lt d.job.nodes (total d) then Refuse 5 (pool_text (total d) d.job.nodes) else Write (output d)
 
 abbrev pub last_line : Result Drawing Refusal → Verdict
 last_line (Err refusal) = Refuse (refusal_status refusal) (refusal_text refusal)

@@ -1,14 +1,22 @@
-//! The top call: from the words of a command line and the bytes of a scene to the bytes of an image.
+//! The top call: from the words of a command line and the bytes of a scene to the bytes of an image, to the fragments of a
+//! pixel, or to the summary of a demonstration.
 //!
 //! [`run`] has the contract that the whole program rests on. What it answers is the verdict (`specs/Verdict.antt`), a chain of
-//! lines in the order of refusals; `specs/Table.antt` says what each status means for what was written, `specs/Image.antt`
-//! what the image is, sample by sample, and `specs/Fetches.antt` how often the shelf is asked.
+//! lines in the order of refusals; `specs/Table.antt` says what each status means for what was written, `specs/Output.antt`
+//! what is written, `specs/Image.antt` what the image is, sample by sample, and `specs/Fetches.antt` how often the shelf is
+//! asked.
 #![tactic(auto)]
 
+mod demonstration;
+mod drawing;
 mod finish;
+mod image;
 mod libraries;
+mod output;
 mod prepare;
+mod report;
 mod stop;
+mod summary;
 mod top;
 
 pub use stop::{Refusal, Stop};

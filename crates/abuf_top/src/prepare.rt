@@ -9,13 +9,15 @@ ghost use Rattle.abuf_cli.specs.Sound.{IsJob};
 ghost use Rattle.abuf_top.specs.Libraries.{asked};
 ghost use Rattle.abuf_top.specs.Stopped.{HasReadCause};
 ghost use Rattle.abuf_obj.specs.Scene.{libraries, obj_fault};
-ghost use Rattle.abuf_top.specs.Fetches.{fault_fetches, scene_fetches, fetches, CallsAtMost};
+ghost use Rattle.abuf_top.specs.Demonstration.{scene_for, shelf_of};
+ghost use Rattle.abuf_top.specs.Fetches.{fault_fetches, scene_fetches, command_fetches, fetches, CallsAtMost, CommandNeedsNoSource, NeedsNoSource};
 ghost use Rattle.abuf_top.specs.Verdict.{material_line, library_line, fault_line, scene_line, scene_of, drawing};
 ghost use Rattle.abuf_top.specs.Prepared.{Prepares, PreparesJob, told_by};
 
+use crate::demonstration::demonstrate;
 use crate::libraries::{MOST_BYTES, read_libraries};
 use crate::stop::{Refusal, Stop};
-use abuf_cli::{Job, WordFault, read_words};
+use abuf_cli::{Job, What, WordFault, read_words};
 use abuf_io::{ReadEnd, Shelf, Source, read_all};
 use abuf_mtl::Materials;
 use abuf_obj::{Obj, ObjFault, read_obj};
@@ -127,8 +129,8 @@ fn read_bytes<H: Shelf>(
     furnish(alloc, job, &obj, shelf)
 }
 
-// The primitives of the scene that the source has left.
-fn read_scene<S: Source, H: Shelf>(
+/// The primitives of the scene that the source has left.
+pub fn read_scene<S: Source, H: Shelf>(
     alloc: Global,
     job: &Job,
     scene: &mut S,
@@ -144,8 +146,29 @@ fn read_scene<S: Source, H: Shelf>(
     read_bytes(alloc, job, bytes.as_slice(), shelf)
 }
 
+// The primitives of the job's scene: `demo` has its own, and calls neither the source nor the shelf.
+fn scene_of<S: Source, H: Shelf>(
+    alloc: Global,
+    job: &Job,
+    scene: &mut S,
+    shelf: &mut H,
+) -> Result<Projected, Stop>
+    requires { IsJob job.now }
+    ensures told { IfSome (option_and_then (scene_line job.now (shelf_of job.now.what (told_by (H.tells shelf.old) (H.holds shelf.old)))) (scene_for job.now.what (S.left scene.old))) (λ line. Prepares line (Rose (S.faults scene.old) (S.faults scene.new) ⊎ Rose (H.faults shelf.old) (H.faults shelf.new)) job.now result) }
+    ensures cause { IfErr result (HasReadCause (Rose (S.faults scene.old) (S.faults scene.new) ⊎ Rose (H.faults shelf.old) (H.faults shelf.new))) }
+    ensures calls { IfSome (command_fetches job.now.what (S.left scene.old) (told_by (H.tells shelf.old) (H.holds shelf.old))) (CallsAtMost (H.calls shelf.old) (H.calls shelf.new) (H.faults shelf.old) (H.faults shelf.new)) }
+    ensures source { CommandNeedsNoSource job.now.what → (S.left scene.new ≡ S.left scene.old) × (S.faults scene.new ≡ S.faults scene.old) }
+    ensures one_length { IfOk result (λ p. length p.tris ≡ length p.paints) }
+    ensures few { IfOk result (λ p. length p.tris ≤ 2097152) }
+{
+    match job.what {
+        What::Render | What::Pick { .. } => read_scene(alloc, job, scene, shelf),
+        What::Demo { number } => demonstrate(alloc, job, number),
+    }
+}
+
 /// Reads the words, the scene and its libraries, and projects the scene: all that comes before the drawing, up to the first
-/// refusal. Where the words give no job, the source isn't called.
+/// refusal. Where the words give no job, and for `demo`, the source isn't called.
 #[tactic(auto, unfolding(crate::specs::Verdict::drawing, crate::specs::Fetches::fetches))]
 pub fn prepare<S: Source, H: Shelf>(
     alloc: Global,
@@ -156,12 +179,12 @@ pub fn prepare<S: Source, H: Shelf>(
     ensures told { IfSome (drawing (map string_bytes words.now) (S.left scene.old) (told_by (H.tells shelf.old) (H.holds shelf.old))) (λ line. PreparesJob line (Rose (S.faults scene.old) (S.faults scene.new) ⊎ Rose (H.faults shelf.old) (H.faults shelf.new)) result) }
     ensures cause { IfErr result (HasReadCause (Rose (S.faults scene.old) (S.faults scene.new) ⊎ Rose (H.faults shelf.old) (H.faults shelf.new))) }
     ensures calls { IfSome (fetches (map string_bytes words.now) (S.left scene.old) (told_by (H.tells shelf.old) (H.holds shelf.old))) (CallsAtMost (H.calls shelf.old) (H.calls shelf.new) (H.faults shelf.old) (H.faults shelf.new)) }
-    ensures source { IsErr (job (map string_bytes words.now)) → (S.left scene.new ≡ S.left scene.old) × (S.faults scene.new ≡ S.faults scene.old) }
+    ensures source { NeedsNoSource (job (map string_bytes words.now)) → (S.left scene.new ≡ S.left scene.old) × (S.faults scene.new ≡ S.faults scene.old) }
     ensures job { IfOk result (λ p. IsJob p.0) }
     ensures one_length { IfOk result (λ p. length p.1.tris ≡ length p.1.paints) }
     ensures few { IfOk result (λ p. length p.1.tris ≤ 2097152) }
 {
     let job = read_words(alloc, words)?;
-    let shown = read_scene(alloc, &job, scene, shelf)?;
+    let shown = scene_of(alloc, &job, scene, shelf)?;
     Ok((job, shown))
 }

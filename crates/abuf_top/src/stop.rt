@@ -14,7 +14,7 @@ use std::alloc::{AllocError, Global};
 pub enum Refusal {
     /// The words aren't understood.
     Words,
-    /// The text of this option isn't in its form or range.
+    /// The text of this option, or of the command's own value, isn't in its form or range.
     Value(Opt),
     /// The scene has more than 67108864 bytes.
     SceneTooLong,
@@ -39,9 +39,9 @@ pub enum Stop {
     PoolFull(u64, u32),
     /// The source or the shelf failed.
     ReadFault,
-    /// The output failed before all of the image was written.
+    /// The output failed before all of it was written.
     WriteFault,
-    /// Want of memory; it may come at any time before the image is written.
+    /// Want of memory; it may come at any time before the output is written.
     Memory,
 }
 
@@ -59,6 +59,8 @@ fn option_text(option: Opt) -> &'static str
         Opt::Near => "near",
         Opt::Background => "background",
         Opt::Maxval => "maxval",
+        Opt::At => "at",
+        Opt::Number => "number",
     }
 }
 

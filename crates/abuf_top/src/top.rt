@@ -1,11 +1,11 @@
 // The top call.
-ghost use Rattle.std.specs.Prelude.{◌≡◌, ◌⊎◌, ◌++◌, ◌∷◌, [], ℕ, take, map, None, MatchResult, IsErr, IfSome, IsSome, ◌↔◌};
+ghost use Rattle.std.specs.Prelude.{◌≡◌, ◌⊎◌, ◌++◌, ◌∷◌, [], ℕ, take, map, None, MatchResult, IfSome, IsSome, ◌↔◌};
 ghost use Rattle.std.specs.String.{string_bytes};
 ghost use Rattle.std.specs.Io.KnownBytes.{Appends, Keeps};
 ghost use Rattle.abuf_io.specs.Causes.{Rose};
 ghost use Rattle.abuf_cli.specs.Jobs.{job};
 ghost use Rattle.abuf_top.specs.Verdict.{verdict, drawing};
-ghost use Rattle.abuf_top.specs.Fetches.{fetches, CallsAtMost};
+ghost use Rattle.abuf_top.specs.Fetches.{fetches, CallsAtMost, NeedsNoSource};
 ghost use Rattle.abuf_top.specs.Prepared.{told_by};
 ghost use Rattle.abuf_top.specs.Table.{IsAnswer, IsComplete};
 ghost use Rattle.abuf_top.specs.Ending.{Reports, IsFrameOfLine};
@@ -126,7 +126,7 @@ pub fn run_with<R: Threads + Sync, S: Source, H: Shelf, O: Sink, E: Sink, G: Gat
         (Rose (O.faults out.old) (O.faults out.new)) }
     ensures handed { IsSome result.closed ↔ ((result.status ≡ 0) ⊎ ((result.status ≡ 5) ⊎ (result.status ≡ 7))) }
     ensures closed { IfSome result.closed (λ c. IfSome (drawing (map string_bytes words.now) (S.left scene.old) (told_by (H.tells shelf.old) (H.holds shelf.old))) (λ line. IsFrameOfLine line c)) }
-    ensures source { IsErr (job (map string_bytes words.now)) → (S.left scene.new ≡ S.left scene.old) × (S.faults scene.new ≡ S.faults scene.old) }
+    ensures source { NeedsNoSource (job (map string_bytes words.now)) → (S.left scene.new ≡ S.left scene.old) × (S.faults scene.new ≡ S.faults scene.old) }
     ensures calls { IfSome (fetches (map string_bytes words.now) (S.left scene.old) (told_by (H.tells shelf.old) (H.holds shelf.old))) (CallsAtMost (H.calls shelf.old) (H.calls shelf.new) (H.faults shelf.old) (H.faults shelf.new)) }
 {
     match prepare(alloc, words, scene, shelf) {
@@ -141,10 +141,10 @@ pub fn run_with<R: Threads + Sync, S: Source, H: Shelf, O: Sink, E: Sink, G: Gat
     }
 }
 
-/// Reads the words behind the program's name and the scene, fetches its libraries, draws, and writes the image to `out` by
+/// Reads the words behind the program's name and the scene, fetches its libraries, draws, and writes the output to `out` by
 /// one call, or a text to `err` that says why not.
 ///
-/// The status is 0 where all of the image was written; 2 where the words refuse, 3 the scene, 4 a library, 5 where the scene
+/// The status is 0 where all of the output was written; 2 where the words refuse, 3 the scene, 4 a library, 5 where the scene
 /// has more fragments than the pool has nodes; 6 after a fault of reading, 7 after one of writing; 8 after want of memory.
 pub fn run<R: Threads + Sync, S: Source, H: Shelf, O: Sink, E: Sink>(
     rt: &R,
@@ -164,7 +164,7 @@ pub fn run<R: Threads + Sync, S: Source, H: Shelf, O: Sink, E: Sink>(
         (Rose (O.faults out.old) (O.faults out.new)) }
     ensures handed { IsSome result.closed ↔ ((result.status ≡ 0) ⊎ ((result.status ≡ 5) ⊎ (result.status ≡ 7))) }
     ensures closed { IfSome result.closed (λ c. IfSome (drawing (map string_bytes words.now) (S.left scene.old) (told_by (H.tells shelf.old) (H.holds shelf.old))) (λ line. IsFrameOfLine line c)) }
-    ensures source { IsErr (job (map string_bytes words.now)) → (S.left scene.new ≡ S.left scene.old) × (S.faults scene.new ≡ S.faults scene.old) }
+    ensures source { NeedsNoSource (job (map string_bytes words.now)) → (S.left scene.new ≡ S.left scene.old) × (S.faults scene.new ≡ S.faults scene.old) }
     ensures calls { IfSome (fetches (map string_bytes words.now) (S.left scene.old) (told_by (H.tells shelf.old) (H.holds shelf.old))) (CallsAtMost (H.calls shelf.old) (H.calls shelf.new) (H.faults shelf.old) (H.faults shelf.new)) }
 {
     run_with(rt, alloc, words, scene, shelf, out, err, &OpenGate)

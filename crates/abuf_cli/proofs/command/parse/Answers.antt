@@ -1,7 +1,5 @@
-use Rattle.std.proofs.Common.{◌≡◌, ◌⊎◌, map, ◌∙◌, ap, sym, ⊎_elim, true}
-use Rattle.std.specs.String.{string_bytes}
-use Rattle.clap.specs.Words.{app_of, fault_of, matches_of, rows_of, found_of, is_simple}
-use Rattle.clap.specs.Values.{kind_of}
+use Rattle.std.proofs.Common.{◌≡◌, ◌∙◌, ⊎_elim, true}
+use Rattle.clap.specs.Words.{app_of, is_simple}
 use Rattle.clap.proofs.WalkLemmas.{both}
 use Rattle.abuf_cli.proofs.Matching.{none_from, some_from}
 use Rattle.abuf_cli.proofs.command.parse.Goals as goal

@@ -1,4 +1,4 @@
-use Rattle.std.proofs.Common.{◌≡◌, ◌≤◌, ℤ, unsigned_abs, Ok, IfOk, Result, rules, sym, subst}
+use Rattle.std.proofs.Common.{◌≤◌, ℤ, unsigned_abs, IfOk, Result, rules, sym, subst}
 use Rattle.abuf_num.specs.Decimal.{number_of}
 use Rattle.abuf_num.specs.declared.decimal.NumFault.{NumFault}
 use Rattle.abuf_cli.proofs.Ranges.{scaled_number-bound}

@@ -1,7 +1,7 @@
 use Rattle.std.proofs.Common.{◌≡◌, ◌≤◌, ◌^◌, length, ap, arith}
 use Rattle.abuf_frame.specs.declared.view.View.{View}
-use Rattle.abuf_top.proofs.Drawing.{enough}
-use Rattle.abuf_top.proofs.finish.draw_frame.Goals as goal
+use Rattle.abuf_top.proofs.Frames.{enough}
+use Rattle.abuf_top.proofs.drawing.draw_pass.Goals as goal
 
 pub draw_all-drawn-requires-clause-credit : goal.draw_all-drawn-requires-clause-credit
 draw_all-drawn-requires-clause-credit g c =

@@ -1,4 +1,4 @@
-use Rattle.std.proofs.Common.{◌≡◌, IfSome, option_map, subst, ap}
+use Rattle.std.proofs.Common.{◌≡◌, IfSome, option_map, subst}
 use Rattle.abuf_io.specs.Causes.{Rose}
 use Rattle.abuf_obj.specs.declared.scene.Obj.{Obj}
 use Rattle.abuf_top.specs.Prepared.{Prepares, told_by}

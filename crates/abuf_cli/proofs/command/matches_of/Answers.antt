@@ -2,16 +2,20 @@ use Rattle.std.proofs.Common.{◌≡◌, map, Some, None, Err, IfOk, true, refl,
 use Rattle.std.specs.String.{string_bytes}
 use Rattle.clap.specs.Words.{App, is_simple_and_free, rows_of, found_of}
 use Rattle.clap.proofs.OnLiterals.{clap_on_literals}
-use Rattle.abuf_cli.specs.Commands.{render_app, matches}
+use Rattle.abuf_cli.specs.Commands.{app_of_command, matches}
+use Rattle.abuf_cli.specs.declared.command.Name.{Name}
+use Rattle.abuf_cli.specs.declared.command.Name.TheVariants.{Render, Pick, Demo}
 use Rattle.abuf_cli.specs.declared.job.WordFault.TheVariants.{Words}
-use Rattle.abuf_cli.proofs.command.render_matches.Goals as goal
+use Rattle.abuf_cli.proofs.command.matches_of.Goals as goal
 
-render_is_simple : is_simple_and_free render_app ≡ true
+each_is_simple : (name : Name) → is_simple_and_free (app_of_command name) ≡ true
 unfolding clap_on_literals
-render_is_simple = refl
+each_is_simple Render = refl
+each_is_simple Pick = refl
+each_is_simple Demo = refl
 
 pub parse-requires : goal.parse-requires
-parse-requires c = ap is_simple_and_free c.in-Ok.ensures ∙ render_is_simple
+parse-requires c = ap is_simple_and_free c.in-Ok.ensures ∙ each_is_simple c.args.name
 
 pub returns-clause-found : goal.returns-clause-found
 returns-clause-found c =

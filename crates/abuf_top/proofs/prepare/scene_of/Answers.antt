@@ -1,0 +1,18 @@
+use Rattle.std.proofs.Common.{◌⊎◌, List, ℕ, Option, IfSome, option_and_then, subst, sym}
+use Rattle.abuf_io.specs.Causes.{Rose}
+use Rattle.abuf_cli.specs.declared.job.What.{What}
+use Rattle.abuf_top.specs.Libraries.{Held}
+use Rattle.abuf_top.specs.Demonstration.{scene_for, shelf_of}
+use Rattle.abuf_top.specs.Verdict.{scene_line}
+use Rattle.abuf_top.specs.Prepared.{Prepares, told_by}
+use Rattle.abuf_top.proofs.Telling.{told-weaker}
+use Rattle.abuf_top.proofs.prepare.scene_of.Goals as goal
+
+pub returns-in-Demo-clause-told : goal.returns-in-Demo-clause-told
+returns-in-Demo-clause-told g c =
+    let job = c.args.job.now in
+    let scene : Option (List ℕ) = g.S.Source.left c.args.scene.now in
+    let shelf : Option Held = told_by (g.H.Shelf.tells c.args.shelf.now) (g.H.Shelf.holds c.args.shelf.now) in
+    let rose : Type 0 = Rose (g.S.Source.faults c.args.scene.now) (g.S.Source.faults c.args.scene.now) ⊎ Rose (g.H.Shelf.faults c.args.shelf.now) (g.H.Shelf.faults c.args.shelf.now) in
+    subst (λ (what : What). IfSome (option_and_then (scene_line job (shelf_of what shelf)) (scene_for what scene)) (λ line. Prepares line rose job c.demonstrate.result)) (sym c.in-Demo.is)
+    (told-weaker _ _ rose job c.demonstrate.result (λ h. absurd h) c.demonstrate.ensures.told)

@@ -1,0 +1,35 @@
+-- What `demo` writes: four numbers of a drawing.
+use Rattle.std.specs.Prelude.{◌++◌, ◌*◌, ◌/◌, ◌%◌, ℕ, List, [], ◌∷◌, length, map, max, drop, sum, codes}
+use Rattle.std.specs.Fmt.{decimal}
+use Rattle.std.specs.List.{range_with_len}
+use Rattle.abuf_raster.specs.Samples.{offsets_of}
+use Rattle.abuf_resolve.specs.Pixel.{present}
+use Rattle.abuf_pam.specs.Image as pam
+use Rattle.abuf_top.specs.Image.{Drawing, total, image}
+
+-- The greatest of the numbers; 0, where there is none.
+abbrev pub greatest : List ℕ → ℕ
+greatest [] = 0
+greatest (n ∷ ns) = max n (greatest ns)
+
+-- How many primitives have a fragment in the pixel at this place.
+abbrev pub count_at : Drawing → ℕ → ℕ
+count_at d place = length (present (offsets_of d.job.pattern) d.triangles (place % d.job.camera.width) (place / d.job.camera.width))
+
+-- The length of the longest list of a pixel.
+unfoldable pub longest : Drawing → ℕ
+longest d = greatest (map (count_at d) (range_with_len 0 (d.job.camera.width * d.job.camera.height)))
+
+-- The bytes of the image behind its header.
+unfoldable pub values : Drawing → List ℕ
+values d = drop (length (pam.header d.job.camera.width d.job.camera.height d.job.maxval)) (image d)
+
+-- Four lines, each a name and a number.
+abbrev pub summary_text : ℕ → ℕ → ℕ → ℕ → List ℕ
+summary_text triangles fragments most bytes =
+    codes "triangles " ++ decimal triangles ++ codes "\nfragments " ++ decimal fragments ++ codes "\nlongest " ++ decimal most ++ codes "\nsum " ++ decimal bytes ++ codes "\n"
+
+-- The number of primitives, the number of fragments, the length of the longest list of a pixel, and the sum of the image's
+-- bytes behind its header.
+unfoldable pub summary : Drawing → List ℕ
+summary d = summary_text (length d.triangles) (total d) (longest d) (sum (values d))

@@ -1,0 +1,137 @@
+// The drawing into a frame, its closing, and a look at one pixel before it.
+ghost use Rattle.std.specs.Prelude.{◌≡◌, ◌≤◌, ◌<◌, ◌+◌, ◌*◌, ◌^◌, length, IfOk};
+ghost use Rattle.abuf_raster.specs.Region.{IsRegion};
+ghost use Rattle.abuf_cli.specs.Sound.{IsJob};
+ghost use Rattle.abuf_top.specs.Image.{whole_image};
+ghost use Rattle.abuf_top.specs.Prepared.{drawing_by};
+ghost use Rattle.abuf_top.specs.Ending.{IsFrameOf};
+ghost use Rattle.abuf_top.specs.Drawn.{IsDrawn, found, IsSightOf};
+
+use abuf_cli::Job;
+use abuf_fan::{Gate, draw_all};
+use abuf_frame::{Closed, Frame, Look, Pass};
+use abuf_num::NoMemory;
+use abuf_raster::Region;
+use abuf_resolve::laws::one_each_law;
+use abuf_view::Projected;
+use std::alloc::Global;
+use std::thread::Threads;
+
+/// All pixels of the image.
+pub fn whole_image(job: &Job) -> Region
+    requires { IsJob job.now }
+    ensures value { result ≡ whole_image job.now }
+    ensures region { IsRegion result }
+{
+    Region {
+        x0: 0,
+        y0: 0,
+        w: job.camera.width(),
+        h: job.camera.height(),
+    }
+}
+
+// A frame into which the primitives are drawn, on the job's number of threads, and its whole pass.
+fn draw_pass<R: Threads + Sync, G: Gate + Sync>(
+    rt: &R,
+    alloc: Global,
+    job: &Job,
+    shown: &Projected,
+    gate: &G,
+) -> Result<(Frame, Pass), NoMemory>
+    requires job { IsJob job.now }
+    requires few { length shown.now.tris ≤ 2097152 }
+    ensures { IfOk result (λ p. IsDrawn (drawing_by job.now shown.now) p.0 p.1) }
+{
+    let region = whole_image(job);
+    let triangles = shown.tris.as_slice();
+    let (frame, mut pass) = Frame::start(alloc, region.w * region.h, job.nodes)?;
+    let drawn = draw_all(
+        rt,
+        alloc,
+        &frame,
+        &mut pass,
+        triangles,
+        region,
+        job.pattern,
+        job.threads,
+        gate,
+    );
+    match drawn {
+        Ok(()) => Ok((frame, pass)),
+        Err(_) => {
+            frame.close(pass);
+            Err(NoMemory)
+        }
+    }
+}
+
+/// The closed frame into which the primitives are drawn.
+pub fn draw_frame<R: Threads + Sync, G: Gate + Sync>(
+    rt: &R,
+    alloc: Global,
+    job: &Job,
+    shown: &Projected,
+    gate: &G,
+) -> Result<Closed, NoMemory>
+    requires job { IsJob job.now }
+    requires few { length shown.now.tris ≤ 2097152 }
+    ensures { IfOk result (IsFrameOf (drawing_by job.now shown.now)) }
+{
+    let (frame, pass) = draw_pass(rt, alloc, job, shown, gate)?;
+    Ok(frame.close(pass))
+}
+
+// How many words a look left in a slice of this length.
+fn found(look: Look, room: usize) -> usize
+    ensures { result ≡ found look room }
+{
+    match look {
+        Look::All { count } => count as usize,
+        Look::More => room,
+        Look::Unlinked { .. } => 0,
+    }
+}
+
+/// What a reader saw of a pixel before the frame was closed.
+#[derive(Drop)]
+pub struct Sight {
+    /// The number of all entries of the frame, those that found no node included.
+    pub entries: u64,
+    /// The words of the pixel's fragments; where some entry found no node, some of them.
+    pub words: Vec<u64>,
+    pub closed: Closed,
+}
+
+/// The sight of pixel (x, y) in a frame into which the primitives are drawn. A pixel has at most one fragment of each
+/// primitive, so there is room for all, unless some were lost.
+pub fn look_at<R: Threads + Sync, G: Gate + Sync>(
+    rt: &R,
+    alloc: Global,
+    job: &Job,
+    shown: &Projected,
+    x: u32,
+    y: u32,
+    gate: &G,
+) -> Result<Sight, NoMemory>
+    requires job { IsJob job.now }
+    requires few { length shown.now.tris ≤ 2097152 }
+    requires pixel { (x < job.now.camera.width) × (y < job.now.camera.height) }
+    ensures { IfOk result (λ s. IsSightOf (drawing_by job.now shown.now) x y s.entries s.words.items s.closed) }
+{
+    let region = whole_image(job);
+    let place = y * region.w + x;
+    one_each_law(shown.tris.as_slice(), job.pattern, region, place);
+    let mut words = vec![in alloc; 0; shown.tris.as_slice().len()]?;
+    let (frame, mut pass) = draw_pass(rt, alloc, job, shown, gate)?;
+    let entries = pass.count(&frame);
+    let room = words.len();
+    let look = pass.look(&frame, place, &mut words);
+    let count = found(look, room);
+    words.truncate(count);
+    Ok(Sight {
+        entries,
+        words,
+        closed: frame.close(pass),
+    })
+}
