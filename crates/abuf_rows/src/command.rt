@@ -189,6 +189,30 @@ pub(crate) fn is_answer(
     Ok(outcome.status == status && out.is_empty() && err == line.as_bytes())
 }
 
+/// Whether the command wrote just this text.
+pub(crate) fn is_text(outcome: &Outcome, text: &str) -> bool {
+    outcome.status == 0 && outcome.err.taken().is_empty() && outcome.out.taken() == text.as_bytes()
+}
+
+/// On the scene, without libraries, each of the words writes the text beside it.
+pub(crate) fn words_write<R: Threads + Sync + Abort>(
+    rt: &R,
+    alloc: Global,
+    scene: &[u8],
+    cases: &[(&'static str, &'static str)],
+) -> Result<(), Fail> {
+    for case in cases {
+        let outcome = carry_out(rt, alloc, case.0, scene, &[], Outside::steady(alloc))?;
+        assert!(rt;
+            is_text(&outcome, case.1),
+            "{}: status {}",
+            case.0,
+            outcome.status
+        );
+    }
+    Ok(())
+}
+
 /// Each case is answered as it says.
 pub(crate) fn all_answer<R: Threads + Sync + Abort>(
     rt: &R,

@@ -12,6 +12,8 @@ mod counts;
 #[cfg(test)]
 mod coverage;
 #[cfg(test)]
+mod demonstration;
+#[cfg(test)]
 mod exported;
 #[cfg(test)]
 mod limits;
@@ -23,6 +25,8 @@ mod meeting;
 mod obj;
 #[cfg(test)]
 mod outside;
+#[cfg(test)]
+mod picked;
 #[cfg(test)]
 mod scenes;
 #[cfg(test)]

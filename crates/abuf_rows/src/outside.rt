@@ -37,8 +37,8 @@ fn bytewise(alloc: Global, count: usize) -> Result<List<Step>, Fail>
     Ok(plan)
 }
 
-// A step of so many bytes, and then a fault.
-fn cut(alloc: Global, count: u32) -> Result<List<Step>, Fail>
+/// A step of so many bytes, and then a fault.
+pub(crate) fn cut(alloc: Global, count: u32) -> Result<List<Step>, Fail>
     requires { lets_some (Step.Take count) ≡ true }
     ensures { IfOk result IsPlan }
 {

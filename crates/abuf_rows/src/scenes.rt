@@ -53,3 +53,19 @@ f 6/1/2 5/2/2 1/1/2 2/2/2\n";
 /// A triangle over all of an image of 1 by 1, in a material of either of two libraries.
 pub(crate) const NAMED: &[u8] =
     b"mtllib a.mtl\nmtllib b.mtl\nv -8 8 0\nv 24 8 0\nv -8 -24 0\nusemtl m\nf 1 2 3\n";
+
+/// Five triangles over all of the image, in an order that isn't that of their depths; two pairs have one depth.
+pub(crate) const LAYERS: &[u8] = b"v -8 8 1\n\
+v 24 8 1\n\
+v -8 -24 1\n\
+v -8 8 -1\n\
+v 24 8 -1\n\
+v -8 -24 -1\n\
+v -8 8 0\n\
+v 24 8 0\n\
+v -8 -24 0\n\
+f 1 2 3\n\
+f 4 5 6\n\
+f 7 8 9\n\
+f 1 2 3\n\
+f 4 6 5\n";

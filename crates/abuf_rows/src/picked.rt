@@ -1,0 +1,126 @@
+// The fragments of one pixel, by `pick`.
+use crate::command::{Outside, carry_out, is_answer, is_text, words_answer, words_write};
+use crate::outside::cut;
+use crate::scenes::{LAYERS, LEFT_HALF, SHARED_CUT, SQUARE, UPPER};
+use std::test::Fail;
+
+/// A pixel's fragments: their number, and a line for each.
+#[test]
+fn fragments_of_a_pixel(rt: HostRuntime) -> Result<(), Fail> {
+    let alloc = rt.alloc();
+    let square = [(
+        "pick 3,0 --size 4x4",
+        "fragments 1\ndepth 524287 prim 1 mask 1\n",
+    )];
+    words_write(&rt, alloc, SQUARE, &square)?;
+    let upper = [
+        ("pick 3,3 --size 4x4", "fragments 0\n"),
+        (
+            "pick 0,0 --size 4x4",
+            "fragments 1\ndepth 524287 prim 0 mask 1\n",
+        ),
+        (
+            "pick --size 4x4 --threads 64 -- 0,02",
+            "fragments 1\ndepth 524287 prim 0 mask 1\n",
+        ),
+    ];
+    words_write(&rt, alloc, UPPER, &upper)?;
+    let half = [
+        (
+            "pick 0,0 --size 1x1 --samples 4",
+            "fragments 1\ndepth 524287 prim 0 mask 5\n",
+        ),
+        (
+            "pick 0,0 --size 1x1 --samples 8",
+            "fragments 1\ndepth 524287 prim 0 mask 58\n",
+        ),
+    ];
+    words_write(&rt, alloc, LEFT_HALF, &half)?;
+    let cut = [(
+        "pick 1,1 --size 3x4",
+        "fragments 1\ndepth 3145727 prim 3 mask 1\n",
+    )];
+    words_write(&rt, alloc, SHARED_CUT, &cut)
+}
+
+/// They stand from the farthest to the nearest, and at one depth in the order of the file.
+#[test]
+fn order_of_fragments(rt: HostRuntime) -> Result<(), Fail> {
+    let alloc = rt.alloc();
+    let text = "fragments 5\n\
+depth 419430 prim 1 mask 1\n\
+depth 419430 prim 4 mask 1\n\
+depth 524287 prim 2 mask 1\n\
+depth 699050 prim 0 mask 1\n\
+depth 699050 prim 3 mask 1\n";
+    let cases = [
+        ("pick 0,0 --size 1x1", text),
+        ("pick 1,0 --size 2x1 --threads 1", text),
+        ("pick 0,1 --size 1x2 --threads 64", text),
+        ("pick 0,0 --size 1x1 --nodes 5 --background 1,1,1", text),
+        ("pick 2,1 --size 3x2 --nodes 30 --maxval 65535", text),
+    ];
+    words_write(&rt, alloc, LAYERS, &cases)?;
+    let full = [
+        (
+            "pick 0,0 --size 1x1 --nodes 4",
+            5,
+            "pool full: 5 fragments, 4 nodes",
+        ),
+        (
+            "pick 2,1 --size 3x2 --nodes 29",
+            5,
+            "pool full: 30 fragments, 29 nodes",
+        ),
+    ];
+    words_answer(&rt, alloc, LAYERS, &full)
+}
+
+/// Pixels that aren't in the image, and words that aren't those of the command.
+#[test]
+fn words_of_pick(rt: HostRuntime) -> Result<(), Fail> {
+    let cases = [
+        ("pick 4,0 --size 4x4", 2, "bad value: at"),
+        ("pick 0,4 --size 4x4", 2, "bad value: at"),
+        ("pick 3,0 --size 3x4", 2, "bad value: at"),
+        ("pick 0 --size 4x4", 2, "bad value: at"),
+        ("pick 0,0,0 --size 4x4", 2, "bad value: at"),
+        ("pick 00000,0 --size 4x4", 2, "bad value: at"),
+        ("pick +1,0 --size 4x4", 2, "bad value: at"),
+        ("pick --size 4x4 -- -1,0", 2, "bad value: at"),
+        ("pick x --size 4x4 --maxval 1", 2, "bad value: maxval"),
+        ("pick", 2, "words not understood"),
+        ("pick --size 4x4", 2, "words not understood"),
+        ("pick 0,0 1,1", 2, "words not understood"),
+        ("pick -1,0", 2, "words not understood"),
+        ("render 0,0", 2, "words not understood"),
+    ];
+    words_answer(&rt, rt.alloc(), UPPER, &cases)
+}
+
+/// A full pool, a fault of reading and one of writing end as they do with `render`, and the frame comes back with the first
+/// and the last.
+#[test]
+fn picks_that_fail(rt: HostRuntime) -> Result<(), Fail> {
+    let alloc = rt.alloc();
+    let words = "pick 0,0 --size 4x4 --nodes 16";
+    let outcome = carry_out(&rt, alloc, words, SQUARE, &[], Outside::steady(alloc))?;
+    assert!(rt; is_text(&outcome, "fragments 1\ndepth 524287 prim 0 mask 1\n"));
+    assert!(rt;
+        outcome
+            .closed
+            .is_some_and(|closed| closed.fragments() == 16)
+    );
+
+    let mut unread = Outside::steady(alloc);
+    unread.reads = cut(alloc, 9)?;
+    let outcome = carry_out(&rt, alloc, words, SQUARE, &[], unread)?;
+    assert!(rt; is_answer(alloc, &outcome, 6, "read fault")? && outcome.closed.is_none());
+
+    let mut unwritten = Outside::steady(alloc);
+    unwritten.writes = cut(alloc, 5)?;
+    let outcome = carry_out(&rt, alloc, words, SQUARE, &[], unwritten)?;
+    assert!(rt; outcome.status == 7 && outcome.out.taken() == b"fragm".as_slice());
+    assert!(rt; outcome.err.taken() == b"write fault\n".as_slice() && outcome.closed.is_some());
+    Ok(())
+}
