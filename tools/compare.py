@@ -127,7 +127,8 @@ def scene_features(row):
     try:
         obj = reference.read_obj(row.scene)
         words = [word for word in row.words if isinstance(word, str)]
-        job = reference.job_of(words) if words[:1] == ["render"] else reference.Job()
+        has_job = words and words[0] in reference.POSITIONALS
+        job = reference.job_of(words) if has_job else reference.Job()
     except reference.Refusal:
         return used | {"grammar"}
     m = sum(part * part for part in job.turn) * job.near
@@ -195,20 +196,33 @@ class Maker:
             name = rng.choice(sorted(texts))
             texts[name] = self.damaged(texts[name].encode()).decode(errors="ignore")
             texts[name] = texts[name].replace("\0", "0")
-        words = []
-        items = list(texts.items())
-        if "order" in self.words:
-            rng.shuffle(items)
-        for name, value in items:
+        groups = []
+        for name, value in texts.items():
             joined = value.startswith("-") or "order" in self.words and self.chance(40)
-            words += [f"--{name}={value}"] if joined else [f"--{name}", value]
+            groups.append([f"--{name}={value}"] if joined else [f"--{name}", value])
+        command = "render"
+        if "pick" in self.words and self.chance(20):
+            command = "pick"
+            groups.insert(0, self.positional("{},{}".format(*self.place)))
+        elif "demo" in self.words and self.chance(3):
+            command = "demo"
+            groups.insert(0, self.positional(str(rng.randint(1, 30))))
+        if "order" in self.words:
+            rng.shuffle(groups)
+            groups.sort(key=lambda group: group[0] == "--")
+        words = [word for group in groups for word in group]
         if "order" in self.words and self.chance(2):
             words.insert(rng.randrange(len(words) + 1), rng.choice(["--", "-", "x", "--size=1x1"]))
-        if "pick" in self.words and self.chance(20):
-            return ["pick", "{},{}".format(*self.place)] + words
-        if "demo" in self.words and self.chance(3):
-            return ["demo", str(rng.randint(1, 30))] + words
-        return ["render"] + words
+        return [command] + words
+
+    def positional(self, text):
+        """The words of a value without a name."""
+        rng = self.rng
+        if "order" not in self.words:
+            return [text]
+        if self.chance(5):
+            text = self.damaged(text.encode()).decode(errors="ignore").replace("\0", "0")
+        return ["--", text] if self.chance(10) else [text]
 
     def value(self, name):
         rng = self.rng
@@ -433,7 +447,7 @@ def compare_rows(program, is_self, words, left_out, slow):
         count += 1
         answers = [run(program, worked.Row("", agreement.words + further, b""))
                    for further in agreement.further]
-        if not answers[0][1].startswith(agreement.first_line) or len(set(answers)) > 1:
+        if not answers[0][1].startswith(agreement.out) or len(set(answers)) > 1:
             failed += 1
             print(f"row: {agreement.title}\n  words: {agreement.words}", *answers, sep="\n  ")
     print(f"rows: {count} compared, {failed} failed")

@@ -28,7 +28,7 @@ class Agreement:
     title: str
     words: list
     further: list
-    first_line: bytes = b""
+    out: bytes = b""  # what they give, or how it begins
     is_slow: bool = False
 
 
@@ -241,8 +241,22 @@ def rows():
              "depth 1048575 prim 0 mask 1"))
     row("pick refuses a full pool", "pick 0,0 --size 4x4 --nodes 15", SQUARE_SCENE,
         5, "pool full: 16 fragments, 15 nodes")
+    row("pick refuses a faulty line", "pick 0,0 --size 4x4", b"v 1 2\n", 3, "line 1: bad number")
+    row("pick refuses a library that is missing", "pick 0,0 --size 4x4", b"mtllib a.mtl\n",
+        4, "library 1 missing")
+    row("pick tells an invisible fragment", "pick 0,0 --size 1x1", RED_SCENE,
+        text("fragments 1", "depth 524287 prim 0 mask 1"), libraries=CLEAR)
     row("one triangle of the demonstration", "demo 1 --size 1x1 --move 0,0.3,-4", b"",
         text("triangles 1", "fragments 1", "longest 1", "sum 32"))
+    row("both bytes of a value are summed",
+        "demo 1 --size 1x1 --move 0,0.3,-4 --background 1,1,1 --maxval 65535", b"",
+        text("triangles 1", "fragments 1", "longest 1", "sum 1466"))
+    for near, count in (("5.5", 0), ("5", 1), ("4.1", 2)):
+        row(f"primitives of the demonstration behind a near plane at {near}",
+            f"demo 1 --size 4x4 --near {near}", b"",
+            text(f"triangles {count}", "fragments 0", "longest 0", "sum 0"))
+    row("demo refuses a full pool", "demo 16 --size 4x4 --focal 2 --nodes 3", b"",
+        5, "pool full: 8 fragments, 3 nodes")
     for number in ("0", "200001", "1000000"):
         row("a number of the demonstration out of range", f"demo {number}", b"",
             2, "bad value: number")
@@ -376,6 +390,17 @@ def rows():
         UPPER_IMAGE)
     row("nothing after two hyphens", "render --size 4x4 --", UPPER_SCENE, UPPER_IMAGE)
     row("a place after two hyphens", "pick --size 4x4 -- 3,3", UPPER_SCENE, text("fragments 0"))
+    row("a place between the options", "pick --samples 4 3,3 --size 4x4", UPPER_SCENE,
+        text("fragments 0"))
+    row("a number after the options", "demo --size 1x1 --move 0,0.3,-4 000001", b"",
+        text("triangles 1", "fragments 1", "longest 1", "sum 32"))
+    row("an option is named before a place", "pick 9,9 --size 4x4 --maxval 256", UPPER_SCENE,
+        2, "bad value: maxval")
+    row("an option is named before a number", "demo 0 --samples 2", b"", 2, "bad value: samples")
+    row("a place comes before the scene", "pick 4,0 --size 4x4", b"v 1 2\n", 2, "bad value: at")
+    for number in ("", "-", "1e3", "+1", "0000001", "help"):
+        row(f"the number {number!r} of the demonstration", ["demo", number], b"",
+            2, "bad value: number")
     row("a large image is read", "render --size 4096x1024 --near 0", UPPER_SCENE,
         2, "bad value: near")
     for option, values in {
@@ -422,15 +447,17 @@ def rows():
 
 
 def agreements():
-    """Commands on several numbers of threads, and how the first line of the answer reads."""
-    words = ["demo", "1000", "--size", "64x48"]
-    first = b"triangles 1000\n"
+    """Commands on several numbers of threads, and their one answer."""
     return [
-        Agreement("a demonstration on several numbers of threads", words,
-                  [["--threads", "1"], ["--threads", "64"]], first),
+        Agreement("a demonstration on several numbers of threads",
+                  ["demo", "1000", "--size", "64x48"], [["--threads", "1"], ["--threads", "64"]],
+                  text("triangles 1000", "fragments 19690", "longest 238", "sum 160776")),
         Agreement("a larger one", ["demo", "20000", "--size", "64x48"],
-                  [["--threads", "1"], ["--threads", "7"]], is_slow=True),
-        Agreement("the largest one",
-                  ["demo", "200000", "--size", "64x48", "--nodes", "8388608"],
-                  [["--threads", "1"], ["--threads", "64"]], is_slow=True),
+                  [["--threads", "1"], ["--threads", "7"]],
+                  text("triangles 20000", "fragments 393171", "longest 4928", "sum 210871"),
+                  is_slow=True),
+        Agreement("the largest one", ["demo", "200000", "--size", "64x48", "--nodes", "8388608"],
+                  [["--threads", "1"], ["--threads", "64"]],
+                  text("triangles 200000", "fragments 3929398", "longest 49394", "sum 240668"),
+                  is_slow=True),
     ]

@@ -1,0 +1,118 @@
+#!/usr/bin/env python3
+"""Draws the pictures of the examples, or checks that those in docs/pictures are what abuf draws.
+
+    pictures.py [check]     compare each picture with what the program draws (the default)
+    pictures.py draw        draw the pictures anew
+
+An example is a file examples/NAME.obj that has a comment line '# abuf WORDS..' near its head: the
+words that draw its picture, docs/pictures/NAME.png. The README shows the picture with the same
+words. The tools pamtopng and pngtopam of netpbm are needed.
+
+The status is 0 where all is well, and 1 where a picture differs or something couldn't be run.
+"""
+
+import argparse
+import os
+import re
+import shlex
+import subprocess
+import sys
+
+TOP = os.path.dirname(os.path.dirname(os.path.abspath(__file__)))
+EXAMPLES = os.path.join(TOP, "examples")
+PICTURES = os.path.join(TOP, "docs", "pictures")
+README = os.path.join(TOP, "README.md")
+
+
+class Failed(Exception):
+    """What is told of a picture that isn't as it should be."""
+
+
+def examples():
+    """The names of the examples with the words that draw them."""
+    found = {}
+    for file_name in sorted(os.listdir(EXAMPLES)):
+        name, ending = os.path.splitext(file_name)
+        if ending != ".obj":
+            continue
+        with open(os.path.join(EXAMPLES, file_name), encoding="utf-8") as file:
+            words = re.search(r"(?m)^# abuf (.*)$", file.read())
+        if words:
+            found[name] = words.group(1).strip()
+    return found
+
+
+def run(command, data=b"", folder=TOP):
+    """What a program writes, or Failed where it can't be run or ends in another status than 0."""
+    try:
+        done = subprocess.run(command, input=data, cwd=folder, stdout=subprocess.PIPE,
+                              stderr=subprocess.PIPE)
+    except FileNotFoundError:
+        raise Failed(f"{command[0]} isn't there")
+    if done.returncode != 0:
+        told = done.stderr.decode(errors="replace").strip()
+        raise Failed(f"{os.path.basename(command[0])} ended in status {done.returncode}: {told}")
+    return done.stdout
+
+
+def pixels_of(image):
+    """The width, the height, the greatest value and the bytes of the pixels of a PAM or PPM."""
+    pam = re.match(rb"P7\nWIDTH (\d+)\nHEIGHT (\d+)\nDEPTH 3\nMAXVAL (\d+)\nTUPLTYPE RGB\nENDHDR\n",
+                   image)
+    header = pam or re.match(rb"P6\s(\d+)\s(\d+)\s(\d+)\s", image)
+    if header is None:
+        raise Failed("not an image in red, green and blue")
+    return tuple(map(int, header.groups())), image[header.end():]
+
+
+def drawn(program, name, words):
+    with open(os.path.join(EXAMPLES, name + ".obj"), "rb") as file:
+        return run([program] + shlex.split(words), file.read(), EXAMPLES)
+
+
+def check(program, name, words, picture):
+    """Failed where the picture isn't what the program draws, or the README has other words."""
+    wanted_size, wanted = pixels_of(drawn(program, name, words))
+    if not os.path.exists(picture):
+        raise Failed("there is no picture; 'pictures.py draw' makes it")
+    size, pixels = pixels_of(run(["pngtopam", picture]))
+    if size != wanted_size:
+        raise Failed(f"width, height and greatest value are {size}, and {wanted_size} are drawn")
+    if pixels != wanted:
+        step = 3 if size[2] < 256 else 6
+        count = sum(pixels[i:i + step] != wanted[i:i + step] for i in range(0, len(wanted), step))
+        raise Failed(f"{count} of {size[0] * size[1]} pixels differ")
+    with open(README, encoding="utf-8") as file:
+        if f"abuf {words} < {name}.obj" not in file.read():
+            raise Failed("README.md doesn't have the words of the example")
+    return "the same pixels"
+
+
+def draw(program, name, words, picture):
+    png = run(["pamtopng"], drawn(program, name, words))
+    with open(picture, "wb") as file:
+        file.write(png)
+    return f"{len(png)} bytes"
+
+
+def main():
+    parser = argparse.ArgumentParser(description=__doc__,
+                                     formatter_class=argparse.RawDescriptionHelpFormatter)
+    parser.add_argument("task", nargs="?", choices=["check", "draw"], default="check")
+    parser.add_argument("--abuf", metavar="PATH", default=os.path.join(TOP, "abuf"),
+                        help="the program (./abuf at the top)")
+    given = parser.parse_args()
+    work = draw if given.task == "draw" else check
+    failed = 0
+    for name, words in examples().items():
+        picture = os.path.join(PICTURES, name + ".png")
+        try:
+            print(f"{name}: {work(os.path.abspath(given.abuf), name, words, picture)}", flush=True)
+        except Failed as why:
+            failed += 1
+            print(f"{name}: {why}", flush=True)
+    sys.exit(1 if failed else 0)
+
+
+if __name__ == "__main__":
+    main()
