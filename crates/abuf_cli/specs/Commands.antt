@@ -3,8 +3,8 @@ use Rattle.std.specs.Prelude.{List, [], ◌∷◌, Option, Some, None, fold, cod
 use Rattle.std.specs.Str.{bytes_eq}
 use Rattle.clap.specs.Words.{App, Row, Rule, Text, new_app, new_rule, with_rule, matches_of, first_of, fault_of}
 use Rattle.clap.specs.Kinds.{Kinds}
-use Rattle.abuf_cli.specs.declared.command.Name.{Name}
-use Rattle.abuf_cli.specs.declared.command.Name.TheVariants.{Render, Pick, Demo}
+use Rattle.abuf_cli.specs.declared.command.CommandName.{CommandName}
+use Rattle.abuf_cli.specs.declared.command.CommandName.TheVariants.{Render, Pick, Demo}
 
 -- An option that takes a value: `--name value` or `--name=value`.
 abbrev pub option_rule : Text → Rule
@@ -20,9 +20,9 @@ option_names =
     codes "size" ∷ codes "samples" ∷ codes "threads" ∷ codes "nodes" ∷ codes "turn" ∷ codes "move" ∷ codes "focal" ∷ codes "near"
     ∷ codes "background" ∷ codes "maxval" ∷ []
 
--- A value behind no name that has to be given.
-abbrev pub required_rule : Text → Rule
-required_rule name = record (new_rule name) { required = true }
+-- A positional value, which has to be given.
+abbrev pub positional_rule : Text → Rule
+positional_rule name = record (new_rule name) { required = true }
 
 -- The command of `render`.
 abbrev pub render_app : App
@@ -30,19 +30,19 @@ render_app = with_options (new_app (codes "abuf")) option_names
 
 -- The command of `pick`: the options of `render`, and a pixel.
 abbrev pub pick_app : App
-pick_app = with_rule render_app (required_rule (codes "at"))
+pick_app = with_rule render_app (positional_rule (codes "at"))
 
 -- The command of `demo`: the options of `render`, and a number of triangles.
 abbrev pub demo_app : App
-demo_app = with_rule render_app (required_rule (codes "number"))
+demo_app = with_rule render_app (positional_rule (codes "number"))
 
-abbrev pub app_of_command : Name → App
+abbrev pub app_of_command : CommandName → App
 app_of_command Render = render_app
 app_of_command Pick = pick_app
 app_of_command Demo = demo_app
 
 -- The command that a word names.
-abbrev pub command_named : Text → Option Name
+abbrev pub command_named : Text → Option CommandName
 command_named word =
     if bytes_eq word (codes "render") then Some Render
     else (if bytes_eq word (codes "pick") then Some Pick

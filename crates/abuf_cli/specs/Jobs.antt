@@ -4,8 +4,8 @@ use Rattle.clap.specs.Words.{Row, Text}
 use Rattle.abuf_view.specs.Camera.{camera}
 use Rattle.abuf_cli.specs.Commands.{app_of_command, command_named, matches, text_of}
 use Rattle.abuf_cli.specs.Values.{size_of, pattern_of, threads_of, nodes_of, turn_of, shift_of, focal_of, near_of, background_of, maxval_of, at_of, number_of}
-use Rattle.abuf_cli.specs.declared.command.Name.{Name}
-use Rattle.abuf_cli.specs.declared.command.Name.TheVariants.{Render, Pick, Demo}
+use Rattle.abuf_cli.specs.declared.command.CommandName.{CommandName}
+use Rattle.abuf_cli.specs.declared.command.CommandName.TheVariants.{Render, Pick, Demo}
 use Rattle.abuf_cli.specs.declared.values.Size.{Size}
 use Rattle.abuf_cli.specs.declared.job.Job.{Job}
 use Rattle.abuf_cli.specs.declared.job.Pose.{Pose}
@@ -36,13 +36,13 @@ pose_of rows =
     Ok (record { turn = turn; shift = shift; focal = focal; near = near })))))
 
 -- What a command makes, where the image has this size. Its value has to be given, so that no text stands by default.
-abbrev pub what_of : Name → Size → List Row → Result What WordFault
+abbrev pub what_of : CommandName → Size → List Row → Result What WordFault
 what_of Render size rows = Ok what.Render
 what_of Pick size rows = need opt.At (at_of size (text_of (codes "at") [] rows)) (λ pixel. Ok (what.Pick pixel.x pixel.y))
 what_of Demo size rows = need opt.Number (number_of (text_of (codes "number") [] rows)) (λ number. Ok (what.Demo number))
 
 -- The options in the order in which their texts are refused, each with the text of its default; then what the command makes.
-abbrev pub job_of : Name → List Row → Result Job WordFault
+abbrev pub job_of : CommandName → List Row → Result Job WordFault
 job_of name rows =
     need opt.Size (size_of (text_of (codes "size") (codes "640x480") rows)) (λ size.
     need opt.Samples (pattern_of (text_of (codes "samples") (codes "1") rows)) (λ pattern.
@@ -63,17 +63,17 @@ job_of name rows =
     })))))))))
 
 -- Without matches the words aren't understood.
-abbrev pub of_matches : Name → Option (List Row) → Result Job WordFault
+abbrev pub of_matches : CommandName → Option (List Row) → Result Job WordFault
 of_matches name None = Err Words
 of_matches name (Some rows) = job_of name rows
 
 -- The command that the first word names.
-abbrev pub first_command : List Text → Option Name
+abbrev pub first_command : List Text → Option CommandName
 first_command [] = None
 first_command (word ∷ words) = command_named word
 
 -- Where no command is named the words aren't understood; else `clap` reads the words behind its name.
-abbrev pub of_command : Option Name → List Text → Result Job WordFault
+abbrev pub of_command : Option CommandName → List Text → Result Job WordFault
 of_command None words = Err Words
 of_command (Some name) words = of_matches name (matches (app_of_command name) words)
 

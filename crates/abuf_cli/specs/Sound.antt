@@ -5,7 +5,8 @@ use Rattle.abuf_cli.specs.declared.job.Job.{Job}
 use Rattle.abuf_cli.specs.declared.job.What.{What}
 use Rattle.abuf_cli.specs.declared.job.What.TheVariants.{Render, Pick, Demo}
 
--- What is made of an image of this width and height: a pixel is within it.
+-- What is made, where the image has this width and height: a pixel lies within it, and a number of triangles within its
+-- range.
 abbrev pub IsWhat : ℕ → ℕ → What → Type 0
 IsWhat width height Render = Unit {0}
 IsWhat width height (Pick x y) = (x < width) × (y < height)

@@ -2,7 +2,7 @@
 ghost use Rattle.std.specs.Prelude.{◌≡◌, IfOk, IfErr, map, option_map, Some, None, Err, true};
 ghost use Rattle.std.specs.String.{string_bytes};
 ghost use Rattle.clap.specs.Words.{app_of, rule_of, rows_of, found_of, with_rule, first_of, is_simple_and_free};
-ghost use Rattle.abuf_cli.specs.Commands.{option_rule, option_names, with_options, required_rule, render_app, app_of_command, command_named, matches, text_of};
+ghost use Rattle.abuf_cli.specs.Commands.{option_rule, option_names, with_options, positional_rule, render_app, app_of_command, command_named, matches, text_of};
 ghost use Rattle.abuf_cli.specs.Jobs.{IsOfWords};
 
 use crate::job::WordFault;
@@ -12,7 +12,7 @@ use std::alloc::{AllocError, Global};
 
 /// A command, by the word that names it.
 #[derive(Clone, Copy, Debug, PartialEq, Eq)]
-pub enum Name {
+pub enum CommandName {
     /// `render`, the image of a scene.
     Render,
     /// `pick`, the fragments of one pixel.
@@ -22,13 +22,13 @@ pub enum Name {
 }
 
 /// The command that this word names.
-pub fn command_named(word: &str) -> Option<Name>
+pub fn command_named(word: &str) -> Option<CommandName>
     ensures { result ≡ command_named word.now }
 {
     match word {
-        "render" => Some(Name::Render),
-        "pick" => Some(Name::Pick),
-        "demo" => Some(Name::Demo),
+        "render" => Some(CommandName::Render),
+        "pick" => Some(CommandName::Pick),
+        "demo" => Some(CommandName::Demo),
         _ => None,
     }
 }
@@ -57,13 +57,13 @@ fn with_option<'a>(
     command.arg(Arg::new(alloc, name).long(name))
 }
 
-// A command with a value that has to be given, behind no name.
-fn with_required<'a>(
+// A command with a positional value, which has to be given.
+fn with_positional<'a>(
     alloc: Global,
     command: Command<'a>,
     name: &'a str,
 ) -> Result<Command<'a>, AllocError>
-    ensures { IfOk result (λ r. app_of r ≡ with_rule (app_of command.entry) (required_rule name.entry.now)) }
+    ensures { IfOk result (λ r. app_of r ≡ with_rule (app_of command.entry) (positional_rule name.entry.now)) }
 {
     command.arg(Arg::new(alloc, name).required(true))
 }
@@ -89,13 +89,13 @@ fn render<'a>(alloc: Global) -> Result<Command<'a>, AllocError>
     with_options_of(alloc, Command::new(alloc, "abuf"), &OPTIONS)
 }
 
-fn command_of<'a>(alloc: Global, name: Name) -> Result<Command<'a>, AllocError>
+fn command_of<'a>(alloc: Global, name: CommandName) -> Result<Command<'a>, AllocError>
     ensures { IfOk result (λ r. app_of r ≡ app_of_command name) }
 {
     match name {
-        Name::Render => render(alloc),
-        Name::Pick => with_required(alloc, render(alloc)?, "at"),
-        Name::Demo => with_required(alloc, render(alloc)?, "number"),
+        CommandName::Render => render(alloc),
+        CommandName::Pick => with_positional(alloc, render(alloc)?, "at"),
+        CommandName::Demo => with_positional(alloc, render(alloc)?, "number"),
     }
 }
 
@@ -135,7 +135,7 @@ pub fn text_of<'a>(matches: &ArgMatches<'a>, name: &str, default: &'a str) -> &'
 /// What `clap` finds in the words of a command, of which the first is its name.
 pub fn matches_of<'a>(
     alloc: Global,
-    name: Name,
+    name: CommandName,
     words: &'a [String],
 ) -> Result<ArgMatches<'a>, WordFault>
     ensures found { IfOk result (λ m. matches (app_of_command name) (map string_bytes words.entry.now) ≡ Some (rows_of (found_of m))) }

@@ -7,7 +7,7 @@ ghost use Rattle.abuf_cli.specs.Commands.{app_of_command, matches};
 ghost use Rattle.abuf_cli.specs.Sound.{IsWhat, IsJob};
 ghost use Rattle.abuf_cli.specs.Jobs.{pose_of, what_of, job_of, of_matches, first_command, job, Answers};
 
-use crate::command::{Name, command_named, matches_of, text_of};
+use crate::command::{CommandName, command_named, matches_of, text_of};
 use crate::values::{
     Size, at_of, background_of, focal_of, maxval_of, near_of, nodes_of, number_of, pattern_of,
     shift_of, size_of, threads_of, turn_of,
@@ -17,7 +17,7 @@ use abuf_view::Camera;
 use clap::ArgMatches;
 use std::alloc::Global;
 
-/// What is to be made: the command that the first word names, and the value behind no name that it takes.
+/// What is to be made: the command that the first word names, and the positional value that it takes.
 #[derive(Clone, Copy, Debug, PartialEq, Eq)]
 pub enum What {
     /// The image of a scene, by `render`.
@@ -29,7 +29,7 @@ pub enum What {
 }
 
 /// What a text on the command line is given for, in the order in which their texts are refused: the options of every
-/// command, and then the value behind no name that the command takes.
+/// command, and then the positional value of the command.
 #[derive(Clone, Copy, Debug, PartialEq, Eq)]
 pub enum Opt {
     /// `--size WxH`, in pixels: each from 1 to 4096, and their product at most 4194304. 640x480 by default.
@@ -148,20 +148,20 @@ impl Pose {
 }
 
 // What a command makes, where the image has this size.
-fn what_of(name: Name, size: Size, matches: &ArgMatches) -> Result<What, WordFault>
+fn what_of(name: CommandName, size: Size, matches: &ArgMatches) -> Result<What, WordFault>
     ensures value { result ≡ what_of name size (rows_of (found_of matches.now)) }
     ensures sound { IfOk result (IsWhat size.width size.height) }
 {
     match name {
-        Name::Render => Ok(What::Render),
-        Name::Pick => match at_of(size, text_of(matches, "at", "").as_bytes()) {
+        CommandName::Render => Ok(What::Render),
+        CommandName::Pick => match at_of(size, text_of(matches, "at", "").as_bytes()) {
             Some(pixel) => Ok(What::Pick {
                 x: pixel.x,
                 y: pixel.y,
             }),
             None => Err(WordFault::Value { option: Opt::At }),
         },
-        Name::Demo => match number_of(text_of(matches, "number", "").as_bytes()) {
+        CommandName::Demo => match number_of(text_of(matches, "number", "").as_bytes()) {
             Some(number) => Ok(What::Demo { number }),
             None => Err(WordFault::Value {
                 option: Opt::Number,
@@ -171,7 +171,7 @@ fn what_of(name: Name, size: Size, matches: &ArgMatches) -> Result<What, WordFau
 }
 
 // The job of the texts, in the order in which they are refused.
-fn job_of(name: Name, matches: &ArgMatches) -> Result<Job, WordFault>
+fn job_of(name: CommandName, matches: &ArgMatches) -> Result<Job, WordFault>
     ensures value { result ≡ job_of name (rows_of (found_of matches.now)) }
     ensures sound { IfOk result IsJob }
 {
@@ -215,7 +215,7 @@ fn job_of(name: Name, matches: &ArgMatches) -> Result<Job, WordFault>
 }
 
 // The job of the words of a command, of which the first is its name.
-fn command_job(alloc: Global, name: Name, words: &[String]) -> Result<Job, WordFault>
+fn command_job(alloc: Global, name: CommandName, words: &[String]) -> Result<Job, WordFault>
     ensures answer { Answers (of_matches name (matches (app_of_command name) (map string_bytes words.now))) result }
     ensures sound { IfOk result IsJob }
 {
@@ -226,7 +226,7 @@ fn command_job(alloc: Global, name: Name, words: &[String]) -> Result<Job, WordF
 }
 
 // The command that the first word names.
-fn first_command(words: &[String]) -> Option<Name>
+fn first_command(words: &[String]) -> Option<CommandName>
     ensures { result ≡ first_command (map string_bytes words.now) }
 {
     match words.first() {

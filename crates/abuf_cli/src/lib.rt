@@ -1,7 +1,8 @@
 //! The words of the command line.
 //!
-//! [`read_words`] gives the job that the words ask for, by `specs/Jobs.antt`, or the first refusal. `clap` reads which
-//! options are there and their texts; every form, range and default is read here.
+//! [`read_words`] gives the job that the words ask for, by `specs/Jobs.antt`, or the first refusal. The first
+//! word names the command, and is read here. `clap` reads which options and positional values stand behind it and their
+//! texts; every form, range and default is read here.
 #![tactic(auto)]
 
 mod command;

@@ -98,7 +98,7 @@ pub fn pixel_law(
     ensures ordered_fit { All (λ word. word < 2 ^ 56) (in_order nat_lt words.now) }
 {}
 
-/// The law of one each: at one place of a region there is at most one fragment of each primitive, in whatever order all
+/// The law of one each: at one place of a region there are no more fragments than primitives, in whatever order all
 /// fragments of the region were drawn.
 pub fn one_each_law(triangles: &[ScreenTri], pattern: Pattern, region: Region, place: u32)
     requires few { length triangles.now ≤ 2097152 }

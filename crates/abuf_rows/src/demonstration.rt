@@ -1,9 +1,9 @@
 // The demonstration scene, by `demo`.
-use crate::command::{Outside, carry_out, is_text, words_answer, words_write};
-use crate::outside::cut;
+use crate::command::{Outside, carry_out, is_answer, is_text, words_answer, words_write};
+use crate::outside::bytewise;
 use std::test::Fail;
 
-/// The four lines: the number of primitives behind the near plane, of fragments, of those in the fullest pixel, and the sum
+/// The four lines: the number of primitives in front of the near plane, of fragments, of those in the fullest pixel, and the sum
 /// of the image's values.
 #[test]
 fn summaries(rt: HostRuntime) -> Result<(), Fail> {
@@ -62,45 +62,37 @@ fn refusals_of_demo(rt: HostRuntime) -> Result<(), Fail> {
 /// Any number of threads gives the same four lines.
 #[test]
 fn large_summaries(rt: HostRuntime) -> Result<(), Fail> {
-    let alloc = rt.alloc();
-    let text = "triangles 1000\nfragments 19690\nlongest 238\nsum 160776\n";
+    let small = "triangles 1000\nfragments 19690\nlongest 238\nsum 160776\n";
+    let large = "triangles 20000\nfragments 393171\nlongest 4928\nsum 210871\n";
     let cases = [
-        ("demo 1000 --size 64x48 --threads 1", text),
-        ("demo 1000 --size 64x48 --threads 64", text),
+        ("demo 1000 --size 64x48 --threads 1", small),
+        ("demo 1000 --size 64x48 --threads 64", small),
+        ("demo 20000 --size 64x48 --threads 1", large),
+        ("demo 20000 --size 64x48 --threads 7", large),
     ];
-    words_write(&rt, alloc, b"", &cases)?;
-    let one = carry_out(
-        &rt,
-        alloc,
-        "demo 20000 --size 64x48 --threads 1",
-        b"",
-        &[],
-        Outside::steady(alloc),
-    )?;
-    let seven = carry_out(
-        &rt,
-        alloc,
-        "demo 20000 --size 64x48 --threads 7",
-        b"",
-        &[],
-        Outside::steady(alloc),
-    )?;
-    assert!(rt; one.status == 0 && seven.status == 0);
-    assert!(rt; one.out.taken().len() > 40 && one.out.taken() == seven.out.taken());
-    Ok(())
+    words_write(&rt, rt.alloc(), b"", &cases)
 }
 
-/// Neither the source nor the shelf is called, so none of their faults is met.
+/// Neither the source nor the shelf is called, so none of their faults is met. A full pool hands back its frame.
 #[test]
 fn nothing_is_read(rt: HostRuntime) -> Result<(), Fail> {
     let alloc = rt.alloc();
     let mut failing = Outside::steady(alloc);
-    failing.reads = cut(alloc, 1)?;
+    failing.reads = bytewise(alloc, 0)?;
     failing.fails.push(0)?;
     let words = "demo 1 --size 1x1 --move 0,0.3,-4";
     let outcome = carry_out(&rt, alloc, words, b"foo(", &[], failing)?;
     let text = "triangles 1\nfragments 1\nlongest 1\nsum 32\n";
     assert!(rt; is_text(&outcome, text), "status {}", outcome.status);
     assert!(rt; outcome.closed.is_some_and(|closed| closed.fragments() == 1));
+    let steady = Outside::steady(alloc);
+    let full = "demo 30 --size 4x4 --move 0,0,0 --nodes 42";
+    let outcome = carry_out(&rt, alloc, full, b"", &[], steady)?;
+    assert!(rt; is_answer(alloc, &outcome, 5, "pool full: 43 fragments, 42 nodes")?);
+    assert!(rt;
+        outcome
+            .closed
+            .is_some_and(|closed| closed.fragments() == 43)
+    );
     Ok(())
 }

@@ -1,9 +1,10 @@
 // Images and scenes at the limits.
-use crate::command::{Library, Outside, carry_out, is_answer};
+use crate::command::{Library, Outside, carry_out, is_answer, words_write};
 use crate::scenes::{RED, UPPER};
 use std::test::Fail;
 
-/// A triangle of the greatest size, on an image of the greatest height: all of its 4096 pixels are white.
+/// A triangle of the greatest size, on an image of the greatest height: all of its 4096 pixels are white, at the
+/// depth key of the near plane.
 #[test]
 fn greatest_triangle(rt: HostRuntime) -> Result<(), Fail> {
     let alloc = rt.alloc();
@@ -17,7 +18,15 @@ fn greatest_triangle(rt: HostRuntime) -> Result<(), Fail> {
     let expected = b"P7\nWIDTH 1\nHEIGHT 4096\nDEPTH 3\nMAXVAL 255\nTUPLTYPE RGB\nENDHDR\n";
     assert!(rt; header == expected.as_slice());
     assert!(rt; values.len() == 12288 && values.iter().all(|&value| value == 255));
-    Ok(())
+    let nearest = "fragments 1\ndepth 16777215 prim 0 mask 1\n";
+    let picks = [
+        ("pick 0,0 --size 1x4096 --focal 16 --near 0.0625", nearest),
+        (
+            "pick 0,4095 --size 1x4096 --focal 16 --near 0.0625",
+            nearest,
+        ),
+    ];
+    words_write(&rt, alloc, scene, &picks)
 }
 
 /// Half red over white, with two bytes a value.

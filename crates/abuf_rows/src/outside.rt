@@ -25,8 +25,8 @@ fn then(plan: &mut List<Step>, step: Step) -> Result<(), Fail>
     Ok(())
 }
 
-// So many steps of one byte each, and then a fault.
-fn bytewise(alloc: Global, count: usize) -> Result<List<Step>, Fail>
+/// So many steps of one byte each, and then a fault.
+pub(crate) fn bytewise(alloc: Global, count: usize) -> Result<List<Step>, Fail>
     ensures { IfOk result IsPlan }
 {
     let mut plan = List::new(alloc);

@@ -36,11 +36,13 @@ fn fragments_of_a_pixel(rt: HostRuntime) -> Result<(), Fail> {
         ),
     ];
     words_write(&rt, alloc, LEFT_HALF, &half)?;
-    let cut = [(
+    let shared = [(
         "pick 1,1 --size 3x4",
         "fragments 1\ndepth 3145727 prim 3 mask 1\n",
     )];
-    words_write(&rt, alloc, SHARED_CUT, &cut)
+    words_write(&rt, alloc, SHARED_CUT, &shared)?;
+    let none = [("pick 0,0 --size 1x1", "fragments 0\n")];
+    words_write(&rt, alloc, b"", &none)
 }
 
 /// They stand from the farthest to the nearest, and at one depth in the order of the file.
@@ -98,14 +100,22 @@ fn words_of_pick(rt: HostRuntime) -> Result<(), Fail> {
     words_answer(&rt, rt.alloc(), UPPER, &cases)
 }
 
-/// A full pool, a fault of reading and one of writing end as they do with `render`, and the frame comes back with the first
-/// and the last.
+/// The frame comes back with the statuses 0, 5 and 7.
 #[test]
-fn picks_that_fail(rt: HostRuntime) -> Result<(), Fail> {
+fn frames_of_picks(rt: HostRuntime) -> Result<(), Fail> {
     let alloc = rt.alloc();
     let words = "pick 0,0 --size 4x4 --nodes 16";
     let outcome = carry_out(&rt, alloc, words, SQUARE, &[], Outside::steady(alloc))?;
     assert!(rt; is_text(&outcome, "fragments 1\ndepth 524287 prim 0 mask 1\n"));
+    assert!(rt;
+        outcome
+            .closed
+            .is_some_and(|closed| closed.fragments() == 16)
+    );
+
+    let small = "pick 0,0 --size 4x4 --nodes 15";
+    let outcome = carry_out(&rt, alloc, small, SQUARE, &[], Outside::steady(alloc))?;
+    assert!(rt; is_answer(alloc, &outcome, 5, "pool full: 16 fragments, 15 nodes")?);
     assert!(rt;
         outcome
             .closed

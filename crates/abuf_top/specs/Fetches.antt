@@ -18,7 +18,7 @@ fault_fetches names shelf None = option_map (λ held. asked held names) (shelf_f
 abbrev pub scene_fetches : Option Held → List ℕ → Option ℕ
 scene_fetches shelf bytes = if nat_lt 67108864 (length bytes) then Some 0 else fault_fetches (libraries bytes) shelf (obj_fault bytes)
 
--- None for `demo`, whose scene is its own.
+-- No fetch for `demo`, whose scene is its own.
 abbrev pub command_fetches : What → Option (List ℕ) → Option Held → Option ℕ
 command_fetches Render scene shelf = option_and_then (scene_fetches shelf) scene
 command_fetches (Pick x y) scene shelf = option_and_then (scene_fetches shelf) scene
@@ -37,13 +37,13 @@ pub record CallsAtMost (calls_old calls_new faults_old faults_new n : ℕ) : Typ
   pub most : calls_new ≤ calls_old + n
   pub none : n ≡ 0 → (calls_new ≡ calls_old) × (faults_new ≡ faults_old)
 
--- `demo` needs no source.
+-- `demo` draws a scene of its own.
 abbrev pub CommandNeedsNoSource : What → Type 0
 CommandNeedsNoSource Render = ⊥
 CommandNeedsNoSource (Pick x y) = ⊥
 CommandNeedsNoSource (Demo number) = Unit {0}
 
--- Neither do words that give no job.
+-- The source isn't called for `demo`, nor where the words give no job.
 abbrev pub NeedsNoSource : Result Job WordFault → Type 0
 NeedsNoSource (Err why) = Unit {0}
 NeedsNoSource (Ok job) = CommandNeedsNoSource job.what

@@ -26,8 +26,8 @@ values d = drop (length (pam.header d.job.camera.width d.job.camera.height d.job
 
 -- Four lines, each a name and a number.
 abbrev pub summary_text : ℕ → ℕ → ℕ → ℕ → List ℕ
-summary_text triangles fragments most bytes =
-    codes "triangles " ++ decimal triangles ++ codes "\nfragments " ++ decimal fragments ++ codes "\nlongest " ++ decimal most ++ codes "\nsum " ++ decimal bytes ++ codes "\n"
+summary_text triangles fragments most value_sum =
+    codes "triangles " ++ decimal triangles ++ codes "\nfragments " ++ decimal fragments ++ codes "\nlongest " ++ decimal most ++ codes "\nsum " ++ decimal value_sum ++ codes "\n"
 
 -- The number of primitives, the number of fragments, the length of the longest list of a pixel, and the sum of the image's
 -- bytes behind its header.

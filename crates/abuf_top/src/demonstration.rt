@@ -17,7 +17,7 @@ use abuf_view::Projected;
 use std::alloc::Global;
 
 // A shelf of one library, under the name that the scene has for it.
-fn shelf_of(alloc: Global, library: List<u8>) -> Result<SteadyShelf, NoMemory>
+fn library_shelf(alloc: Global, library: List<u8>) -> Result<SteadyShelf, NoMemory>
     ensures { IfOk result (λ shelf. steady_pairs shelf ≡ (codes "demo.mtl", library) ∷ []) }
 {
     let name = Vec::from_slice(alloc, b"demo.mtl")?;
@@ -37,7 +37,7 @@ pub fn demonstrate(alloc: Global, job: &Job, number: u32) -> Result<Projected, S
     let Ok(made) = make(alloc, number) else {
         return Err(Stop::Memory);
     };
-    let Ok(mut shelf) = shelf_of(alloc, made.library) else {
+    let Ok(mut shelf) = library_shelf(alloc, made.library) else {
         return Err(Stop::Memory);
     };
     let mut source = SteadySource::new(made.obj);

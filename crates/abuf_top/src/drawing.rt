@@ -103,9 +103,9 @@ pub struct Sight {
     pub closed: Closed,
 }
 
-/// The sight of pixel (x, y) in a frame into which the primitives are drawn. A pixel has at most one fragment of each
-/// primitive, so there is room for all, unless some were lost.
-pub fn look_at<R: Threads + Sync, G: Gate + Sync>(
+/// Draws the primitives into a frame, looks at the list of pixel (x, y) and closes the frame. A pixel has no more fragments
+/// than there are primitives, so there is room for all, unless some were lost.
+pub fn draw_and_look<R: Threads + Sync, G: Gate + Sync>(
     rt: &R,
     alloc: Global,
     job: &Job,

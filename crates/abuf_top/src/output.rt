@@ -5,7 +5,7 @@ ghost use Rattle.abuf_cli.specs.declared.job.What.TheVariants as what;
 ghost use Rattle.abuf_top.specs.Prepared.{drawing_by};
 ghost use Rattle.abuf_top.specs.Drawn.{IsWholeFrameOf, IsOutputOf};
 
-use crate::drawing::{Sight, draw_frame, look_at};
+use crate::drawing::{Sight, draw_and_look, draw_frame};
 use crate::image::image_of;
 use crate::report::report_of;
 use crate::stop::Stop;
@@ -30,8 +30,7 @@ impl Output {
     ghost use Rattle.std.specs.Prelude.{◌≡◌, Err, None, Some, Ok, MatchResult};
     ghost use Rattle.abuf_top.specs.declared.stop.Stop.TheVariants as stop;
 
-    // Memory ran out.
-    fn none() -> Output
+    fn out_of_memory() -> Output
         ensures bytes { result.bytes ≡ Err stop.Memory }
         ensures closed { result.closed ≡ None }
     {
@@ -61,7 +60,7 @@ impl Output {
                 bytes: Ok(bytes),
                 closed: Some(closed),
             },
-            Err(_) => Output::none(),
+            Err(_) => Output::out_of_memory(),
         }
     }
 }
@@ -79,7 +78,7 @@ fn draw_whole<R: Threads + Sync, G: Gate + Sync>(
     ensures { MatchResult result (IsWholeFrameOf (drawing_by job.now shown.now)) (λ early. IsOutputOf (drawing_by job.now shown.now) early.bytes early.closed) }
 {
     let Ok(closed) = draw_frame(rt, alloc, job, shown, gate) else {
-        return Err(Output::none());
+        return Err(Output::out_of_memory());
     };
     match closed.full() {
         Some(full) => Err(Output::full(full.fragments, full.nodes, closed)),
@@ -125,8 +124,8 @@ fn pick<R: Threads + Sync, G: Gate + Sync>(
     requires few { length shown.now.tris ≤ 2097152 }
     ensures { IsOutputOf (drawing_by job.now shown.now) result.bytes result.closed }
 {
-    let Ok(sight) = look_at(rt, alloc, job, shown, x, y, gate) else {
-        return Output::none();
+    let Ok(sight) = draw_and_look(rt, alloc, job, shown, x, y, gate) else {
+        return Output::out_of_memory();
     };
     let Sight {
         entries,

@@ -147,7 +147,7 @@ pub fn read_scene<S: Source, H: Shelf>(
 }
 
 // The primitives of the job's scene: `demo` has its own, and calls neither the source nor the shelf.
-fn scene_of<S: Source, H: Shelf>(
+fn primitives_of<S: Source, H: Shelf>(
     alloc: Global,
     job: &Job,
     scene: &mut S,
@@ -185,6 +185,6 @@ pub fn prepare<S: Source, H: Shelf>(
     ensures few { IfOk result (λ p. length p.1.tris ≤ 2097152) }
 {
     let job = read_words(alloc, words)?;
-    let shown = scene_of(alloc, &job, scene, shelf)?;
+    let shown = primitives_of(alloc, &job, scene, shelf)?;
     Ok((job, shown))
 }

@@ -142,7 +142,7 @@ pub fn run_with<R: Threads + Sync, S: Source, H: Shelf, O: Sink, E: Sink, G: Gat
 }
 
 /// Reads the words behind the program's name and the scene, fetches its libraries, draws, and writes the output to `out` by
-/// one call, or a text to `err` that says why not.
+/// one call, or a text to `err` that says why not. `demo` draws a scene of its own, and calls neither `scene` nor `shelf`.
 ///
 /// The status is 0 where all of the output was written; 2 where the words refuse, 3 the scene, 4 a library, 5 where the scene
 /// has more fragments than the pool has nodes; 6 after a fault of reading, 7 after one of writing; 8 after want of memory.

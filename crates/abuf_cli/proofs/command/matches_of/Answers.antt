@@ -3,12 +3,12 @@ use Rattle.std.specs.String.{string_bytes}
 use Rattle.clap.specs.Words.{App, is_simple_and_free, rows_of, found_of}
 use Rattle.clap.proofs.OnLiterals.{clap_on_literals}
 use Rattle.abuf_cli.specs.Commands.{app_of_command, matches}
-use Rattle.abuf_cli.specs.declared.command.Name.{Name}
-use Rattle.abuf_cli.specs.declared.command.Name.TheVariants.{Render, Pick, Demo}
+use Rattle.abuf_cli.specs.declared.command.CommandName.{CommandName}
+use Rattle.abuf_cli.specs.declared.command.CommandName.TheVariants.{Render, Pick, Demo}
 use Rattle.abuf_cli.specs.declared.job.WordFault.TheVariants.{Words}
 use Rattle.abuf_cli.proofs.command.matches_of.Goals as goal
 
-each_is_simple : (name : Name) → is_simple_and_free (app_of_command name) ≡ true
+each_is_simple : (name : CommandName) → is_simple_and_free (app_of_command name) ≡ true
 unfolding clap_on_literals
 each_is_simple Render = refl
 each_is_simple Pick = refl

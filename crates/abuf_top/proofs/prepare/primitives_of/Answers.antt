@@ -6,7 +6,7 @@ use Rattle.abuf_top.specs.Demonstration.{scene_for, shelf_of}
 use Rattle.abuf_top.specs.Verdict.{scene_line}
 use Rattle.abuf_top.specs.Prepared.{Prepares, told_by}
 use Rattle.abuf_top.proofs.Telling.{told-weaker}
-use Rattle.abuf_top.proofs.prepare.scene_of.Goals as goal
+use Rattle.abuf_top.proofs.prepare.primitives_of.Goals as goal
 
 pub returns-in-Demo-clause-told : goal.returns-in-Demo-clause-told
 returns-in-Demo-clause-told g c =

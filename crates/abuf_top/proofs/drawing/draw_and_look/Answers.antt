@@ -14,7 +14,7 @@ use Rattle.abuf_top.specs.Image.{fragments}
 use Rattle.abuf_top.specs.Drawn.{found}
 use Rattle.abuf_top.proofs.Frames.{frame_of}
 use Rattle.abuf_top.proofs.Sights.{seen}
-use Rattle.abuf_top.proofs.drawing.look_at.Goals as goal
+use Rattle.abuf_top.proofs.drawing.draw_and_look.Goals as goal
 
 pub returns : goal.returns
 returns g c =
