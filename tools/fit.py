@@ -68,8 +68,9 @@ def turn_of(text):
 
 def size_of(text):
     sides = [int(side) for side in text.split("x") if re.fullmatch(r"[0-9]{1,4}", side)]
-    if len(sides) != 2 or text.count("x") != 1 or not all(1 <= side <= 4096 for side in sides):
-        raise argparse.ArgumentTypeError("WxH, each from 1 to 4096")
+    if len(sides) != 2 or text.count("x") != 1 or not all(1 <= side <= 4096 for side in sides) \
+            or sides[0] * sides[1] > 4194304:
+        raise argparse.ArgumentTypeError("WxH, each from 1 to 4096, and at most 4194304 pixels")
     return sides
 
 

@@ -252,7 +252,7 @@ def rows():
         "demo 1 --size 1x1 --move 0,0.3,-4 --background 1,1,1 --maxval 65535", b"",
         text("triangles 1", "fragments 1", "longest 1", "sum 1466"))
     for near, count in (("5.5", 0), ("5", 1), ("4.1", 2)):
-        row(f"primitives of the demonstration behind a near plane at {near}",
+        row(f"primitives of the demonstration in front of a near plane at {near}",
             f"demo 1 --size 4x4 --near {near}", b"",
             text(f"triangles {count}", "fragments 0", "longest 0", "sum 0"))
     row("demo refuses a full pool", "demo 16 --size 4x4 --focal 2 --nodes 3", b"",
