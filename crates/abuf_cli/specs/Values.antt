@@ -7,7 +7,7 @@ use Rattle.abuf_cli.specs.declared.values.Size.{Size}
 use Rattle.abuf_cli.specs.declared.values.Pixel.{Pixel}
 use Rattle.abuf_cli.specs.declared.values.Triple.{Triple}
 use Rattle.abuf_raster.specs.declared.pattern.Pattern.{Pattern}
-use Rattle.abuf_raster.specs.declared.pattern.Pattern.TheVariants.{One, Four, Eight}
+use Rattle.abuf_raster.specs.declared.pattern.Pattern.TheVariants.{One, Two, Four, Eight, Sixteen}
 
 -- A width and a height of 1 to 4096 pixels, whose product is at most 4194304.
 abbrev pub size_within : ℕ → ℕ → Option Size
@@ -25,12 +25,14 @@ size_from (Some width) (Some height) = size_within width height
 abbrev pub size_of : List ℕ → Option Size
 size_of text = option_and_then (λ parts. size_from (whole_number 4 parts.0) (whole_number 4 parts.1)) (cut_at 120 text)
 
--- `1`, `4` or `8`.
+-- `1`, `2`, `4`, `8` or `16`.
 abbrev pub pattern_of : List ℕ → Option Pattern
 pattern_of text =
     if bytes_eq text (codes "1") then Some One
+    else (if bytes_eq text (codes "2") then Some Two
     else (if bytes_eq text (codes "4") then Some Four
-    else (if bytes_eq text (codes "8") then Some Eight else None))
+    else (if bytes_eq text (codes "8") then Some Eight
+    else (if bytes_eq text (codes "16") then Some Sixteen else None))))
 
 -- A number from `least` to `most`.
 abbrev pub counted : ℕ → ℕ → Option ℕ → Option ℕ

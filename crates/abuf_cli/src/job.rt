@@ -34,7 +34,7 @@ pub enum What {
 pub enum Opt {
     /// `--size WxH`, in pixels: each from 1 to 4096, and their product at most 4194304. 640x480 by default.
     Size,
-    /// `--samples`: 1, 4 or 8 to a pixel. 1 by default.
+    /// `--samples`: 1, 2, 4, 8 or 16 to a pixel. 1 by default.
     Samples,
     /// `--threads`, from 1 to 64. 4 by default.
     Threads,

@@ -62,7 +62,10 @@ const BAD_VALUES: &[(&[&str], Opt)] = &[
     (&["render", "--size", ""], Opt::Size),
     (&["render", "--size", "-"], Opt::Size),
     (&["render", "--near", "0", "--size", "0x4"], Opt::Size),
-    (&["render", "--samples", "2"], Opt::Samples),
+    (&["render", "--samples", "3"], Opt::Samples),
+    (&["render", "--samples", "02"], Opt::Samples),
+    (&["render", "--samples", "32"], Opt::Samples),
+    (&["render", "--samples", ""], Opt::Samples),
     (&["render", "--samples=1=1"], Opt::Samples),
     (&["render", "--threads", "0"], Opt::Threads),
     (&["render", "--threads", "65"], Opt::Threads),
@@ -184,6 +187,23 @@ fn defaults_and_values_of_a_job(rt: HostRuntime) {
             assert!(rt; job.maxval == 65535);
         }
         Err(_) => assert!(rt; false),
+    }
+}
+
+#[test]
+fn patterns_of_samples(rt: HostRuntime) {
+    let alloc = rt.alloc();
+    for (text, pattern) in [
+        ("1", Pattern::One),
+        ("2", Pattern::Two),
+        ("4", Pattern::Four),
+        ("8", Pattern::Eight),
+        ("16", Pattern::Sixteen),
+    ] {
+        match read(alloc, &["render", "--samples", text]) {
+            Ok(job) => assert!(rt; job.pattern == pattern),
+            Err(_) => assert!(rt; false),
+        }
     }
 }
 

@@ -60,8 +60,10 @@ pub fn pattern_of(text: &str) -> Option<Pattern>
 {
     match text {
         "1" => Some(Pattern::One),
+        "2" => Some(Pattern::Two),
         "4" => Some(Pattern::Four),
         "8" => Some(Pattern::Eight),
+        "16" => Some(Pattern::Sixteen),
         _ => None,
     }
 }

@@ -1,9 +1,10 @@
 // Items that wait for their claim.
-ghost use Rattle.std.specs.Prelude.{◌≡◌, ℕ, ◌+◌, ◌<◌, ◌≤◌, ◌↔◌, List, [], ◌∷◌, ◌++◌, length, take, IsTrue};
+ghost use Rattle.std.specs.Prelude.{◌≡◌, ℕ, ◌+◌, ◌*◌, ◌<◌, ◌≤◌, List, [], ◌∷◌, ◌++◌, length, take, map, All};
+ghost use Rattle.abuf_raster.specs.Region.{IsRegion};
+ghost use Rattle.abuf_raster.specs.Hits.{IsHitIn, placed};
 
+use abuf_raster::{Hit, Region, pack};
 use std::marker::Model;
-
-const ROOM: usize = 64;
 
 /// Up to 64 items, each a pixel and a payload.
 #[derive(Drop)]
@@ -20,6 +21,19 @@ impl Model for Batch {
     ghost invariant = { λ b. (b.count ≤ 64) × (length b.items ≡ 64) };
 }
 
+/// The place of a hit in the region, and its packed fragment.
+#[inline(always)]
+fn item(region: Region, hit: Hit) -> (u32, u64)
+    requires region { IsRegion region }
+    requires within { IsHitIn region hit }
+    ensures item { result ≡ placed region hit }
+    ensures place { result.0 < region.w * region.h }
+{
+    let row = hit.y - region.y0;
+    let column = hit.x - region.x0;
+    (row * region.w + column, pack(hit.fragment))
+}
+
 impl Batch {
     pub(crate) fn new() -> Batch
         ensures { result ≡ [] }
@@ -30,14 +44,9 @@ impl Batch {
         }
     }
 
-    pub(crate) fn is_full(&self) -> bool
-        ensures { IsTrue result ↔ (64 ≤ length self.now) }
-    {
-        self.count >= ROOM
-    }
-
     /// Puts the item last.
-    pub(crate) fn push(&mut self, item: (u32, u64))
+    #[inline(always)]
+    fn push(&mut self, item: (u32, u64))
         requires { length self.old < 64 }
         ensures { self.new ≡ self.old ++ item ∷ [] }
     {
@@ -45,16 +54,30 @@ impl Batch {
         self.count += 1;
     }
 
-    pub(crate) fn as_slice(&self) -> &[(u32, u64)]
-        ensures items { result.now ≡ self.now }
-        ensures few { length result.now ≤ 64 }
-    {
-        &self.items[..self.count]
-    }
-
-    pub(crate) fn clear(&mut self)
+    fn clear(&mut self)
         ensures { self.new ≡ [] }
     {
         self.count = 0;
+    }
+
+    /// Holds the items of these hits and no others.
+    #[inline(always)]
+    pub(crate) fn fill(&mut self, region: Region, hits: &[Hit])
+        requires region { IsRegion region }
+        requires within { All (IsHitIn region) hits.now }
+        requires few { length hits.now ≤ 64 }
+        ensures items { self.new ≡ map (placed region) hits.now }
+        ensures places { All (λ x. x.0 < region.w * region.h) self.new }
+    {
+        self.clear();
+        for hit in hits {
+            self.push(item(region, *hit));
+        }
+    }
+
+    pub(crate) fn as_slice(&self) -> &[(u32, u64)]
+        ensures { result.now ≡ self.now }
+    {
+        &self.items[..self.count]
     }
 }

@@ -1,5 +1,5 @@
 // The fragments of a triangle, put into the frame.
-ghost use Rattle.std.specs.Prelude.{◌≡◌, ℕ, ◌+◌, ◌*◌, ◌<◌, ◌≤◌, List, [], ◌∷◌, ◌++◌, length, All};
+ghost use Rattle.std.specs.Prelude.{◌≡◌, ◌+◌, ◌*◌, ◌<◌, ◌≤◌, length, map, All};
 ghost use Rattle.abuf_raster.specs.Samples.{offsets_of};
 ghost use Rattle.abuf_raster.specs.Region.{IsRegion};
 ghost use Rattle.abuf_raster.specs.Hits.{IsHitIn, fragments, placed};
@@ -8,49 +8,28 @@ ghost use Rattle.abuf_frame.specs.Draws.{Draws};
 
 use crate::batch::Batch;
 use abuf_frame::{Frame, Pass};
-use abuf_raster::{Hit, Pattern, Region, ScreenTri, TileWalk, pack};
+use abuf_raster::{Fragment, Hit, Pattern, Region, ScreenTri, TileHits};
 
-/// The place of a hit in the region, and its packed fragment.
-fn item(region: Region, hit: Hit) -> (u32, u64)
+/// A hit of no triangle, where none was written yet.
+const NO_HIT: Hit = Hit {
+    x: 0,
+    y: 0,
+    fragment: Fragment { prim: 0, mask: 0 },
+};
+
+/// Puts the hits into the frame, by one claim. The batch holds their items meanwhile.
+fn draw_hits(frame: &Frame, pass: &mut Pass, region: Region, hits: &[Hit], batch: &mut Batch)
+    requires frame { pass.old.frame ≡ frame.now }
     requires region { IsRegion region }
-    requires within { IsHitIn region hit }
-    ensures item { result ≡ placed region hit }
-    ensures place { result.0 < region.w * region.h }
-{
-    let row = hit.y - region.y0;
-    let column = hit.x - region.x0;
-    (row * region.w + column, pack(hit.fragment))
-}
-
-/// Puts the items that wait into the frame, by one claim.
-fn flush(frame: &Frame, pass: &mut Pass, batch: &mut Batch)
-    requires frame { pass.old.frame ≡ frame.now }
-    requires credit { length batch.old ≤ pass.old.view.credit }
-    requires places { All (λ x. x.0 < frame.now.pixels) batch.old }
+    requires within { All (IsHitIn region) hits.now }
+    requires few { length hits.now ≤ 64 }
+    requires pixels { region.w * region.h ≤ frame.now.pixels }
+    requires credit { length hits.now ≤ pass.old.view.credit }
     ensures frame { pass.new.frame ≡ pass.old.frame }
-    ensures draws { Draws batch.old pass.old.view pass.new.view }
-    ensures batch { batch.new ≡ [] }
+    ensures draws { Draws (map (placed region) hits.now) pass.old.view pass.new.view }
 {
+    batch.fill(region, hits);
     pass.insert_all(frame, batch.as_slice());
-    batch.clear();
-}
-
-/// Lets one more item wait; where there is no room for it, those that wait go into the frame first.
-fn add(frame: &Frame, pass: &mut Pass, batch: &mut Batch, item: (u32, u64))
-    requires frame { pass.old.frame ≡ frame.now }
-    requires credit { length batch.old ≤ pass.old.view.credit }
-    requires places { All (λ x. x.0 < frame.now.pixels) batch.old }
-    requires place { item.0 < frame.now.pixels }
-    ensures frame { pass.new.frame ≡ pass.old.frame }
-    ensures draws { (out : List (ℕ × ℕ)) × Draws out pass.old.view pass.new.view × (out ++ batch.new ≡ batch.old ++ item ∷ []) }
-    ensures places { All (λ x. x.0 < frame.now.pixels) batch.new }
-{
-    if !batch.is_full() {
-        batch.push(item);
-        return;
-    }
-    flush(frame, pass, batch);
-    batch.push(item);
 }
 
 /// Draws the triangle as primitive number `prim`: one new entry for each of its fragments in the region, at the pixel's place
@@ -76,9 +55,10 @@ pub fn draw(
     ensures endowment { endowment pass.new.view ≡ endowment pass.old.view }
     ensures loose { loose pass.new.view.entries ≡ loose pass.old.view.entries }
 {
+    let mut tiles = TileHits::new(t, prim, region, pattern);
+    let mut hits = [NO_HIT; 64];
     let mut batch = Batch::new();
-    for hit in TileWalk::new(t, prim, region, pattern) {
-        add(frame, pass, &mut batch, item(region, hit));
+    while let Some(count) = tiles.next_tile(&mut hits) {
+        draw_hits(frame, pass, region, &hits[..count], &mut batch);
     }
-    flush(frame, pass, &mut batch);
 }

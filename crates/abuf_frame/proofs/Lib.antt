@@ -10,3 +10,4 @@ pub mod Runs
 pub mod Looks
 pub mod Along
 pub mod Draws
+pub mod Eight

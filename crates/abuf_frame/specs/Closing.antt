@@ -19,7 +19,8 @@ list_at c p = slice_index_or c.lists p []
 -- The payloads of the nodes from the word `at` on, of at most so many nodes. No list has more nodes than its frame.
 abbrev pub payloads_from : List ℕ → ℕ → ℕ → ℕ → List ℕ
 payloads_from words pixels zero at = []
-payloads_from words pixels (suc most) at = cond (eqb at 0) [] (slice_index words (payload_word pixels (at - 1)) ∷ payloads_from words pixels most (slice_index words (next_word pixels (at - 1))))
+payloads_from words pixels (suc most) at = cond (eqb at 0) []
+    (slice_index words (payload_word pixels (at - 1)) ∷ payloads_from words pixels most (slice_index words (next_word pixels (at - 1))))
 
 -- the lists of so many pixels from p on, each the walk from its head
 abbrev pub lists_from : List ℕ → ℕ → ℕ → ℕ → ℕ → List (List ℕ)

@@ -5,8 +5,10 @@ pub mod Views
 pub mod Steps
 pub mod Walks
 pub mod Lawful
+pub mod Seats
 pub mod Draws
 pub mod Look
 pub mod Closing
+pub mod Lanes
 pub mod Frame
 pub mod Pass

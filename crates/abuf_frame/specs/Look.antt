@@ -22,7 +22,8 @@ Written w old new = (length new ≡ length old) × (length w.passed ≤ length o
 -- For a pass that is whole and settled, the payloads of the nodes passed are the first of all those of its entries at the
 -- pixel, in the order of the list, and are all of them where the walk has reached the end.
 abbrev pub SeesWhole : View → Walk → Type 0
-SeesWhole v w = IsWhole v → IsSettled v → (rest : List ℕ) × IsPermutation (map payload_at w.passed ++ rest) (payloads_at w.pixel (pairs v.entries)) × (w.cursor ≡ 0 → rest ≡ [])
+SeesWhole v w = IsWhole v → IsSettled v → (rest : List ℕ) × IsPermutation (map payload_at w.passed ++ rest) (payloads_at w.pixel (pairs v.entries))
+    × (w.cursor ≡ 0 → rest ≡ [])
 
 -- By a pass that knew v, a look at the pixel made the walk w, answered `look`, and changed the slice from `old` to `new`.
 pub record Looked (pixel : ℕ) (v : View) (old new : List ℕ) (look : Look) (w : Walk) : Type 0 where

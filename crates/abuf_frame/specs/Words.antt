@@ -21,7 +21,8 @@ next_word pixels node = 2 + pixels + 2 * node
 abbrev pub Sized : ℕ → ℕ → Type 0
 Sized pixels nodes = (1 ≤ pixels) × (pixels ≤ 4194304) × (1 ≤ nodes) × (nodes ≤ 8388608)
 
--- the words at the start: nothing is claimed, every list is empty, and no node is linked
+-- the words at the start: nothing is claimed, every list is empty, no node is linked, and the payloads are 0
 abbrev pub IsBlank : ℕ → ℕ → List ℕ → Type 0
 IsBlank pixels nodes words = (length words ≡ 1 + pixels + 2 * nodes) × ((i : ℕ) → i < 1 + pixels → slice_index words i ≡ 0)
     × ((n : ℕ) → n < nodes → slice_index words (next_word pixels n) ≡ mark)
+    × ((n : ℕ) → n < nodes → slice_index words (payload_word pixels n) ≡ 0)

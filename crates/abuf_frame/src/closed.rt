@@ -14,9 +14,9 @@ use std::marker::Model;
 /// A frame that is drawn: its lists don't change any more. A `&Closed` may be shared between threads.
 #[derive(Drop)]
 pub struct Closed {
-    words: Vec<u64>,
-    pixels: u32,
-    nodes: u32,
+    pub(crate) words: Vec<u64>,
+    pub(crate) pixels: u32,
+    pub(crate) nodes: u32,
     fragments: u64,
 }
 

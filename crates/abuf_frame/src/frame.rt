@@ -1,5 +1,5 @@
 // The frame and its start.
-ghost use Rattle.std.specs.Prelude.{◌≡◌, ℕ, ◌+◌, ◌*◌, ◌<◌, ◌≤◌, IfOk, length, slice_index};
+ghost use Rattle.std.specs.Prelude.{◌≡◌, ℕ, ◌+◌, ◌*◌, ◌<◌, ◌≤◌, [], ◌∷◌, ◌++◌, IfOk, OnOk, length, slice_index};
 ghost use Rattle.abuf_frame.specs.Views.{whole_view};
 ghost use Rattle.abuf_frame.specs.Words.{IsBlank, Sized, mark, next_word};
 
@@ -35,16 +35,26 @@ impl Model for Frame {
     ghost invariant = { λ f. Fits f.table.shared.table_id f.table.shared.key f.pixels f.nodes (length f.spare.items) };
 }
 
-// The words at the start.
+// One node more: nothing in its payload, and the mark as its next.
+#[inline(always)]
+fn push_node(words: &mut Vec<u64>) -> Result<(), NoMemory>
+    ensures { OnOk result (words.new.items ≡ words.old.items ++ 0 ∷ mark ∷ []) }
+{
+    words.push(0)?;
+    words.push(u64::MAX)?;
+    Ok(())
+}
+
+// The words at the start. Each is written once, since a pool takes tens of megabytes.
 fn blank_words(alloc: Global, pixels: u32, nodes: u32) -> Result<Vec<u64>, NoMemory>
     requires { Sized pixels nodes }
     ensures { IfOk result (λ v. IsBlank pixels nodes v.items) }
 {
-    let nexts = 2 + pixels as usize;
-    let count = nodes as usize;
-    let mut words = vec![in alloc; 0u64; nexts - 1 + 2 * count]?;
-    for n in 0..count {
-        words[nexts + 2 * n] = u64::MAX;
+    let payloads = 1 + pixels as usize;
+    let mut words = Vec::with_capacity(alloc, payloads + 2 * nodes as usize)?;
+    words.resize(payloads, 0)?;
+    for _ in 0..nodes {
+        push_node(&mut words)?;
     }
     Ok(words)
 }

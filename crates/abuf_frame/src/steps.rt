@@ -1,7 +1,6 @@
 //! The kinds of step. Each is one operation on one word.
 ghost use Rattle.std.specs.Prelude.{◌≡◌, ℕ, ◌+◌, ◌%◌, ◌^◌, ◌<◌, ◌≤◌, ◌*◌, ◌-◌, []};
-ghost use Rattle.atomic_table.specs.Table.{Allows, Splits};
-ghost use Rattle.abuf_frame.specs.Lawful.{Lawful};
+ghost use Rattle.abuf_frame.specs.Seats.{HasStepped, HasView, MaySplit, MayStep, MayStore};
 ghost use Rattle.abuf_frame.specs.Steps.{cut_left, cut_right};
 ghost use Rattle.abuf_frame.specs.Words.{head_word, next_word, payload_word};
 
@@ -44,8 +43,8 @@ impl<N: Aim> Play<(), View> for Aimed<N> {
 
 /// A claim: an addition to the counter.
 pub(crate) fn claim_at<N: Aim>(words: &Words, place: &mut Place, count: u32) -> u64
-    requires { (place.old.table_id ≡ words.now.table_id) × (0 < words.now.table_id.words) × Allows (Lawful words.now.key) words.now.table_id.slots place.old.id place.old.me 0 (λ n. (n + count) % 2 ^ 64) (λ found now. (now ≡ (N.after found, [])) × N.shows found) }
-    ensures { (place.new.table_id ≡ place.old.table_id) × (place.new.id ≡ place.old.id) × (place.new.me ≡ (N.after result, [])) × N.shows result }
+    requires { MayStep words.now.key words.now.table_id place.old 0 (λ n. (n + count) % 2 ^ 64) N.after N.shows }
+    ensures { HasStepped place.old place.new (N.after result) (N.shows result) }
 {
     words.fetch_add::<Aimed<N>>(place, 0, count as u64)
 }
@@ -60,8 +59,8 @@ pub(crate) fn fill_at<N: Aim>(
     payload: u64,
 )
     requires sized { (number < 8388608) × (pixels ≤ 4194304) }
-    requires step { (place.old.table_id ≡ words.now.table_id) × (payload_word pixels number < words.now.table_id.words) × Allows (Lawful words.now.key) words.now.table_id.slots place.old.id place.old.me (payload_word pixels number) (λ _. payload) (λ _ now. (now ≡ (N.after payload, [])) × N.shows payload) }
-    ensures { (place.new.table_id ≡ place.old.table_id) × (place.new.id ≡ place.old.id) × (place.new.me ≡ (N.after payload, [])) × N.shows payload }
+    requires step { MayStore words.now.key words.now.table_id place.old (payload_word pixels number) payload (N.after payload) (N.shows payload) }
+    ensures { HasStepped place.old place.new (N.after payload) (N.shows payload) }
 {
     words.store::<Aimed<N>>(place, 1 + pixels as usize + 2 * number as usize, payload)
 }
@@ -69,8 +68,8 @@ pub(crate) fn fill_at<N: Aim>(
 /// A swap: an exchange of the head of a pixel.
 pub(crate) fn swap_at<N: Aim>(words: &Words, place: &mut Place, number: u64, pixel: u32) -> u64
     requires sized { number < 8388608 }
-    requires step { (place.old.table_id ≡ words.now.table_id) × (head_word pixel < words.now.table_id.words) × Allows (Lawful words.now.key) words.now.table_id.slots place.old.id place.old.me (head_word pixel) (λ _. number + 1) (λ found now. (now ≡ (N.after found, [])) × N.shows found) }
-    ensures { (place.new.table_id ≡ place.old.table_id) × (place.new.id ≡ place.old.id) × (place.new.me ≡ (N.after result, [])) × N.shows result }
+    requires step { MayStep words.now.key words.now.table_id place.old (head_word pixel) (λ _. number + 1) N.after N.shows }
+    ensures { HasStepped place.old place.new (N.after result) (N.shows result) }
 {
     words.swap::<Aimed<N>>(place, 1 + pixel as usize, number + 1)
 }
@@ -78,8 +77,8 @@ pub(crate) fn swap_at<N: Aim>(words: &Words, place: &mut Place, number: u64, pix
 /// A link: a store of the next of a node.
 pub(crate) fn link_at<N: Aim>(words: &Words, place: &mut Place, pixels: u32, number: u64, old: u64)
     requires sized { (number < 8388608) × (pixels ≤ 4194304) }
-    requires step { (place.old.table_id ≡ words.now.table_id) × (next_word pixels number < words.now.table_id.words) × Allows (Lawful words.now.key) words.now.table_id.slots place.old.id place.old.me (next_word pixels number) (λ _. old) (λ _ now. (now ≡ (N.after old, [])) × N.shows old) }
-    ensures { (place.new.table_id ≡ place.old.table_id) × (place.new.id ≡ place.old.id) × (place.new.me ≡ (N.after old, [])) × N.shows old }
+    requires step { MayStore words.now.key words.now.table_id place.old (next_word pixels number) old (N.after old) (N.shows old) }
+    ensures { HasStepped place.old place.new (N.after old) (N.shows old) }
 {
     words.store::<Aimed<N>>(place, 2 + pixels as usize + 2 * number as usize, old)
 }
@@ -120,8 +119,8 @@ impl Join<View> for Union {
 
 /// A split: a load of the counter.
 pub(crate) fn split_at<N: Part>(words: &Words, place: &mut Place, _credit: u64) -> Place
-    requires { (place.old.table_id ≡ words.now.table_id) × (0 < words.now.table_id.words) × Splits (Lawful words.now.key) place.old.id place.old.me.0 (cut_left N.credit place.old.me.0) (cut_right N.credit place.old.me.0) }
-    ensures left { (place.new.table_id ≡ place.old.table_id) × (place.new.id ≡ place.old.id) × (place.new.me ≡ (cut_left N.credit place.old.me.0, place.old.me.1)) }
+    requires { MaySplit words.now.key words.now.table_id place.old (cut_left N.credit place.old.me.0) (cut_right N.credit place.old.me.0) }
+    ensures left { HasView place.old place.new (cut_left N.credit place.old.me.0) }
     ensures right { (result.table_id ≡ place.old.table_id) × (result.me ≡ (cut_right N.credit place.old.me.0, [])) }
 {
     words.split_seat::<Cut<N>>(place)
@@ -129,16 +128,16 @@ pub(crate) fn split_at<N: Part>(words: &Words, place: &mut Place, _credit: u64) 
 
 /// A load of the counter.
 pub(crate) fn count_at<N: Aim>(words: &Words, place: &mut Place) -> u64
-    requires { (place.old.table_id ≡ words.now.table_id) × (0 < words.now.table_id.words) × Allows (Lawful words.now.key) words.now.table_id.slots place.old.id place.old.me 0 (λ n. n) (λ found now. (now ≡ (N.after found, [])) × N.shows found) }
-    ensures { (place.new.table_id ≡ place.old.table_id) × (place.new.id ≡ place.old.id) × (place.new.me ≡ (N.after result, [])) × N.shows result }
+    requires { MayStep words.now.key words.now.table_id place.old 0 (λ n. n) N.after N.shows }
+    ensures { HasStepped place.old place.new (N.after result) (N.shows result) }
 {
     words.load::<Aimed<N>>(place, 0)
 }
 
 /// A look at a head: a load.
 pub(crate) fn look_head_at<N: Aim>(words: &Words, place: &mut Place, pixel: u32) -> u64
-    requires { (place.old.table_id ≡ words.now.table_id) × (head_word pixel < words.now.table_id.words) × Allows (Lawful words.now.key) words.now.table_id.slots place.old.id place.old.me (head_word pixel) (λ n. n) (λ found now. (now ≡ (N.after found, [])) × N.shows found) }
-    ensures { (place.new.table_id ≡ place.old.table_id) × (place.new.id ≡ place.old.id) × (place.new.me ≡ (N.after result, [])) × N.shows result }
+    requires { MayStep words.now.key words.now.table_id place.old (head_word pixel) (λ n. n) N.after N.shows }
+    ensures { HasStepped place.old place.new (N.after result) (N.shows result) }
 {
     words.load::<Aimed<N>>(place, 1 + pixel as usize)
 }
@@ -146,8 +145,8 @@ pub(crate) fn look_head_at<N: Aim>(words: &Words, place: &mut Place, pixel: u32)
 /// A look at the payload of the node to which the word `at` refers: a load.
 pub(crate) fn look_payload_at<N: Aim>(words: &Words, place: &mut Place, pixels: u32, at: u64) -> u64
     requires sized { (1 ≤ at) × (at ≤ 8388608) × (pixels ≤ 4194304) }
-    requires step { (place.old.table_id ≡ words.now.table_id) × (payload_word pixels (at - 1) < words.now.table_id.words) × Allows (Lawful words.now.key) words.now.table_id.slots place.old.id place.old.me (payload_word pixels (at - 1)) (λ n. n) (λ found now. (now ≡ (N.after found, [])) × N.shows found) }
-    ensures { (place.new.table_id ≡ place.old.table_id) × (place.new.id ≡ place.old.id) × (place.new.me ≡ (N.after result, [])) × N.shows result }
+    requires step { MayStep words.now.key words.now.table_id place.old (payload_word pixels (at - 1)) (λ n. n) N.after N.shows }
+    ensures { HasStepped place.old place.new (N.after result) (N.shows result) }
 {
     words.load::<Aimed<N>>(place, 1 + pixels as usize + 2 * (at - 1) as usize)
 }
@@ -155,8 +154,8 @@ pub(crate) fn look_payload_at<N: Aim>(words: &Words, place: &mut Place, pixels: 
 /// A look at the next of that node: a load.
 pub(crate) fn look_next_at<N: Aim>(words: &Words, place: &mut Place, pixels: u32, at: u64) -> u64
     requires sized { (1 ≤ at) × (at ≤ 8388608) × (pixels ≤ 4194304) }
-    requires step { (place.old.table_id ≡ words.now.table_id) × (next_word pixels (at - 1) < words.now.table_id.words) × Allows (Lawful words.now.key) words.now.table_id.slots place.old.id place.old.me (next_word pixels (at - 1)) (λ n. n) (λ found now. (now ≡ (N.after found, [])) × N.shows found) }
-    ensures { (place.new.table_id ≡ place.old.table_id) × (place.new.id ≡ place.old.id) × (place.new.me ≡ (N.after result, [])) × N.shows result }
+    requires step { MayStep words.now.key words.now.table_id place.old (next_word pixels (at - 1)) (λ n. n) N.after N.shows }
+    ensures { HasStepped place.old place.new (N.after result) (N.shows result) }
 {
     words.load::<Aimed<N>>(place, 2 + pixels as usize + 2 * (at - 1) as usize)
 }

@@ -1,3 +1,4 @@
 pub mod Rounding
 pub mod Powers
 pub mod Signs
+pub mod Notation

@@ -2,3 +2,4 @@ pub mod Division
 pub mod Decimal
 pub mod Parts
 pub mod Size
+pub mod Fixed

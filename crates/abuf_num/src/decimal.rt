@@ -2,8 +2,10 @@
 ghost use Rattle.std.specs.Prelude.{◌≡◌, ◌≤◌, ◌<◌, ◌*◌, ◌+◌, ◌^◌, ◌⊎◌, ◌-ℤ◌, position, length, option_map, IfSome, true, pos};
 ghost use Rattle.abuf_num.specs.Parts.{number_view, HasDigits};
 ghost use Rattle.abuf_num.specs.Size.{result_of};
-ghost use Rattle.abuf_num.specs.Decimal.{is_mark, is_point, is_negative, without_sign, all_digits, cut_by, cut_to, exponent_of, exponent_value, fraction_of, mantissa_of, number_of, spelled_from, digits_value, or_zero, scaled};
+ghost use Rattle.abuf_num.specs.Decimal.{is_mark, is_point, all_digits, cut_by, cut_to, exponent_of, exponent_value, fraction_of, mantissa_of, number_of, spelled_from, digits_value, or_zero, scaled};
 
+use crate::fixed::fixed_point;
+use crate::sign::{begins_negative, strip_sign};
 use crate::size::size;
 
 /// Why a text gives no result.
@@ -26,24 +28,6 @@ struct Parts<'a> {
     fraction: &'a [u8],
     exponent_negative: bool,
     exponent: &'a [u8],
-}
-
-fn begins_negative(text: &[u8]) -> bool
-    ensures { result ≡ is_negative text.now }
-{
-    match text.first() {
-        Some(b) => *b == b'-',
-        None => false,
-    }
-}
-
-fn strip_sign(text: &[u8]) -> &[u8]
-    ensures { result.now ≡ without_sign text.now }
-{
-    match text.first() {
-        Some(b) if *b == b'-' || *b == b'+' => &text[1..],
-        _ => text,
-    }
 }
 
 fn has_digits_only(text: &[u8]) -> bool
@@ -205,11 +189,8 @@ fn with_sign(negative: bool, size: Option<u32>) -> Result<i64, NumFault>
     }
 }
 
-/// The number that the text is, times `k`, rounded to the nearest whole number, halves away from
-/// zero. A number is an optional `+` or `-`, digits with at most one point and at least one digit
-/// before or after it, and optionally `e` or `E`, an optional sign and at least one digit. A
-/// result is at most 2147483647 either way. Takes no memory.
-pub fn scaled(text: &[u8], k: u32) -> Result<i64, NumFault>
+// The same as `scaled`, by the parts of the text, for numbers of every form.
+fn scaled_by_parts(text: &[u8], k: u32) -> Result<i64, NumFault>
     requires least { 1 ≤ k }
     requires most { k ≤ 65536 }
     ensures { result ≡ scaled text.now k }
@@ -225,4 +206,22 @@ pub fn scaled(text: &[u8], k: u32) -> Result<i64, NumFault>
         parts.negative,
         size(parts.digits_value() * u128::from(k), up, down),
     )
+}
+
+/// The number that the text is, times `k`, rounded to the nearest whole number, halves away from
+/// zero. A number is an optional `+` or `-`, digits with at most one point and at least one digit
+/// before or after it, and optionally `e` or `E`, an optional sign and at least one digit. A
+/// result is at most 2147483647 either way. Takes no memory.
+pub fn scaled(text: &[u8], k: u32) -> Result<i64, NumFault>
+    requires least { 1 ≤ k }
+    requires most { k ≤ 65536 }
+    ensures { result ≡ scaled text.now k }
+{
+    match fixed_point(text) {
+        Some(number) => with_sign(
+            begins_negative(text),
+            size(u128::from(number.digits) * u128::from(k), 0, number.places),
+        ),
+        None => scaled_by_parts(text, k),
+    }
 }

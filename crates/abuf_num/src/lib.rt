@@ -8,8 +8,10 @@
 
 mod decimal;
 mod division;
+mod fixed;
 mod list;
 mod plain;
+mod sign;
 mod size;
 #[cfg(test)]
 mod tests;

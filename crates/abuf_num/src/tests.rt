@@ -4,7 +4,7 @@ use std::test::Fail;
 
 #[test]
 fn texts_and_their_values(rt: HostRuntime) {
-    let rows: [(&[u8], Result<i64, NumFault>); 17] = [
+    let rows: [(&[u8], Result<i64, NumFault>); 24] = [
         (b".5", Ok(32768)),
         (b"-1.", Ok(-65536)),
         (b"1e-7", Ok(0)),
@@ -22,6 +22,13 @@ fn texts_and_their_values(rt: HostRuntime) {
         (b"1e5", Err(NumFault::Range)),
         (b"1e0001", Err(NumFault::Digits)),
         (b"1e-999", Ok(0)),
+        (b"0000000000000000001", Ok(65536)),
+        (b"-00000000000000000001", Ok(-65536)),
+        (b"9999999999999999999", Err(NumFault::Range)),
+        (b"0.00000000000000000000000000001", Ok(0)),
+        (b"+", Err(NumFault::Form)),
+        (b"-.", Err(NumFault::Form)),
+        (b"1.5.", Err(NumFault::Form)),
     ];
     for (text, want) in rows {
         assert!(rt; scaled(text, 65536) == want);
@@ -41,6 +48,8 @@ fn quotients_are_rounded(rt: HostRuntime) {
         assert_eq!(rt; round_div(n, 2), near, "{n}");
     }
     assert_eq!(rt; floor_div(-1, 3), -1);
+    assert_eq!(rt; floor_div(-18446744073709551617, 2), -9223372036854775809);
+    assert_eq!(rt; floor_div(-9223372036854775808, 9223372036854775808), -1);
     assert_eq!(rt; round_div(-1, 3), 0);
 }
 

@@ -1,4 +1,6 @@
 pub mod Digits
+pub mod FewPlaces
+pub mod Indices
 pub mod Joining
 pub mod Late
 pub mod Reading

@@ -7,3 +7,5 @@ pub mod Scene
 pub mod Places
 pub mod Sound
 pub mod Taking
+pub mod Few
+pub mod Corners

@@ -1,5 +1,5 @@
 // The elements of an `f` line.
-ghost use Rattle.std.specs.Prelude.{◌≡◌, ◌≤◌, length, map, min, position, option_map, IfOk, IfSome};
+ghost use Rattle.std.specs.Prelude.{◌≡◌, ◌≤◌, ◌<◌, ◌^◌, Some, length, map, min, position, option_map, take, IfOk, IfSome};
 ghost use Rattle.abuf_obj.specs.Elements.{spelled_from, spelled, is_negative, without_minus, is_slash, before_slash, after_slash, is_unused_index, is_normal, is_texture_and_normal, from_last, from_first, place_of_index, place_of, places_of};
 ghost use Rattle.abuf_obj.specs.Places.{held};
 
@@ -58,23 +58,14 @@ fn first_slash(text: &[u8]) -> Option<usize>
     text.iter().position(|b| *b == b'/')
 }
 
-// What stands before the first slash.
-fn before_slash(text: &[u8]) -> &[u8]
-    ensures { result.now ≡ before_slash text.now }
+// What stands before the first slash, and behind it if there is one.
+fn cut_slash(text: &[u8]) -> (&[u8], Option<&[u8]>)
+    ensures front { result.0.now ≡ before_slash text.now }
+    ensures behind { option_map (λ t. t.now) result.1 ≡ after_slash text.now }
 {
     match first_slash(text) {
-        Some(place) => &text[..place],
-        None => text,
-    }
-}
-
-// What stands behind the first slash, if there is one.
-fn after_slash(text: &[u8]) -> Option<&[u8]>
-    ensures { option_map (λ t. t.now) result ≡ after_slash text.now }
-{
-    match first_slash(text) {
-        Some(place) => Some(&text[place + 1..]),
-        None => None,
+        Some(place) => (&text[..place], Some(&text[place + 1..])),
+        None => (text, None),
     }
 }
 
@@ -98,7 +89,10 @@ fn is_texture_and_normal(text: Option<&[u8]>) -> bool
     ensures { result ≡ is_texture_and_normal (option_map (λ t. t.now) text.entry) }
 {
     match text {
-        Some(text) => is_unused_index(before_slash(text)) && is_normal(after_slash(text)),
+        Some(text) => {
+            let (texture, normal) = cut_slash(text);
+            is_unused_index(texture) && is_normal(normal)
+        }
         None => true,
     }
 }
@@ -143,12 +137,59 @@ fn place_of_index(above: u32, text: &[u8]) -> Option<u32>
     }
 }
 
-// The place of an element's point.
-fn place(above: u32, text: &[u8]) -> Option<u32>
+// The place of an element's point, by the parts of the element.
+fn place_by_parts(above: u32, text: &[u8]) -> Option<u32>
     ensures { result ≡ option_map held (place_of above text.now) }
 {
-    if is_texture_and_normal(after_slash(text)) {
-        place_of_index(above, before_slash(text))
+    let (index, behind) = cut_slash(text);
+    if is_texture_and_normal(behind) {
+        place_of_index(above, index)
+    } else {
+        None
+    }
+}
+
+// Up to ten digits at the start of a text, and the number that they spell.
+#[derive(Clone, Copy)]
+struct Leading {
+    count: usize,
+    value: u64,
+}
+
+fn leading_digits(text: &[u8]) -> Leading
+    ensures count { result.count ≤ length text.now }
+    ensures few { result.count ≤ 10 }
+    ensures value { spelled_from 0 (take result.count text.now) ≡ Some result.value }
+    ensures small { result.value < 10 ^ 10 }
+{
+    let mut count = 0;
+    let mut value = 0;
+    for b in text {
+        if *b < 48 || 57 < *b || count == 10 {
+            return Leading { count, value };
+        }
+        value = 10 * value + u64::from(*b - 48);
+        count += 1;
+    }
+    Leading { count, value }
+}
+
+/// The place of an element's point. An index that begins with a digit, as nearly all do, is read in one pass.
+pub fn place(above: u32, text: &[u8]) -> Option<u32>
+    ensures { result ≡ option_map held (place_of above text.now) }
+{
+    let index = leading_digits(text);
+    if index.count == 0 {
+        return place_by_parts(above, text);
+    }
+    if index.count == text.len() {
+        return from_first(index.value);
+    }
+    if text[index.count] != b'/' {
+        return place_by_parts(above, text);
+    }
+    if is_texture_and_normal(Some(&text[index.count + 1..])) {
+        from_first(index.value)
     } else {
         None
     }

@@ -6,9 +6,11 @@
 //! coordinate is at most 2147483647 either way, and all fans together have at most 1048576 triangles.
 #![tactic(auto)]
 
+mod corners;
 mod element;
 mod face;
 mod fault;
+mod few;
 mod keyword;
 mod points;
 mod reader;

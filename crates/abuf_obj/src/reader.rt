@@ -3,7 +3,7 @@ ghost use Rattle.std.specs.Prelude.{◌≡◌, ◌≤◌, ◌<◌, length, All, 
 ghost use Rattle.std.proofs.Props.{props};
 ghost use Rattle.abuf_obj.specs.Sound.{IsNear, IsFan, triangles_in};
 
-use crate::element::{count, places};
+use crate::corners::corners;
 use crate::face::Face;
 use crate::fault::{ObjFault, Why};
 use crate::keyword::{Keyword, cut_line};
@@ -56,18 +56,9 @@ impl Reader {
         ensures fault { (text : Items ℕ) → IfErr result (TellsWhy line (why_by (counted self.old) Keyword.Face arguments.entry text)) }
         ensures ok { (text : Items ℕ) → OnOk result (TakesBy line Keyword.Face arguments.entry text self.old self.new) }
     {
-        let count = count(arguments.again());
-        if count < 3 {
-            return Err(Why::TooFewElements.at(line));
-        }
-        if 1024 < count {
-            return Err(Why::TooManyElements.at(line));
-        }
         let above = self.points.as_slice().len() as u32;
-        let Some(corners) = places(alloc, above, count, arguments)? else {
-            return Err(Why::BadIndex.at(line));
-        };
-        let triangles = self.triangles + (count - 2);
+        let corners = corners(alloc, line, above, arguments)?;
+        let triangles = self.triangles + (corners.as_slice().len() as u32 - 2);
         if MOST < triangles {
             return Err(Why::TooManyTriangles.at(line));
         }

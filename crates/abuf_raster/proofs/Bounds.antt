@@ -64,8 +64,25 @@ sample_place-centre x y = λ i. record { x = ex i; y = ey i } where
 pub back64 : (z : ℤ) → unsigned_abs z < 2 ^ 63 → to_z w64 (of_z w64 z) ≡ z
 back64 z h = omega (arith, ints)
 
--- the product of two factors of at most 2 ^ 30, at an i64
-pub product64 : (x y : ℤ) → unsigned_abs x ≤ 2 ^ 30 → unsigned_abs y ≤ 2 ^ 30 → to_z w64 (of_z w64 (to_z w64 (of_z w64 x) *ℤ to_z w64 (of_z w64 y))) ≡ x *ℤ y
+-- the product of factors of at most 2 ^ 31 and 2 ^ 30, at an i64
+pub product64 : (x y : ℤ) → unsigned_abs x ≤ 2 ^ 31 → unsigned_abs y ≤ 2 ^ 30 → to_z w64 (of_z w64 (to_z w64 (of_z w64 x) *ℤ to_z w64 (of_z w64 y))) ≡ x *ℤ y
 product64 x y p q =
     ap₂ (λ (a b : ℤ). to_z w64 (of_z w64 (a *ℤ b))) (back64 x (omega arith)) (back64 y (omega arith))
-    ∙ back64 (x *ℤ y) (omega (arith, abs-mul x y (2 ^ 30) (2 ^ 30) p q))
+    ∙ back64 (x *ℤ y) (omega (arith, abs-mul x y (2 ^ 31) (2 ^ 30) p q))
+
+-- what `x + y + z` gives at an i64, where each is bounded
+pub plus64 : (x y z : ℤ) (m : ℕ) → unsigned_abs x ≤ m → unsigned_abs y ≤ m → unsigned_abs z ≤ m → m ≤ 2 ^ 61
+    → FitsSigned w64 (to_z w64 (of_z w64 x) +ℤ to_z w64 (of_z w64 y))
+    × FitsSigned w64 (to_z w64 (of_z w64 (to_z w64 (of_z w64 x) +ℤ to_z w64 (of_z w64 y))) +ℤ to_z w64 (of_z w64 z))
+    × (to_z w64 (of_z w64 (to_z w64 (of_z w64 (to_z w64 (of_z w64 x) +ℤ to_z w64 (of_z w64 y))) +ℤ to_z w64 (of_z w64 z))) ≡ x +ℤ y +ℤ z)
+    × (unsigned_abs (to_z w64 (of_z w64 (to_z w64 (of_z w64 (to_z w64 (of_z w64 x) +ℤ to_z w64 (of_z w64 y))) +ℤ to_z w64 (of_z w64 z)))) ≤ 3 * m)
+plus64 x y z m p q r h =
+    let e : to_z w64 (of_z w64 (to_z w64 (of_z w64 (to_z w64 (of_z w64 x) +ℤ to_z w64 (of_z w64 y))) +ℤ to_z w64 (of_z w64 z))) ≡ x +ℤ y +ℤ z = omega (arith, ints) in
+    (omega (arith, ints), omega (arith, ints), e, rw e (omega (arith, abs-add (x +ℤ y) z (m + m) m (abs-add x y m m p q) r)))
+
+-- a weighted difference, read at the coordinates
+pub weighted64 : (w d x y : ℤ) (q : ℕ) → unsigned_abs x < 2 ^ 29 → unsigned_abs y < 2 ^ 29
+    → d ≡ to_z w64 (of_z w64 x) -ℤ to_z w64 (of_z w64 y) → w ≡ to_z w64 (of_z w64 d) *ℤ pos q → w ≡ (x -ℤ y) *ℤ pos q
+weighted64 w d x y q hx hy e f =
+    let g : d ≡ x -ℤ y = e ∙ ap₂ (λ (a b : ℤ). a -ℤ b) (back64 x (omega arith)) (back64 y (omega arith)) in
+    f ∙ ap (λ (z : ℤ). z *ℤ pos q) (back64 d (rw g (omega (arith, abs-sub x y (2 ^ 29) (2 ^ 29) (omega arith) (omega arith)))) ∙ g)

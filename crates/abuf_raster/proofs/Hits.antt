@@ -1,5 +1,5 @@
 -- What every hit keeps to.
-use Rattle.std.proofs.Common.{◌≡◌, ℕ, zero, suc, ◌+◌, ◌*◌, ◌/◌, ◌%◌, ◌^◌, ◌<◌, ◌≤◌, Bool, true, false, if◌then◌else◌, ◌==◌, List, length, ℤ, pos, negsuc, Option, Some, None, All, arith, refl, sym, subst}
+use Rattle.std.proofs.Common.{◌≡◌, ℕ, zero, suc, ◌+◌, ◌*◌, ◌/◌, ◌%◌, ◌^◌, ◌<◌, ◌≤◌, Bool, true, false, if◌then◌else◌, ◌==◌, List, length, ℤ, Option, Some, None, All, arith, refl, sym, subst}
 use Rattle.std.specs.List.{filter_map, range_with_len, cons_option}
 use Rattle.std.proofs.lemmas.List.Elements.{All-nil, All-cons}
 use Rattle.std.proofs.lemmas.Nat.{mod_below, div_below}
@@ -7,14 +7,9 @@ use Rattle.abuf_raster.specs.declared.region.Hit.{Hit}
 use Rattle.abuf_raster.specs.declared.region.Region.{Region}
 use Rattle.abuf_raster.specs.Triangle.{Triangle}
 use Rattle.abuf_raster.specs.Coverage.{mask}
-use Rattle.abuf_raster.specs.Depth.{depth_key, held_in_range}
 use Rattle.abuf_raster.specs.Hits.{hit_at, IsHitIn}
 use Rattle.abuf_raster.specs.Region.{IsRegion}
 use Rattle.abuf_raster.proofs.Masks.{mask_small}
-
-held_small : (z : ℤ) → held_in_range z < 2 ^ 24
-held_small (pos n) = omega arith
-held_small (negsuc n) = omega arith
 
 module _ (t : Triangle) (n : ℕ) (os : List (ℤ × ℤ)) (r : Region) where
   pub hits_few : (count p : ℕ) → length (filter_map (hit_at t n os r) (range_with_len p count)) ≤ count
@@ -24,7 +19,7 @@ module _ (t : Triangle) (n : ℕ) (os : List (ℤ × ℤ)) (r : Region) where
     go k None e = rw (← e) (omega arith)
     go k (Some g) e = rw (← e) (omega arith)
 
-module _ (t : Triangle) (n : ℕ) (os : List (ℤ × ℤ)) (r : Region) (n_small : n < 2 ^ 24) (few : length os ≤ 8) (is : IsRegion r) where
+module _ (t : Triangle) (n : ℕ) (os : List (ℤ × ℤ)) (r : Region) (n_small : n < 2 ^ 24) (few : length os ≤ 16) (is : IsRegion r) where
   -- the hit at a place of the region is in it
   pub hit_in : (p : ℕ) → p < r.w * r.h → (h : Hit) → hit_at t n os r p ≡ Some h → IsHitIn r h
   hit_in p below h e = go (mask t os (r.x0 + p % r.w) (r.y0 + p / r.w) == 0) e where
@@ -34,7 +29,7 @@ module _ (t : Triangle) (n : ℕ) (os : List (ℤ × ℤ)) (r : Region) (n_small
     y : ℕ
     y = r.y0 + p / r.w
 
-    all : IsHitIn r (record { x = r.x0 + p % r.w; y = r.y0 + p / r.w; fragment = record { depth = depth_key t (r.x0 + p % r.w) (r.y0 + p / r.w); prim = n; mask = mask t os (r.x0 + p % r.w) (r.y0 + p / r.w) } })
+    all : IsHitIn r (record { x = r.x0 + p % r.w; y = r.y0 + p / r.w; fragment = record { prim = n; mask = mask t os (r.x0 + p % r.w) (r.y0 + p / r.w) } })
     all =
         let some : 0 < r.w = omega (arith, is.w_some) in
         record {
@@ -42,12 +37,12 @@ module _ (t : Triangle) (n : ℕ) (os : List (ℤ × ℤ)) (r : Region) (n_small
           x_high = omega (arith, mod_below p r.w some);
           y_low = omega arith;
           y_high = omega (arith, div_below p r.w r.h some (omega arith));
-          fits = (held_small _, n_small, mask_small t os (r.x0 + p % r.w) (r.y0 + p / r.w) few);
+          fits = (n_small, mask_small t os (r.x0 + p % r.w) (r.y0 + p / r.w) few);
         }
 
-    go : (b : Bool) → (if b then None else Some (record { x = r.x0 + p % r.w; y = r.y0 + p / r.w; fragment = record { depth = depth_key t (r.x0 + p % r.w) (r.y0 + p / r.w); prim = n; mask = mask t os (r.x0 + p % r.w) (r.y0 + p / r.w) } })) ≡ Some h → IsHitIn r h
+    go : (b : Bool) → (if b then None else Some (record { x = r.x0 + p % r.w; y = r.y0 + p / r.w; fragment = record { prim = n; mask = mask t os (r.x0 + p % r.w) (r.y0 + p / r.w) } })) ≡ Some h → IsHitIn r h
     go true e = cc
-    go false e = let g : ◌≡◌ {A = Hit} (record { x = r.x0 + p % r.w; y = r.y0 + p / r.w; fragment = record { depth = depth_key t (r.x0 + p % r.w) (r.y0 + p / r.w); prim = n; mask = mask t os (r.x0 + p % r.w) (r.y0 + p / r.w) } }) h = cc in subst (IsHitIn r) g all
+    go false e = let g : ◌≡◌ {A = Hit} (record { x = r.x0 + p % r.w; y = r.y0 + p / r.w; fragment = record { prim = n; mask = mask t os (r.x0 + p % r.w) (r.y0 + p / r.w) } }) h = cc in subst (IsHitIn r) g all
 
   pub hits_each : (count p : ℕ) → p + count ≤ r.w * r.h → All (IsHitIn r) (filter_map (hit_at t n os r) (range_with_len p count))
   hits_each zero p h = All-nil (IsHitIn r)

@@ -3,8 +3,13 @@ pub mod Triangle
 pub mod Samples
 pub mod Coverage
 pub mod Depth
+pub mod Slopes
+pub mod Plane
 pub mod Packing
 pub mod Region
 pub mod Hits
+pub mod Values
+pub mod TrioNumbers
 pub mod Walk
+pub mod TilesLeft
 pub mod Neighbours

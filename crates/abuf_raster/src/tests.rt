@@ -1,22 +1,9 @@
-// Worked rows.
-use crate::{Fragment, Pattern, Region, ScreenTri, TileWalk, depth_at, mask_at, pack, unpack};
+// Worked rows of coverage, patterns and packing.
+mod depths;
+mod walks;
+
+use crate::{Fragment, Pattern, ScreenTri, mask_at, pack, unpack};
 use std::test::Fail;
-
-const FOUR_BY_FOUR: Region = Region {
-    x0: 0,
-    y0: 0,
-    w: 4,
-    h: 4,
-};
-
-/// The number of pixels that a walk gives.
-fn length_of(walk: TileWalk) -> u32 {
-    let mut found: u32 = 0;
-    for _hit in walk {
-        found = found.saturating_add(1);
-    }
-    found
-}
 
 // The centres of the pixels with i + j = 3 lie on the diagonal, which is a right edge of the upper triangle, and a left
 // edge of the lower one.
@@ -33,14 +20,6 @@ fn a_shared_edge_is_drawn_once(rt: HostRuntime) -> Result<(), Fail> {
             assert_eq!(rt; below == 1, !inside, "lower at {i}, {j}");
         }
     }
-    assert_eq!(rt;
-        length_of(TileWalk::new(&upper, 0, FOUR_BY_FOUR, Pattern::One)),
-        6
-    );
-    assert_eq!(rt;
-        length_of(TileWalk::new(&lower, 1, FOUR_BY_FOUR, Pattern::One)),
-        10
-    );
     Ok(())
 }
 
@@ -57,24 +36,56 @@ fn top_and_left_edges_are_inside(rt: HostRuntime) -> Result<(), Fail> {
     Ok(())
 }
 
+// The triangle (0, 0), (120, 0), (0, 200) covers only sample 0 of the four, at (96, 32), whichever way it runs.
 #[test]
-fn both_windings_are_drawn(rt: HostRuntime) -> Result<(), Fail> {
-    let t = ScreenTri::new([0, 0, 1024], [0, 1024, 0], [0, 0, 0]).ok_or("t")?;
-    assert_eq!(rt;
-        length_of(TileWalk::new(&t, 0, FOUR_BY_FOUR, Pattern::One)),
-        6
-    );
+fn one_of_four_samples(rt: HostRuntime) -> Result<(), Fail> {
+    let t = ScreenTri::new([0, 120, 0], [0, 0, 200], [0, 16777215, 0]).ok_or("t")?;
+    assert_eq!(rt; mask_at(&t, 0, 0, Pattern::Four), 1);
+    let turned = ScreenTri::new([0, 0, 120], [0, 200, 0], [0, 0, 16777215]).ok_or("turned")?;
+    assert_eq!(rt; mask_at(&turned, 0, 0, Pattern::Four), 1);
     Ok(())
 }
 
-// The triangle (0, 0), (120, 0), (0, 200) covers only sample 0 of the four, at (96, 32).
+// A rectangle whose left half covers the pixel up to its middle, as a fan of two triangles: the first has what lies to the
+// right of the fan's inner edge and on it. The right edge runs through the centre, which is not inside.
 #[test]
-fn depth_keys_are_held_in_range(rt: HostRuntime) -> Result<(), Fail> {
-    let near = ScreenTri::new([0, 120, 0], [0, 0, 200], [0, 16777215, 0]).ok_or("near")?;
-    assert_eq!(rt; mask_at(&near, 0, 0, Pattern::Four), 1);
-    assert_eq!(rt; depth_at(&near, 0, 0), 16777215);
-    let far = ScreenTri::new([0, 120, 0], [0, 0, 200], [16777215, 0, 16777215]).ok_or("far")?;
-    assert_eq!(rt; depth_at(&far, 0, 0), 0);
+fn half_a_pixel_in_every_pattern(rt: HostRuntime) -> Result<(), Fail> {
+    let first = ScreenTri::new([-128, 128, 128], [-128, -128, 384], [0; 3]).ok_or("first")?;
+    let second = ScreenTri::new([-128, 128, -128], [-128, 384, 384], [0; 3]).ok_or("second")?;
+    let rows = [
+        (Pattern::One, 0),
+        (Pattern::Two, 2),
+        (Pattern::Four, 5),
+        (Pattern::Eight, 58),
+        (Pattern::Sixteen, 40214),
+    ];
+    for (pattern, want) in rows {
+        assert_eq!(rt; mask_at(&first, 0, 0, pattern), want);
+        assert_eq!(rt; mask_at(&second, 0, 0, pattern), 0);
+    }
+    Ok(())
+}
+
+#[test]
+fn all_samples_of_a_covered_pixel(rt: HostRuntime) -> Result<(), Fail> {
+    let t = ScreenTri::new([-1000, 1000, -1000], [-1000, -1000, 1000], [0; 3]).ok_or("t")?;
+    let wide = ScreenTri::new(
+        [-(1 << 40), 1 << 40, 0],
+        [-(1 << 40), -(1 << 40), 1 << 41],
+        [0; 3],
+    );
+    let wide = wide.ok_or("wide")?;
+    let rows = [
+        (Pattern::One, 1),
+        (Pattern::Two, 3),
+        (Pattern::Four, 15),
+        (Pattern::Eight, 255),
+        (Pattern::Sixteen, 65535),
+    ];
+    for (pattern, want) in rows {
+        assert_eq!(rt; mask_at(&wide, 4095, 4095, pattern), want);
+        assert_eq!(rt; mask_at(&t, 4, 0, pattern), 0);
+    }
     Ok(())
 }
 
@@ -110,18 +121,42 @@ fn offsets_are_those_of_direct3d(rt: HostRuntime) {
 }
 
 #[test]
-fn words_ascend_with_the_depth(rt: HostRuntime) {
-    let far = Fragment {
-        depth: 1,
-        prim: 2,
-        mask: 255,
-    };
-    let near = Fragment {
-        depth: 2,
+fn offsets_of_the_project_s_own_patterns(rt: HostRuntime) {
+    let two = [(4, 4), (-4, -4)];
+    let sixteen = [
+        (1, 1),
+        (-1, -3),
+        (-3, 2),
+        (4, -1),
+        (-5, -2),
+        (2, 5),
+        (5, 3),
+        (3, -5),
+        (-2, 6),
+        (0, -7),
+        (-4, -6),
+        (-6, 4),
+        (-8, 0),
+        (7, -4),
+        (6, 7),
+        (-7, -8),
+    ];
+    for k in 0..2 {
+        assert_eq!(rt; Pattern::Two.offset(k), two[k as usize]);
+    }
+    for k in 0..16 {
+        assert_eq!(rt; Pattern::Sixteen.offset(k), sixteen[k as usize]);
+    }
+}
+
+#[test]
+fn words_ascend_with_the_primitive(rt: HostRuntime) {
+    let first = Fragment {
         prim: 1,
-        mask: 1,
+        mask: 65535,
     };
-    assert_eq!(rt; pack(far), 0x0000_0001_0000_02ff);
-    assert!(rt; pack(far) < pack(near));
-    assert_eq!(rt; unpack(pack(near)), near);
+    let second = Fragment { prim: 2, mask: 1 };
+    assert_eq!(rt; pack(first), 0x1_ffff);
+    assert!(rt; pack(first) < pack(second));
+    assert_eq!(rt; unpack(pack(second)), second);
 }

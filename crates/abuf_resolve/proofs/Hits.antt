@@ -10,7 +10,6 @@ use Rattle.abuf_raster.specs.declared.region.Region.{Region}
 use Rattle.abuf_raster.specs.Triangle.{Triangle}
 use Rattle.abuf_raster.specs.Hits.{hit_at, hits, placed, fragments, all_fragments}
 use Rattle.abuf_raster.specs.Coverage.{mask}
-use Rattle.abuf_raster.specs.Depth.{depth_key}
 use Rattle.abuf_raster.specs.Packing.{packed}
 use Rattle.abuf_raster.specs.Region.{IsRegion}
 use Rattle.abuf_resolve.specs.Colour.{triangle_at, numbers}
@@ -18,7 +17,7 @@ use Rattle.abuf_frame.specs.Draws.{payloads_at}
 
 -- the word of primitive n at pixel (x, y)
 abbrev pub word_of : Triangle → List (ℤ × ℤ) → ℕ → ℕ → ℕ → ℕ
-word_of t os x y n = packed (record { depth = depth_key t x y; prim = n; mask = mask t os x y })
+word_of t os x y n = packed (record { prim = n; mask = mask t os x y })
 
 -- its word, where its mask is not 0
 abbrev pub word_if : Triangle → List (ℤ × ℤ) → ℕ → ℕ → ℕ → List ℕ
@@ -28,6 +27,7 @@ word_if t os x y n = if eqb (mask t os x y) 0 then [] else word_of t os x y n �
 abbrev pub all_hits : List (ℤ × ℤ) → List Triangle → Region → List (ℕ × ℕ)
 all_hits os tris r = flat_map (λ n. fragments (triangle_at tris n) n os r) (numbers tris)
 
+-- The fragments of triangles numbered from n on, as a list over their numbers.
 from_number : (os : List (ℤ × ℤ)) (tris : List Triangle) (r : Region) (ts : List Triangle) (n : ℕ) → ((k : ℕ) → k < length ts → triangle_at tris (n + k) ≡ triangle_at ts k)
     → all_fragments ts n os r ≡ flat_map (λ m. fragments (triangle_at tris m) m os r) (range_with_len n (length ts))
 from_number os tris r [] n h = refl
@@ -36,14 +36,17 @@ from_number os tris r (t ∷ ts) n h =
     ap₂ ◌++◌ (ap (λ (u : Triangle). fragments u n os r) (sym (ap (triangle_at tris) here ∙ h 0 (omega arith))))
     (from_number os tris r ts (n + 1) (λ k l. let e : n + 1 + k ≡ n + suc k = omega arith in ap (triangle_at tris) e ∙ h (suc k) (omega arith)))
 
+-- All fragments are the hits of all primitives.
 pub all_fragments_are : (os : List (ℤ × ℤ)) (tris : List Triangle) (r : Region) → all_fragments tris 0 os r ≡ all_hits os tris r
 all_fragments_are os tris r = from_number os tris r tris 0 (λ k l. let e : 0 + k ≡ k = omega arith in ap (triangle_at tris) e)
 
+-- The payloads at a place of two lists of entries, one after the other.
 pub payloads_at-append : (xs ys : List (ℕ × ℕ)) (p : ℕ) → payloads_at p (xs ++ ys) ≡ payloads_at p xs ++ payloads_at p ys
 payloads_at-append xs ys p =
     ap (map (λ (e : ℕ × ℕ). e.1)) (filter-append (λ (e : ℕ × ℕ). eqb e.0 p) xs ys)
     ∙ map-append (λ (e : ℕ × ℕ). e.1) (filter (λ (e : ℕ × ℕ). eqb e.0 p) xs) (filter (λ (e : ℕ × ℕ). eqb e.0 p) ys)
 
+-- The payloads at a place of one more entry.
 payloads_at-cons : (e : ℕ × ℕ) (es : List (ℕ × ℕ)) (p : ℕ) → payloads_at p (e ∷ es) ≡ cond (eqb e.0 p) (e.1 ∷ []) [] ++ payloads_at p es
 payloads_at-cons e es p =
     elim (eqb e.0 p) as (λ (v : Bool). map (λ (d : ℕ × ℕ). d.1) (cond v (e ∷ filter (λ (d : ℕ × ℕ). eqb d.0 p) es) (filter (λ (d : ℕ × ℕ). eqb d.0 p) es)) ≡ cond v (e.1 ∷ []) [] ++ payloads_at p es)
@@ -56,7 +59,7 @@ module _ (t : Triangle) (n : ℕ) (os : List (ℤ × ℤ)) (r : Region) (is : Is
   step q rest =
       let e : ((r.y0 + q / r.w) - r.y0) * r.w + ((r.x0 + q % r.w) - r.x0) ≡ q = ap₂ (λ (a b : ℕ). a * r.w + b) (omega arith) (omega arith) ∙ div-add-mod' q r.w in
       elim (eqb (mask t os (r.x0 + q % r.w) (r.y0 + q / r.w)) 0) as (λ (v : Bool).
-      payloads_at p (map (placed r) (cons_option (if v then None else Some (record { x = r.x0 + q % r.w; y = r.y0 + q / r.w; fragment = record { depth = depth_key t (r.x0 + q % r.w) (r.y0 + q / r.w); prim = n; mask = mask t os (r.x0 + q % r.w) (r.y0 + q / r.w) } })) rest))
+      payloads_at p (map (placed r) (cons_option (if v then None else Some (record { x = r.x0 + q % r.w; y = r.y0 + q / r.w; fragment = record { prim = n; mask = mask t os (r.x0 + q % r.w) (r.y0 + q / r.w) } })) rest))
       ≡ cond (eqb q p) (if v then [] else word_of t os (r.x0 + q % r.w) (r.y0 + q / r.w) n ∷ []) [] ++ payloads_at p (map (placed r) rest)) [
         | true ↦ elim (eqb q p) as (λ (v : Bool). payloads_at p (map (placed r) rest) ≡ cond v [] [] ++ payloads_at p (map (placed r) rest)) [ true ↦ refl | false ↦ refl ]
         | false ↦ payloads_at-cons (((r.y0 + q / r.w) - r.y0) * r.w + ((r.x0 + q % r.w) - r.x0), word_of t os (r.x0 + q % r.w) (r.y0 + q / r.w) n) (map (placed r) rest) p
@@ -69,6 +72,7 @@ module _ (t : Triangle) (n : ℕ) (os : List (ℤ × ℤ)) (r : Region) (is : Is
   other (suc count) a (inl h) = step a (filter_map (hit_at t n os r) (range_with_len (a + 1) count)) ∙ rw (ne_eqb a p (λ e. omega arith)) (other count (a + 1) (inl (omega arith)))
   other (suc count) a (inr h) = step a (filter_map (hit_at t n os r) (range_with_len (a + 1) count)) ∙ rw (ne_eqb a p (λ e. omega arith)) (other count (a + 1) (inr (omega arith)))
 
+  -- A range that has the place gives the primitive's word there, or nothing.
   within : (count a : ℕ) → a ≤ p → p < a + count → payloads_at p (map (placed r) (filter_map (hit_at t n os r) (range_with_len a count))) ≡ word_if t os (r.x0 + p % r.w) (r.y0 + p / r.w) n
   within zero a l h = absurd (omega arith)
   within (suc count) a l h = go (λ m. within count (a + 1) m (omega arith)) (cases_eq a p) where
@@ -80,6 +84,7 @@ module _ (t : Triangle) (n : ℕ) (os : List (ℤ × ℤ)) (r : Region) (is : Is
         step a (filter_map (hit_at t n os r) (range_with_len (a + 1) count)) ∙ (ap₂ ◌++◌ first (other count (a + 1) (inl (omega arith))) ∙ append-nil (word_if t os (r.x0 + p % r.w) (r.y0 + p / r.w) n))
     go later (inr f) = step a (filter_map (hit_at t n os r) (range_with_len (a + 1) count)) ∙ rw (ne_eqb a p f) (later (omega arith))
 
+  -- So do the hits of the primitive.
   pub hits_of_one : p < r.w * r.h → payloads_at p (map (placed r) (hits t n os r)) ≡ word_if t os (r.x0 + p % r.w) (r.y0 + p / r.w) n
   hits_of_one h = within (r.w * r.h) 0 (omega arith) (omega arith)
 

@@ -3,7 +3,14 @@ pub mod Orders
 pub mod Words
 pub mod Hits
 pub mod Lists
+pub mod Rounds
+pub mod Greatest
+pub mod Parts
 pub mod Joined
 pub mod Totals
 pub mod Fits
 pub mod Present
+pub mod Covered
+pub mod Laid
+pub mod Ranks
+pub mod Pairs

@@ -16,26 +16,21 @@ use Rattle.abuf_raster.specs.Region.{IsRegion}
 use Rattle.abuf_raster.proofs.Masks.{mask_small}
 use Rattle.abuf_resolve.specs.Order.{in_order}
 use Rattle.abuf_resolve.specs.Over.{layered}
-use Rattle.abuf_resolve.specs.Colour.{colour, covering, is_beneath, triangle_at, paint_at, numbers}
-use Rattle.abuf_resolve.specs.Words.{folded, has_sample, paint_of}
+use Rattle.abuf_resolve.specs.Colour.{colour, covering, layers, is_beneath, triangle_at, paint_at, layer_at, numbers}
+use Rattle.abuf_resolve.specs.Words.{folded, has_sample, paint_of, prim_of, layer_of, sample_word, sample_words, sample_of, layer_word}
 use Rattle.abuf_raster.proofs.Bits.{bit_covers, none_covered}
 use Rattle.abuf_resolve.proofs.Hits.{all_hits, word_of, word_if, words_are}
-use Rattle.abuf_resolve.proofs.Orders.{Alike, Rises, kept-in_order, Rises-in_order, Alike-permutation, Alike-filter, Rises-filter, Rises-from_order, in_order_is}
+use Rattle.abuf_resolve.proofs.Orders.{Alike, Alike-permutation, Alike-filter, Alike-map, Rises-from_order, in_order_is, in_order_same}
 use Rattle.abuf_resolve.proofs.Words.{Below, Below-range, Below-filter, Below-in_order, map-in_order, words_ordered}
 
-module _ (tris : List Triangle) (os : List (ℤ × ℤ)) (few : length os ≤ 8) (x y : ℕ) where
+module _ (tris : List Triangle) (os : List (ℤ × ℤ)) (few : length os ≤ 16) (x y : ℕ) where
   -- the parts of a word
   pub prim_is : (n : ℕ) → n < 2 ^ 24 → (unpacked (word_of (triangle_at tris n) os x y n)).prim ≡ n
   prim_is n h = omega (arith, mask_small (triangle_at tris n) os x y few)
 
+  -- The mask of a primitive's word is its mask in the pixel.
   pub mask_is : (n : ℕ) → (unpacked (word_of (triangle_at tris n) os x y n)).mask ≡ mask (triangle_at tris n) os x y
   mask_is n = omega (arith, mask_small (triangle_at tris n) os x y few)
-
-  pub agree : (m n : ℕ) → m < 2 ^ 24 → n < 2 ^ 24 → is_beneath tris x y m n ≡ ltb (word_of (triangle_at tris m) os x y m) (word_of (triangle_at tris n) os x y n)
-  agree m n h l =
-      words_ordered (depth_key (triangle_at tris m) x y) (depth_key (triangle_at tris n) x y) m n (mask (triangle_at tris m) os x y) (mask (triangle_at tris n) os x y)
-      (mask_small (triangle_at tris m) os x y few) (mask_small (triangle_at tris n) os x y few) h l
-      (λ e. (ap (λ (i : ℕ). depth_key (triangle_at tris i) x y) e, ap (λ (i : ℕ). mask (triangle_at tris i) os x y) e))
 
   module _ (k : ℕ) (in_pattern : k < length os) where
     -- the words with the sample are those of the primitives that cover it
@@ -48,6 +43,7 @@ module _ (tris : List Triangle) (os : List (ℤ × ℤ)) (few : length os ≤ 8)
           ap (λ (v : Bool). cond v (word_of (triangle_at tris n) os x y n ∷ []) [])
           (ap (λ (m : ℕ). eqb (bit_at m k) 1) (mask_is n) ∙ bit_covers (triangle_at tris n) os x y k in_pattern)
 
+    -- The words that have the sample are those of the primitives that cover it.
     pub kept_words : (ns : List ℕ) → filter (has_sample k) (flat_map (λ n. word_if (triangle_at tris n) os x y n) ns)
         ≡ map (λ n. word_of (triangle_at tris n) os x y n) (filter (λ n. covers (triangle_at tris n) os x y k) ns)
     kept_words [] = refl
@@ -59,43 +55,79 @@ module _ (tris : List Triangle) (os : List (ℤ × ℤ)) (few : length os ≤ 8)
         ≡ map (λ m. word_of (triangle_at tris m) os x y m) (cond v (n ∷ filter (λ m. covers (triangle_at tris m) os x y k) ns) (filter (λ m. covers (triangle_at tris m) os x y k) ns)))
         [ true ↦ refl | false ↦ refl ])
 
-  paints_are : (paints : List Paint) (ns : List ℕ) → Below (2 ^ 24) ns → map (paint_of paints) (map (λ n. word_of (triangle_at tris n) os x y n) ns) ≡ map (paint_at paints) ns
-  paints_are paints [] b = refl
-  paints_are paints (n ∷ ns) b = ap₂ ◌∷◌ (ap (paint_at paints) (prim_is n b.0)) (paints_are paints ns b.1)
+    -- in that sample they are the words of these primitives
+    sample_is : (n : ℕ) → n < 2 ^ 24 → sample_word os tris x y k (word_of (triangle_at tris n) os x y n) ≡ layer_word os tris x y k n
+    sample_is n h = ap (layer_word os tris x y k) (prim_is n h)
 
--- the law of the list, for a list that rises and holds the words of all hits at a place
-list_is_by : (os : List (ℤ × ℤ)) (background : List ℕ) (tris : List Triangle) (paints : List Paint) (r : Region) (p k : ℕ) (sorted : List ℕ)
-    → length os ≤ 8 → k < length os → length tris ≤ 2 ^ 24 → IsRegion r → p < r.w * r.h
-    → Alike (payloads_at p (all_hits os tris r)) sorted → Rises sorted
-    → folded background paints sorted k ≡ colour os background tris paints (r.x0 + p % r.w) (r.y0 + p / r.w) k
-list_is_by os background tris paints r p k sorted few in_pattern limit is inside alike rises =
+    -- In the sample they are these primitives' words.
+    samples_are : (ns : List ℕ) → Below (2 ^ 24) ns → map (sample_word os tris x y k) (map (λ n. word_of (triangle_at tris n) os x y n) ns) ≡ map (layer_word os tris x y k) ns
+    samples_are [] b = refl
+    samples_are (n ∷ ns) b = ap₂ ◌∷◌ (sample_is n b.0) (samples_are ns b.1)
+
+    -- To lie beneath is to have the lower word.
+    agree : (m n : ℕ) → m < 2 ^ 24 → n < 2 ^ 24 → is_beneath os tris x y k m n ≡ ltb (layer_word os tris x y k m) (layer_word os tris x y k n)
+    agree m n h l = words_ordered (depth_key (triangle_at tris m) os x y k) (depth_key (triangle_at tris n) os x y k) m n h l
+
+    -- The numbers of the primitives that cover the sample are small enough,
+    below : length tris ≤ 2 ^ 24 → Below (2 ^ 24) (covering os tris x y k)
+    below limit = Below-filter (2 ^ 24) (λ n. covers (triangle_at tris n) os x y k) (numbers tris) (Below-range (2 ^ 24) (length tris) 0 (omega arith))
+
+    -- and so are they in order.
+    pub layers_below : length tris ≤ 2 ^ 24 → Below (2 ^ 24) (layers os tris x y k)
+    layers_below limit = Below-in_order (is_beneath os tris x y k) (layer_word os tris x y k) (2 ^ 24) agree (covering os tris x y k) (below limit)
+
+    -- the words of all primitives' fragments, in that sample and in order
+    pub all_samples : length tris ≤ 2 ^ 24 → in_order ltb (sample_words os tris x y k (flat_map (λ n. word_if (triangle_at tris n) os x y n) (numbers tris))) ≡ map (layer_word os tris x y k) (layers os tris x y k)
+    all_samples limit =
+        ap (λ (ws : List ℕ). in_order ltb (map (sample_word os tris x y k) ws)) (kept_words (numbers tris))
+        ∙ (ap (in_order ltb) (samples_are (covering os tris x y k) (below limit))
+        ∙ sym (map-in_order (is_beneath os tris x y k) (layer_word os tris x y k) (2 ^ 24) agree (covering os tris x y k) (below limit)))
+
+    -- The paint of a primitive's word in the sample is the primitive's.
+    paint_is : (paints : List Paint) (n : ℕ) → n < 2 ^ 24 → paint_of paints (layer_word os tris x y k n) ≡ paint_at paints n
+    paint_is paints n h = let e : prim_of (layer_word os tris x y k n) ≡ n = omega arith in ap (paint_at paints) e
+
+    -- So it is for several.
+    pub paints_are : (paints : List Paint) (ns : List ℕ) → Below (2 ^ 24) ns → map (paint_of paints) (map (layer_word os tris x y k) ns) ≡ map (paint_at paints) ns
+    paints_are paints [] b = refl
+    paints_are paints (n ∷ ns) b = ap₂ ◌∷◌ (paint_is paints n b.0) (paints_are paints ns b.1)
+
+    -- What one such word tells.
+    told_is : (n : ℕ) → n < 2 ^ 24 → layer_of (layer_word os tris x y k n) ≡ layer_at os tris x y k n
+    told_is n h =
+        let e : layer_word os tris x y k n % 2 ^ 24 ≡ n = omega arith in
+        let f : layer_word os tris x y k n / 2 ^ 24 ≡ depth_key (triangle_at tris n) os x y k = omega arith in
+        ap₂ (λ (a b : ℕ). (a, b)) e f
+
+    -- what the words of layers tell
+    pub told_are : (ns : List ℕ) → Below (2 ^ 24) ns → map layer_of (map (layer_word os tris x y k) ns) ≡ map (layer_at os tris x y k) ns
+    told_are [] b = refl
+    told_are (n ∷ ns) b = ap₂ ◌∷◌ (told_is n b.0) (told_are ns b.1)
+
+-- for a list that holds the words of all hits at a place, in any order
+pub layers_are : (os : List (ℤ × ℤ)) (tris : List Triangle) (r : Region) (p k : ℕ) (list : List ℕ)
+    → length os ≤ 16 → k < length os → length tris ≤ 2 ^ 24 → IsRegion r → p < r.w * r.h
+    → Alike (payloads_at p (all_hits os tris r)) list
+    → in_order ltb (sample_words os tris (r.x0 + p % r.w) (r.y0 + p / r.w) k list) ≡ map (layer_word os tris (r.x0 + p % r.w) (r.y0 + p / r.w) k) (layers os tris (r.x0 + p % r.w) (r.y0 + p / r.w) k)
+layers_are os tris r p k list few in_pattern limit is inside alike =
     let x : ℕ = r.x0 + p % r.w in
     let y : ℕ = r.y0 + p / r.w in
-    let w : ℕ → ℕ = λ n. word_of (triangle_at tris n) os x y n in
-    let before : ℕ → ℕ → Bool = is_beneath tris x y in
-    let cs : List ℕ = covering os tris x y k in
-    let below : Below (2 ^ 24) cs = Below-filter (2 ^ 24) (λ n. covers (triangle_at tris n) os x y k) (numbers tris) (Below-range (2 ^ 24) (length tris) 0 (omega arith)) in
-    let same : filter (has_sample k) (payloads_at p (all_hits os tris r)) ≡ map w cs = ap (filter (has_sample k)) (words_are os tris r is p inside (numbers tris)) ∙ kept_words tris os few x y k in_pattern (numbers tris) in
-    let ordered : filter (has_sample k) sorted ≡ map w (in_order before cs) =
-    in_order_is (filter (has_sample k) (payloads_at p (all_hits os tris r))) (filter (has_sample k) sorted) (Alike-filter (has_sample k) (payloads_at p (all_hits os tris r)) sorted alike) (Rises-filter (has_sample k) sorted rises)
-    ∙ (ap (in_order ltb) same ∙ sym (map-in_order before w (2 ^ 24) (agree tris os few x y) cs below)) in
-    ap (layered background) (ap (map (paint_of paints)) ordered ∙ paints_are tris os few x y paints (in_order before cs) (Below-in_order before w (2 ^ 24) (agree tris os few x y) cs below))
+    let all : List ℕ = payloads_at p (all_hits os tris r) in
+    sym (in_order_same (sample_words os tris x y k all) (sample_words os tris x y k list)
+    (Alike-map (sample_word os tris x y k) (filter (has_sample k) all) (filter (has_sample k) list) (Alike-filter (has_sample k) all list alike)))
+    ∙ (ap (λ (ws : List ℕ). in_order ltb (sample_words os tris x y k ws)) (words_are os tris r is p inside (numbers tris))
+    ∙ all_samples tris os few x y k in_pattern limit)
 
--- for a list of the words in any order
+-- Such a list gives the colour of the sample.
 pub list_in_order : (os : List (ℤ × ℤ)) (background : List ℕ) (tris : List Triangle) (paints : List Paint) (r : Region) (p k : ℕ) (list : List ℕ)
-    → length os ≤ 8 → k < length os → length tris ≤ 2 ^ 24 → IsRegion r → p < r.w * r.h
+    → length os ≤ 16 → k < length os → length tris ≤ 2 ^ 24 → IsRegion r → p < r.w * r.h
     → Alike (payloads_at p (all_hits os tris r)) list
-    → folded background paints (in_order ltb list) k ≡ colour os background tris paints (r.x0 + p % r.w) (r.y0 + p / r.w) k
+    → sample_of os background tris paints (r.x0 + p % r.w) (r.y0 + p / r.w) list k ≡ colour os background tris paints (r.x0 + p % r.w) (r.y0 + p / r.w) k
 list_in_order os background tris paints r p k list few in_pattern limit is inside alike =
-    list_is_by os background tris paints r p k (in_order ltb list) few in_pattern limit is inside
-    (record { times = λ q. alike.times q ∙ sym (kept-in_order ltb q list) }) (Rises-in_order list)
-
-pub list_is : (os : List (ℤ × ℤ)) (background : List ℕ) (tris : List Triangle) (paints : List Paint) (r : Region) (p k : ℕ) (list : List ℕ)
-    → length os ≤ 8 → k < length os → length tris ≤ 2 ^ 24 → IsRegion r → p < r.w * r.h
-    → IsPermutation (payloads_at p (all_hits os tris r)) list
-    → folded background paints (in_order ltb list) k ≡ colour os background tris paints (r.x0 + p % r.w) (r.y0 + p / r.w) k
-list_is os background tris paints r p k list few in_pattern limit is inside perm =
-    list_in_order os background tris paints r p k list few in_pattern limit is inside (Alike-permutation (payloads_at p (all_hits os tris r)) list perm)
+    let x : ℕ = r.x0 + p % r.w in
+    let y : ℕ = r.y0 + p / r.w in
+    ap (folded background paints) (layers_are os tris r p k list few in_pattern limit is inside alike)
+    ∙ ap (layered background) (paints_are tris os few x y k in_pattern paints (layers os tris x y k) (layers_below tris os few x y k in_pattern limit))
 
 -- and for the sorted list
 pub sorted_is : (xs ys : List ℕ) → IsPermutation xs ys → IsNonDecreasing ys → ys ≡ in_order ltb xs

@@ -1,20 +1,17 @@
 -- The sums of lists of the hits' words are the sums of the primitives' colours.
-use Rattle.std.proofs.Common.{◌≡◌, ℕ, zero, suc, ◌+◌, ◌*◌, ◌/◌, ◌%◌, ◌^◌, ◌<◌, ◌≤◌, List, [], map, length, ℤ, refl, ap, ap₂, ◌∙◌, sym, arith, get_or, ltb, eqb, cond, ◌&&◌, ◌∷◌, Bool, true, false}
-use Rattle.std.specs.List.{filter, count_by}
+use Rattle.std.proofs.Common.{◌≡◌, ℕ, zero, suc, ◌+◌, ◌*◌, ◌/◌, ◌%◌, ◌^◌, ◌<◌, ◌≤◌, List, [], map, length, ℤ, refl, ap, ap₂, ◌∙◌, sym, arith, get_or, eqb, cond, ◌&&◌, ◌∷◌, Bool, true, false}
+use Rattle.std.specs.List.{filter, count_by, range_with_len}
 use Rattle.std.proofs.lemmas.List.Sums.{sum_by-cons}
 use Rattle.std.proofs.lemmas.List.Sorted.{sum_by-IsPermutation}
 use Rattle.std.specs.List.Sorted.{IsPermutation}
-use Rattle.std.proofs.lemmas.List.{get_or-map, length-map}
-use Rattle.std.proofs.lemmas.List.FromFn.{fill_by_all}
 use Rattle.abuf_num.specs.declared.plain.Paint.{Paint}
 use Rattle.abuf_frame.specs.Draws.{payloads_at}
 use Rattle.abuf_raster.specs.declared.region.Region.{Region}
 use Rattle.abuf_raster.specs.Region.{IsRegion}
 use Rattle.abuf_raster.specs.Triangle.{Triangle}
-use Rattle.abuf_resolve.specs.Order.{in_order}
 use Rattle.abuf_resolve.specs.Colour.{colour}
 use Rattle.abuf_resolve.specs.Sums.{plus, summed, sums_at, region_sums}
-use Rattle.abuf_resolve.specs.Words.{folded, pixel_sum, AreListsOf}
+use Rattle.abuf_resolve.specs.Words.{sample_of, place_sum, frame_sums, AreListsOf}
 use Rattle.abuf_resolve.proofs.Hits.{all_hits}
 use Rattle.abuf_resolve.proofs.Lists.{list_in_order}
 use Rattle.abuf_resolve.proofs.Orders.{Alike, kept, Alike-permutation}
@@ -37,17 +34,22 @@ Alike-drawn hits entries list p drawn here = record {
 }
 
 -- sums of equal colours are equal
-summed_same : (f g : ℕ → List ℕ) (n : ℕ) → ((k : ℕ) → k < n → f k ≡ g k) → summed f n ≡ summed g n
+pub summed_same : (f g : ℕ → List ℕ) (n : ℕ) → ((k : ℕ) → k < n → f k ≡ g k) → summed f n ≡ summed g n
 summed_same f g zero h = refl
 summed_same f g (suc n) h = ap₂ plus (summed_same f g n (λ k l. h k (omega arith))) (h n (omega arith))
 
+-- Two functions that agree on a range have the same list over it.
+pub same_on_range : {X : Type 0} (f g : ℕ → X) (a n : ℕ) → ((p : ℕ) → a ≤ p → p < a + n → f p ≡ g p) → map f (range_with_len a n) ≡ map g (range_with_len a n)
+same_on_range f g a zero h = refl
+same_on_range f g a (suc n) h = ap₂ ◌∷◌ (h a (omega arith) (omega arith)) (same_on_range f g (a + 1) n (λ p l u. h p (omega arith) (omega arith)))
+
+-- The sums of lists that hold all hits are those of the pixels of the region.
 pub sums_are : (os : List (ℤ × ℤ)) (background : List ℕ) (tris : List Triangle) (paints : List Paint) (r : Region) (lists : List (List ℕ))
-    → length os ≤ 8 → length tris ≤ 2 ^ 24 → IsRegion r → length lists ≡ r.w * r.h
+    → length os ≤ 16 → length tris ≤ 2 ^ 24 → IsRegion r → length lists ≡ r.w * r.h
     → AreListsOf (all_hits os tris r) lists
-    → map (pixel_sum background paints (length os)) lists ≡ region_sums os background tris paints r
+    → frame_sums os background tris paints r lists ≡ region_sums os background tris paints r
 sums_are os background tris paints r lists few limit is size words =
-    fill_by_all (λ p. sums_at os background tris paints (r.x0 + p % r.w) (r.y0 + p / r.w)) (map (pixel_sum background paints (length os)) lists) (r.w * r.h) (pixel_sum background paints (length os) [])
-    (length-map lists (pixel_sum background paints (length os)) ∙ size)
-    (λ p l. get_or-map (pixel_sum background paints (length os)) lists p [] (pixel_sum background paints (length os) []) (omega arith)
-    ∙ summed_same (folded background paints (in_order ltb (get_or lists p []))) (colour os background tris paints (r.x0 + p % r.w) (r.y0 + p / r.w)) (length os)
-    (λ k m. list_in_order os background tris paints r p k (get_or lists p []) few m limit is l (Alike-drawn (all_hits os tris r) words.entries (get_or lists p []) p words.drawn (words.each p (omega arith)))))
+    same_on_range (place_sum os background tris paints r lists) (λ p. sums_at os background tris paints (r.x0 + p % r.w) (r.y0 + p / r.w)) 0 (r.w * r.h)
+    (λ p z l.
+    summed_same (sample_of os background tris paints (r.x0 + p % r.w) (r.y0 + p / r.w) (get_or lists p [])) (colour os background tris paints (r.x0 + p % r.w) (r.y0 + p / r.w)) (length os)
+    (λ k m. list_in_order os background tris paints r p k (get_or lists p []) few m limit is (omega arith) (Alike-drawn (all_hits os tris r) words.entries (get_or lists p []) p words.drawn (words.each p (omega arith)))))

@@ -1,30 +1,27 @@
 //! Laws over the definitions. Each function takes the values that its law speaks of, and does nothing: its contract is
 //! the law.
-ghost use Rattle.std.specs.Prelude.{◌≡◌, ℕ, List as Items, ◌+◌, ◌*◌, ◌/◌, ◌%◌, ◌^◌, ◌<◌, ◌≤◌, length, map, nat_lt, IsPermutation};
-ghost use Rattle.std.specs.List.{range_with_len, All};
+ghost use Rattle.std.specs.Prelude.{◌≡◌, ◌*◌, ◌<◌, ◌≤◌, length, map, nat_lt, IsPermutation};
+ghost use Rattle.std.specs.List.{All};
 ghost use Rattle.std.specs.List.Sorted.{IsNonDecreasing};
 ghost use Rattle.abuf_frame.specs.Draws.{payloads_at};
-ghost use Rattle.abuf_raster.specs.Packing.{unpacked};
 ghost use Rattle.abuf_raster.specs.Region.{IsRegion};
 ghost use Rattle.abuf_raster.specs.Samples.{offsets_of};
 ghost use Rattle.abuf_raster.specs.Hits.{all_fragments};
+ghost use Rattle.abuf_resolve.specs.Laws.{x_at, y_at, counts, GiveColour, GiveRegionSums, HasOneEach, UnpackToFragments, AreLayers, TellLayers};
 ghost use Rattle.abuf_resolve.specs.Order.{in_order};
-ghost use Rattle.abuf_resolve.specs.Colour.{colour};
-ghost use Rattle.abuf_resolve.specs.Sums.{region_sums};
-ghost use Rattle.abuf_resolve.specs.Pixel.{present, pixel_fragments};
-ghost use Rattle.abuf_resolve.specs.Words.{folded, pixel_sum, AreListsOf, AreWordsAt, AreFragmentLists};
+ghost use Rattle.abuf_resolve.specs.Pixel.{present};
+ghost use Rattle.abuf_resolve.specs.Words.{IsFragmentAt, AreListsOf, AreWordsAt, AreFragmentLists};
 
 use abuf_frame::Closed;
 use abuf_num::Paint;
 use abuf_raster::{Pattern, Region, ScreenTri};
 
-/// The law of the list, for the pixel at one place of a region. The words of all fragments there, given in any order, put in
-/// ascending order and folded where they have a sample, give the colour of that sample.
+/// The law of the list, for the pixel at one place of a region and one sample. Of the words of all fragments there, given in any
+/// order, those that have the sample, ordered by their depth keys there and their primitive numbers and folded, give the colour
+/// of that sample.
 pub fn list_law(
     triangles: &[ScreenTri],
-    paints: &[Paint],
     pattern: Pattern,
-    background: [u16; 3],
     region: Region,
     place: u32,
     sample: u32,
@@ -35,7 +32,7 @@ pub fn list_law(
     requires region { IsRegion region }
     requires place { place < region.w * region.h }
     requires words { IsPermutation words.now (payloads_at place (all_fragments triangles.now 0 (offsets_of pattern) region)) }
-    ensures { folded background paints.now (in_order nat_lt words.now) sample ≡ colour (offsets_of pattern) background triangles.now paints.now (region.x0 + place % region.w) (region.y0 + place / region.w) sample }
+    ensures { GiveColour (offsets_of pattern) triangles.now (x_at region place) (y_at region place) sample words.now }
 {}
 
 /// The law of order: a list that holds the same words and ascends is the list put in order.
@@ -59,27 +56,23 @@ pub fn sums_law(
     requires region { IsRegion region }
     requires pixels { length closed.now.lists ≡ region.w * region.h }
     requires lists { AreListsOf (all_fragments triangles.now 0 (offsets_of pattern) region) closed.now.lists }
-    ensures { map (pixel_sum background paints.now (length (offsets_of pattern))) closed.now.lists ≡ region_sums (offsets_of pattern) background triangles.now paints.now region }
+    ensures { GiveRegionSums (offsets_of pattern) background triangles.now paints.now region closed.now.lists }
 {}
 
 /// The law of the words. Where the lists of a closed frame hold all fragments of a region, each of their words is one of a
-/// fragment of a primitive that has a paint.
-pub fn words_law(
-    closed: &Closed,
-    triangles: &[ScreenTri],
-    paints: &[Paint],
-    pattern: Pattern,
-    region: Region,
-)
+/// fragment of a primitive in its pixel, with only samples that the primitive covers there.
+pub fn words_law(closed: &Closed, triangles: &[ScreenTri], pattern: Pattern, region: Region)
     requires few { length triangles.now ≤ 2097152 }
-    requires paints { length paints.now ≡ length triangles.now }
+    requires region { IsRegion region }
+    requires pixels { length closed.now.lists ≡ region.w * region.h }
     requires lists { AreListsOf (all_fragments triangles.now 0 (offsets_of pattern) region) closed.now.lists }
-    ensures { AreFragmentLists (length paints.now) closed.now.lists }
+    ensures { AreFragmentLists (offsets_of pattern) triangles.now region closed.now.lists }
 {}
 
 /// The law of the pixel, for the pixel at one place of a region. The words of all fragments there, given in any order, unpack
-/// in ascending order to the pixel's fragments from the farthest to the nearest, one for each primitive that is present.
-/// Each word is below 2^56, so it may be unpacked.
+/// in ascending order to the pixel's fragments, one for each primitive that is present, by ascending primitive number. In each
+/// sample, ordered, they are the words of the primitives that cover it, from the lowest to the topmost, and tell these
+/// primitives' numbers and depth keys. Each word is one of a fragment in the pixel, in whatever order they stand.
 pub fn pixel_law(
     triangles: &[ScreenTri],
     pattern: Pattern,
@@ -91,11 +84,13 @@ pub fn pixel_law(
     requires region { IsRegion region }
     requires place { place < region.w * region.h }
     requires words { AreWordsAt (all_fragments triangles.now 0 (offsets_of pattern) region) place words.now }
-    ensures fragments { map unpacked (in_order nat_lt words.now) ≡ pixel_fragments (offsets_of pattern) triangles.now (region.x0 + place % region.w) (region.y0 + place / region.w) }
-    ensures count { length words.now ≡ length (present (offsets_of pattern) triangles.now (region.x0 + place % region.w) (region.y0 + place / region.w)) }
+    ensures fragments { UnpackToFragments (offsets_of pattern) triangles.now (x_at region place) (y_at region place) words.now }
+    ensures count { length words.now ≡ length (present (offsets_of pattern) triangles.now (x_at region place) (y_at region place)) }
     ensures most { length words.now ≤ length triangles.now }
-    ensures fit { All (λ word. word < 2 ^ 56) words.now }
-    ensures ordered_fit { All (λ word. word < 2 ^ 56) (in_order nat_lt words.now) }
+    ensures layers { AreLayers (offsets_of pattern) triangles.now (x_at region place) (y_at region place) words.now }
+    ensures told { TellLayers (offsets_of pattern) triangles.now (x_at region place) (y_at region place) words.now }
+    ensures fit { All (IsFragmentAt (offsets_of pattern) triangles.now (x_at region place) (y_at region place)) words.now }
+    ensures ordered_fit { All (IsFragmentAt (offsets_of pattern) triangles.now (x_at region place) (y_at region place)) (in_order nat_lt words.now) }
 {}
 
 /// The law of one each: at one place of a region there are no more fragments than primitives, in whatever order all
@@ -104,7 +99,7 @@ pub fn one_each_law(triangles: &[ScreenTri], pattern: Pattern, region: Region, p
     requires few { length triangles.now ≤ 2097152 }
     requires region { IsRegion region }
     requires place { place < region.w * region.h }
-    ensures { (entries : Items (ℕ × ℕ)) → IsPermutation entries (all_fragments triangles.now 0 (offsets_of pattern) region) → length (payloads_at place entries) ≤ length triangles.now }
+    ensures { HasOneEach (all_fragments triangles.now 0 (offsets_of pattern) region) place (length triangles.now) }
 {}
 
 /// The law of the lengths. Where the lists of a closed frame hold all fragments of a region, drawn in any order, each list is
@@ -114,5 +109,5 @@ pub fn lengths_law(closed: &Closed, triangles: &[ScreenTri], pattern: Pattern, r
     requires region { IsRegion region }
     requires pixels { length closed.now.lists ≡ region.w * region.h }
     requires lists { AreListsOf (all_fragments triangles.now 0 (offsets_of pattern) region) closed.now.lists }
-    ensures { map length closed.now.lists ≡ map (λ place. length (present (offsets_of pattern) triangles.now (region.x0 + place % region.w) (region.y0 + place / region.w))) (range_with_len 0 (region.w * region.h)) }
+    ensures { map length closed.now.lists ≡ counts (offsets_of pattern) triangles.now region }
 {}

@@ -1,26 +1,35 @@
 //! Compositing: the colours of a pixel's samples, from the words of its fragments.
 //!
-//! `over` is the operator of Porter and Duff in whole numbers. `sample_colour` folds the fragments that have a sample, in
-//! the order of their words, over the background. `resolve` gives the sums over the samples for each pixel of a closed frame,
-//! on threads; the sums don't depend on the number of threads, nor on the order of the lists.
+//! `over` is the operator of Porter and Duff in whole numbers. `sample_colour` folds the fragments of one sample, in the order
+//! of their words, over the background. `resolve` gives the sums over the samples for each pixel of a closed frame, on threads,
+//! with the fragments ordered in each sample by the depth there; the sums don't depend on the number of threads, nor on the
+//! order of the lists.
 //!
 //! `laws` ties that to the definition of a sample's colour, which speaks of the primitives alone. By `list_law` the words of
-//! all fragments at a pixel, given in any order, put in ascending order and folded give the colour. By `words_law` and
-//! `sums_law` a frame into which all fragments of a region were drawn, in any order, resolves to the sums of the colours. By
-//! `pixel_law` the sorted words of a pixel unpack to its fragments, and by `lengths_law` a list of such a frame is as long as
-//! there are primitives that cover a sample of its pixel.
-//! Only `resolve` takes memory.
+//! all fragments at a pixel, given in any order, give the colour of each sample. By `words_law` and `sums_law` a frame into
+//! which all fragments of a region were drawn, in any order, resolves to the sums of the colours. By `pixel_law` the words of a
+//! pixel unpack to its fragments, and by `lengths_law` a list of such a frame is as long as there are primitives that cover a
+//! sample of its pixel.
+//! Only resolving and the planes take memory.
 #![tactic(auto)]
 
-mod blend;
+mod bounded;
+mod fold;
+mod fragments;
+mod having;
 pub mod laws;
+mod order;
 mod pixels;
+mod planes;
 mod runs;
-mod samples;
+mod scene;
+mod shares;
 #[cfg(test)]
 mod tests;
 mod threads;
 
-pub use blend::over;
-pub use samples::sample_colour;
-pub use threads::resolve;
+pub use fold::{laid_over, over, sample_colour};
+pub use planes::Planes;
+pub use runs::Resolved;
+pub use scene::Pixel;
+pub use threads::{resolve, resolve_counted};

@@ -1,65 +1,120 @@
-// The sums of a run of pixels, and of runs put together.
-ghost use Rattle.std.specs.Prelude.{◌≡◌, ◌<◌, ◌≤◌, length, map, slice_range, IfOk};
-ghost use Rattle.std.specs.List.{flat_map, All};
-ghost use Rattle.std.specs.Result.{IsOk};
+// The sums of one worker's pixels.
+ghost use Rattle.std.specs.Prelude.{◌≡◌, ◌-◌, ◌*◌, ◌%◌, ◌++◌, ◌∷◌, [], ◌<◌, ◌≤◌, max, length, map, vec_items, IfOk, OnOk};
+ghost use Rattle.std.specs.List.{All};
+ghost use Rattle.abuf_raster.specs.Region.{IsRegion};
 ghost use Rattle.abuf_raster.specs.Samples.{offsets_of};
-ghost use Rattle.abuf_resolve.specs.Runs.{cut, items_of};
+ghost use Rattle.abuf_resolve.specs.Laws.{x_at, y_at};
+ghost use Rattle.abuf_resolve.specs.Parts.{HoldEight, IsPart};
+ghost use Rattle.abuf_resolve.specs.Scene.{sum_of_list};
+ghost use Rattle.abuf_resolve.specs.Shares.{places_of};
 ghost use Rattle.abuf_resolve.specs.Sums.{IsSmall};
-ghost use Rattle.abuf_resolve.specs.Words.{pixel_sum, AreFragmentLists};
+ghost use Rattle.abuf_resolve.specs.Words.{AreFragmentLists, IsFragmentAt};
 
-use crate::pixels::pixel_sum;
+use crate::pixels::Buffers;
+use crate::scene::{Pixel, Scene};
+use crate::shares::Share;
 use abuf_frame::Closed;
-use abuf_num::{List, NoMemory, Paint, PixelSum};
-use abuf_raster::Pattern;
+use abuf_num::{List, NoMemory, PixelSum};
+use abuf_raster::Region;
 use std::alloc::Global;
 
-/// Where the run of this worker begins; that of one worker more ends with the last pixel.
-pub(crate) fn cut(pixels: u32, threads: u32, worker: u32) -> u32
-    requires threads { (1 ≤ threads) × (threads ≤ 64) }
-    requires worker { worker ≤ threads }
-    ensures value { result ≡ cut pixels threads worker }
-    ensures within { result ≤ pixels }
-{
-    (u64::from(worker) * u64::from(pixels) / u64::from(threads)) as u32
+/// What resolving gives.
+#[derive(Drop)]
+pub struct Resolved {
+    /// For each pixel the sums over its samples.
+    pub sums: List<PixelSum>,
+    /// The length of the longest list of a pixel.
+    pub longest: usize,
 }
 
-/// The sums of the pixels from `from` to before `to`. One buffer holds their lists, one after another.
-pub(crate) fn run_of_sums(
-    alloc: Global,
+impl Resolved {
+    /// One pixel more, whose list has this length.
+    fn push(&mut self, sum: PixelSum, length: usize) -> Result<(), NoMemory>
+        ensures sums { OnOk result (self.new.sums ≡ self.old.sums ++ sum ∷ []) }
+        ensures longest { OnOk result (self.new.longest ≡ max self.old.longest length) }
+    {
+        self.sums.push(sum)?;
+        self.longest = self.longest.max(length);
+        Ok(())
+    }
+}
+
+/// Copies the lists of eight pixels from this place on where the pixel is the first of eight; else they are there.
+#[inline(always)]
+fn hold_eight(
     closed: &Closed,
-    from: u32,
-    to: u32,
-    paints: &[Paint],
-    pattern: Pattern,
-    background: [u16; 3],
-) -> Result<List<PixelSum>, NoMemory>
-    requires order { from ≤ to }
-    requires within { to ≤ closed.now.pixels }
-    requires lists { length closed.now.lists ≡ closed.now.pixels }
-    requires words { AreFragmentLists (length paints.now) closed.now.lists }
-    ensures value { IfOk result (λ sums. sums ≡ map (pixel_sum background paints.now (length (offsets_of pattern))) (slice_range closed.now.lists from to)) }
-    ensures small { IfOk result (λ sums. All (IsSmall (length (offsets_of pattern))) sums) }
+    lists: &mut [Vec<u64>; 8],
+    place: u32,
+    i: u32,
+) -> Result<(), NoMemory>
+    requires place { place < closed.now.pixels }
+    requires held { 0 < i % 8 → HoldEight closed.now (place - i % 8) (map vec_items lists.old) }
+    ensures length { length lists.new ≡ 8 }
+    ensures held { IfOk result (λ _. HoldEight closed.now (place - i % 8) (map vec_items lists.new)) }
 {
-    let mut sums = List::new(alloc);
-    let mut list = Vec::new(alloc);
-    for pixel in from..to {
-        closed.copy_list(pixel, &mut list)?;
-        sums.push(pixel_sum(&mut list, paints, pattern, background))?;
+    if i % 8 == 0 {
+        closed.copy_eight(place, lists)?;
     }
-    Ok(sums)
+    Ok(())
 }
 
-/// The items of all runs in order, or the first refusal.
-pub(crate) fn put_together(
-    alloc: Global,
-    runs: Vec<Result<List<PixelSum>, NoMemory>>,
-) -> Result<List<PixelSum>, NoMemory>
-    ensures { IfOk result (λ sums. All IsOk runs.items × (sums ≡ flat_map items_of runs.items)) }
-{
-    let mut sums = Vec::new(alloc);
-    for run in runs {
-        let run = run?.into_vec();
-        sums.extend_from_slice(&run)?;
+impl<'a, 'b> Scene<'a, 'b> {
+    /// The sums of the pixel at one place of a region, from its list.
+    fn place_sum(
+        &self,
+        buffers: &mut Buffers,
+        region: Region,
+        place: u32,
+        list: &[u64],
+    ) -> Result<PixelSum, NoMemory>
+        requires region { IsRegion region }
+        requires place { place < region.w * region.h }
+        requires words { All (IsFragmentAt (offsets_of self.now.pattern) self.now.planes (x_at region place) (y_at region place)) list.now }
+        ensures value { IfOk result (λ sum. sum ≡ sum_of_list self.now region place list.now) }
+        ensures small { IfOk result (λ sum. IsSmall (length (offsets_of self.now.pattern)) sum) }
+    {
+        let at = Pixel {
+            x: region.x0 + place % region.w,
+            y: region.y0 + place / region.w,
+        };
+        self.pixel_sum(buffers, list, at)
     }
-    Ok(List::from_vec(sums))
+
+    /// The sums of a worker's pixels, and the length of the longest of their lists.
+    pub(crate) fn part(
+        &self,
+        alloc: Global,
+        closed: &Closed,
+        region: Region,
+        share: Share,
+    ) -> Result<Resolved, NoMemory>
+        requires region { IsRegion region }
+        requires pixels { length closed.now.lists ≡ region.w * region.h }
+        requires words { AreFragmentLists (offsets_of self.now.pattern) self.now.planes region closed.now.lists }
+        ensures { IfOk result (λ part. IsPart self.now region closed.now.lists (places_of (region.w * region.h) share.threads share.worker) part) }
+    {
+        let mut part = Resolved {
+            sums: List::new(alloc),
+            longest: 0,
+        };
+        let mut lists = [
+            Vec::new(alloc),
+            Vec::new(alloc),
+            Vec::new(alloc),
+            Vec::new(alloc),
+            Vec::new(alloc),
+            Vec::new(alloc),
+            Vec::new(alloc),
+            Vec::new(alloc),
+        ];
+        let mut buffers = Buffers::new(alloc);
+        for i in 0..share.count(closed.pixels()) {
+            let place = share.place(i);
+            hold_eight(closed, &mut lists, place, i)?;
+            let list = lists[(i % 8) as usize].as_slice();
+            let sum = self.place_sum(&mut buffers, region, place, list)?;
+            part.push(sum, list.len())?;
+        }
+        Ok(part)
+    }
 }

@@ -1,48 +1,105 @@
 // The sums of all pixels, on threads.
-ghost use Rattle.std.specs.Prelude.{◌≡◌, ◌+◌, ◌<◌, ◌≤◌, length, map, slice_range, IfOk};
-ghost use Rattle.std.specs.List.{All};
+ghost use Rattle.std.specs.Prelude.{◌≡◌, [], ◌*◌, ◌<◌, ◌≤◌, length, map, slice_index_or, Ok, IfOk};
+ghost use Rattle.std.specs.List.{range_with_len, All};
+ghost use Rattle.abuf_raster.specs.Region.{IsRegion};
 ghost use Rattle.abuf_raster.specs.Samples.{offsets_of};
-ghost use Rattle.abuf_resolve.specs.Runs.{cut};
+ghost use Rattle.abuf_resolve.specs.Parts.{AreParts, HaveAll, IsPart, joined, longest_in, sum_of_place, sums_in};
+ghost use Rattle.abuf_resolve.specs.Shares.{greatest, index_of, worker_of};
 ghost use Rattle.abuf_resolve.specs.Sums.{IsSmall};
-ghost use Rattle.abuf_resolve.specs.Words.{pixel_sum, AreFragmentLists};
+ghost use Rattle.abuf_resolve.specs.Words.{frame_sums, AreFragmentLists};
 
-use crate::runs::{cut, put_together, run_of_sums};
+use crate::planes::Planes;
+use crate::runs::Resolved;
+use crate::scene::Scene;
+use crate::shares::Share;
 use abuf_frame::Closed;
 use abuf_num::{List, NoMemory, Paint, PixelSum};
-use abuf_raster::Pattern;
+use abuf_raster::{Pattern, Region, ScreenTri};
 use std::alloc::Global;
 use std::thread::{Threads, map_indices};
 
-/// The sums of one worker's run.
-fn worker_sums(
-    alloc: Global,
-    closed: &Closed,
-    paints: &[Paint],
-    pattern: Pattern,
-    background: [u16; 3],
-    threads: u32,
-    worker: u32,
-) -> Result<List<PixelSum>, NoMemory>
-    requires threads { (1 ≤ threads) × (threads ≤ 64) }
-    requires worker { worker < threads }
-    requires words { AreFragmentLists (length paints.now) closed.now.lists }
-    ensures value { IfOk result (λ sums. sums ≡ map (pixel_sum background paints.now (length (offsets_of pattern))) (slice_range closed.now.lists (cut (length closed.now.lists) threads worker) (cut (length closed.now.lists) threads (worker + 1)))) }
-    ensures small { IfOk result (λ sums. All (IsSmall (length (offsets_of pattern))) sums) }
+/// All parts, or the first refusal.
+fn all_of(alloc: Global, parts: Vec<Result<Resolved, NoMemory>>) -> Result<Vec<Resolved>, NoMemory>
+    ensures { IfOk result (λ all. parts.items ≡ map Ok all.items) }
 {
-    let pixels = closed.pixels();
-    let from = cut(pixels, threads, worker);
-    let to = cut(pixels, threads, worker + 1);
-    run_of_sums(alloc, closed, from, to, paints, pattern, background)
+    let mut all = Vec::new(alloc);
+    for part in parts {
+        all.push(part?)?;
+    }
+    Ok(all)
 }
 
-/// For each pixel, in order, the sums over the samples of the pattern: per channel the sum of the samples' colours, from the
-/// pixel's list in ascending order. The pixels are cut into one run for each of 1 to 64 workers, and the sums are the same for
-/// every number of them. The frame must not be full, since then its lists lack fragments; each payload is the word of a
-/// fragment whose primitive has a paint. An error means want of memory.
+/// The sums of the pixel at this place, from the part of its worker.
+#[inline(always)]
+fn sum_at(parts: &[Resolved], place: u32) -> PixelSum
+    requires there { index_of (length parts.now) place < length (slice_index_or (map sums_in parts.now) (worker_of (length parts.now) place) []) }
+    requires workers { (1 ≤ length parts.now) × (length parts.now ≤ 64) }
+    ensures { result ≡ sum_of_place (map sums_in parts.now) place }
+{
+    let block = place as usize / 64;
+    let part = &parts[block % parts.len()];
+    part.sums.as_slice()[block / parts.len() * 64 + place as usize % 64]
+}
+
+/// The sums of all pixels, by ascending place.
+fn join_sums(alloc: Global, pixels: u32, parts: &[Resolved]) -> Result<List<PixelSum>, NoMemory>
+    requires workers { (1 ≤ length parts.now) × (length parts.now ≤ 64) }
+    requires pixels { pixels ≤ 4194304 }
+    requires all { HaveAll (map sums_in parts.now) pixels }
+    ensures { IfOk result (λ sums. sums ≡ joined (map sums_in parts.now) pixels) }
+{
+    let mut sums = Vec::with_capacity(alloc, pixels as usize)?;
+    for place in 0..pixels {
+        sums.push(sum_at(parts, place))?;
+    }
+    Ok(List::from_vec(sums))
+}
+
+/// The greatest length of a list.
+fn longest_of(parts: &[Resolved]) -> usize
+    ensures { result ≡ greatest (map longest_in parts.now) }
+{
+    let mut longest = 0;
+    for part in parts {
+        longest = longest.max(part.longest);
+    }
+    longest
+}
+
+impl<'a, 'b> Scene<'a, 'b> {
+    /// The parts of all workers put together, or the first refusal.
+    fn put_together(
+        &self,
+        alloc: Global,
+        closed: &Closed,
+        region: Region,
+        parts: Vec<Result<Resolved, NoMemory>>,
+    ) -> Result<Resolved, NoMemory>
+        requires region { IsRegion region }
+        requires pixels { length closed.now.lists ≡ region.w * region.h }
+        requires workers { (1 ≤ length parts.items) × (length parts.items ≤ 64) }
+        requires parts { AreParts self.now region closed.now.lists parts.items }
+        ensures { IfOk result (λ all. IsPart self.now region closed.now.lists (range_with_len 0 (region.w * region.h)) all) }
+    {
+        let parts = all_of(alloc, parts)?;
+        let sums = join_sums(alloc, closed.pixels(), &parts)?;
+        let longest = longest_of(&parts);
+        Ok(Resolved { sums, longest })
+    }
+}
+
+/// For each pixel of the region, in order, the sums over the samples of the pattern: per channel the sum of the samples'
+/// colours. In each sample the fragments that have it are ordered by their depth keys there; greater keys are nearer, and of
+/// equal keys the lower primitive number lies beneath. The pixels are shared among 1 to 64 workers, and the sums
+/// are the same for every number of them. The frame must not be full, since then its lists lack fragments; each payload
+/// is the word of a fragment of one of these triangles, and its mask has only samples that the triangle covers in that pixel.
+/// An error means want of memory.
 pub fn resolve<R: Threads + Sync>(
     rt: &R,
     alloc: Global,
     closed: &Closed,
+    region: Region,
+    tris: &[ScreenTri],
     paints: &[Paint],
     pattern: Pattern,
     background: [u16; 3],
@@ -50,25 +107,57 @@ pub fn resolve<R: Threads + Sync>(
 ) -> Result<List<PixelSum>, NoMemory>
     requires not_full { closed.now.fragments ≤ closed.now.nodes }
     requires threads { (1 ≤ threads) × (threads ≤ 64) }
-    requires words { AreFragmentLists (length paints.now) closed.now.lists }
-    ensures value { IfOk result (λ sums. sums ≡ map (pixel_sum background paints.now (length (offsets_of pattern))) closed.now.lists) }
+    requires region { IsRegion region }
+    requires pixels { length closed.now.lists ≡ region.w * region.h }
+    requires few { length tris.now ≤ 2097152 }
+    requires paints { length paints.now ≡ length tris.now }
+    requires words { AreFragmentLists (offsets_of pattern) tris.now region closed.now.lists }
+    ensures value { IfOk result (λ sums. sums ≡ frame_sums (offsets_of pattern) background tris.now paints.now region closed.now.lists) }
     ensures small { IfOk result (λ sums. All (IsSmall (length (offsets_of pattern))) sums) }
 {
-    let runs = map_indices(
+    let Resolved { sums, longest: _ } = resolve_counted(
+        rt, alloc, closed, region, tris, paints, pattern, background, threads,
+    )?;
+    Ok(sums)
+}
+
+/// The same, with the length of the longest list of a pixel, which the workers learn on the way.
+pub fn resolve_counted<R: Threads + Sync>(
+    rt: &R,
+    alloc: Global,
+    closed: &Closed,
+    region: Region,
+    tris: &[ScreenTri],
+    paints: &[Paint],
+    pattern: Pattern,
+    background: [u16; 3],
+    threads: u32,
+) -> Result<Resolved, NoMemory>
+    requires not_full { closed.now.fragments ≤ closed.now.nodes }
+    requires threads { (1 ≤ threads) × (threads ≤ 64) }
+    requires region { IsRegion region }
+    requires pixels { length closed.now.lists ≡ region.w * region.h }
+    requires few { length tris.now ≤ 2097152 }
+    requires paints { length paints.now ≡ length tris.now }
+    requires words { AreFragmentLists (offsets_of pattern) tris.now region closed.now.lists }
+    ensures value { IfOk result (λ all. all.sums ≡ frame_sums (offsets_of pattern) background tris.now paints.now region closed.now.lists) }
+    ensures small { IfOk result (λ all. All (IsSmall (length (offsets_of pattern))) all.sums) }
+    ensures longest { IfOk result (λ all. all.longest ≡ greatest (map length closed.now.lists)) }
+{
+    let scene = Scene {
+        planes: Planes::new(alloc, tris)?,
+        paints,
+        pattern,
+        background,
+    };
+    let parts = map_indices(
         rt,
         alloc,
         threads as usize,
         &|worker| {
-            worker_sums(
-                alloc,
-                closed,
-                paints,
-                pattern,
-                background,
-                threads,
-                worker as u32,
-            )
+            let share = Share::new(threads, worker as u32);
+            scene.part(alloc, closed, region, share)
         },
     )?;
-    put_together(alloc, runs)
+    scene.put_together(alloc, closed, region, parts)
 }

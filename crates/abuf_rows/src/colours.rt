@@ -1,6 +1,6 @@
 // Compositing, and the samples of a pixel.
-use crate::command::{Case, all_answer};
-use crate::scenes::{LEFT_HALF, RED};
+use crate::command::{Case, Outside, all_answer, carry_out, is_answer};
+use crate::scenes::{CROSSING, CROSSING_LIBRARY, LEFT_HALF, RED};
 use std::test::Fail;
 
 /// From the nearest fragment to the background, sample by sample.
@@ -54,6 +54,22 @@ fn composited_colours(rt: HostRuntime) -> Result<(), Fail> {
             says: "h",
         },
         Case {
+            shows: "two samples of which one is covered",
+            words: "render --size 1x1 --samples 2",
+            scene: LEFT_HALF,
+            libraries: &[],
+            status: 0,
+            says: "h",
+        },
+        Case {
+            shows: "sixteen samples of which eight are covered",
+            words: "render --size 1x1 --samples 16",
+            scene: LEFT_HALF,
+            libraries: &[],
+            status: 0,
+            says: "h",
+        },
+        Case {
             shows: "eight samples of which four are covered",
             words: "render --size 1x1 --samples 8",
             scene: LEFT_HALF,
@@ -63,4 +79,28 @@ fn composited_colours(rt: HostRuntime) -> Result<(), Fail> {
         },
     ];
     all_answer(&rt, rt.alloc(), &cases)
+}
+
+/// In each sample the face that is nearer there is seen.
+#[test]
+fn faces_that_cross_inside_a_pixel(rt: HostRuntime) -> Result<(), Fail> {
+    let alloc = rt.alloc();
+    let cases = [
+        ("render --size 1x1", "r"),
+        ("render --size 1x1 --samples 2", "y"),
+        ("render --size 1x1 --samples 2 --threads 1", "y"),
+        ("render --size 1x1 --samples 2 --threads 64", "y"),
+    ];
+    for (words, picture) in cases {
+        let outcome = carry_out(
+            &rt,
+            alloc,
+            words,
+            CROSSING,
+            &CROSSING_LIBRARY,
+            Outside::steady(alloc),
+        )?;
+        assert!(rt; is_answer(alloc, &outcome, 0, picture)?, "{}", words);
+    }
+    Ok(())
 }

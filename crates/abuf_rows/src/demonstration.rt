@@ -73,6 +73,20 @@ fn large_summaries(rt: HostRuntime) -> Result<(), Fail> {
     words_write(&rt, rt.alloc(), b"", &cases)
 }
 
+/// The largest scene: nearly four million fragments, in lists of up to fifty thousand.
+#[test]
+fn largest_summary(rt: HostRuntime) -> Result<(), Fail> {
+    let text = "triangles 200000\nfragments 3929398\nlongest 49394\nsum 240668\n";
+    let cases = [
+        ("demo 200000 --size 64x48 --nodes 8388608 --threads 1", text),
+        (
+            "demo 200000 --size 64x48 --nodes 8388608 --threads 64",
+            text,
+        ),
+    ];
+    words_write(&rt, rt.alloc(), b"", &cases)
+}
+
 /// Neither the source nor the shelf is called, so none of their faults is met. A full pool hands back its frame.
 #[test]
 fn nothing_is_read(rt: HostRuntime) -> Result<(), Fail> {

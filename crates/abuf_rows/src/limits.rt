@@ -18,7 +18,7 @@ fn greatest_triangle(rt: HostRuntime) -> Result<(), Fail> {
     let expected = b"P7\nWIDTH 1\nHEIGHT 4096\nDEPTH 3\nMAXVAL 255\nTUPLTYPE RGB\nENDHDR\n";
     assert!(rt; header == expected.as_slice());
     assert!(rt; values.len() == 12288 && values.iter().all(|&value| value == 255));
-    let nearest = "fragments 1\ndepth 16777215 prim 0 mask 1\n";
+    let nearest = "fragments 1\nprim 0 mask 1\nsample 0 prim 0 depth 16777215\n";
     let picks = [
         ("pick 0,0 --size 1x4096 --focal 16 --near 0.0625", nearest),
         (

@@ -1,4 +1,5 @@
 // The scenes of which several tests speak.
+use crate::command::Library;
 
 /// The half of a square of 8 by 8 that is left of and above its diagonal.
 pub(crate) const UPPER: &[u8] = b"v -4 4 0\nv 4 4 0\nv -4 -4 0\nf 1 2 3\n";
@@ -69,3 +70,22 @@ f 4 5 6\n\
 f 7 8 9\n\
 f 1 2 3\n\
 f 4 6 5\n";
+
+/// Two opaque triangles over all of an image of 1 by 1, one red and upright, one green and tilted, which cross inside the pixel.
+pub(crate) const CROSSING: &[u8] = b"mtllib x.mtl\n\
+v -9 9 -0.5\n\
+v 27 9 -0.5\n\
+v -9 -27 -0.5\n\
+v -16 16 -4\n\
+v 12 4 2\n\
+v -16 -48 -4\n\
+usemtl red\n\
+f 1 2 3\n\
+usemtl green\n\
+f 4 5 6\n";
+
+/// Their materials.
+pub(crate) const CROSSING_LIBRARY: [Library; 1] = [(
+    b"x.mtl",
+    b"newmtl red\nKd 1 0 0\nnewmtl green\nKd 0 1 0\n",
+)];

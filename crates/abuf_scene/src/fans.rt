@@ -1,7 +1,7 @@
 // The triangles of one face.
 ghost use Rattle.std.specs.Prelude.{◌≡◌, ◌≤◌, ◌<◌, ◌+◌, ◌-◌, ◌++◌, All, length, OnOk, IfSome};
 ghost use Rattle.abuf_obj.specs.Sound.{IsNear};
-ghost use Rattle.abuf_scene.specs.Triangles.{corner, fan, paint_by, IsNearTriangle};
+ghost use Rattle.abuf_scene.specs.Triangles.{corner, triangle, fan, paint_by, IsNearTriangle};
 ghost use Rattle.abuf_scene.specs.Lookup.{look_up};
 
 use crate::triangles::Triangle;
@@ -18,6 +18,21 @@ fn corner(points: &[[i64; 3]], corners: &[u32], i: usize) -> [i64; 3]
     points[corners[i] as usize]
 }
 
+/// The triangle of a face's corners 0, i and i + 1. It takes the places of the corners among the points.
+pub fn fan_triangle(points: &[[i64; 3]], corners: &[u32], paint: Paint, i: usize) -> Triangle
+    requires place { i + 1 < length corners.now }
+    requires points { All (λ c. c < length points.now) corners.now }
+    ensures value { result ≡ triangle points.now corners.now paint i }
+    ensures near { All IsNear points.now → IsNearTriangle result }
+{
+    Triangle {
+        a: corner(points, corners, 0),
+        b: corner(points, corners, i),
+        c: corner(points, corners, i + 1),
+        paint,
+    }
+}
+
 /// Puts the face's triangles last.
 pub fn push_fan(
     triangles: &mut List<Triangle>,
@@ -32,12 +47,7 @@ pub fn push_fan(
     ensures near { All IsNear points.now → All IsNearTriangle triangles.old → OnOk result (All IsNearTriangle triangles.new) }
 {
     for i in 1..corners.len() - 1 {
-        triangles.push(Triangle {
-            a: corner(points, corners, 0),
-            b: corner(points, corners, i),
-            c: corner(points, corners, i + 1),
-            paint,
-        })?;
+        triangles.push(fan_triangle(points, corners, paint, i))?;
     }
     Ok(())
 }
@@ -48,7 +58,7 @@ const WHITE: Paint = Paint {
     alpha: 65535,
 };
 
-/// The paint by the name in this place, or by none.
+/// The paint of a face by the place of its name among the names, if the name has a material. White and opaque without a name.
 pub fn paint_of(materials: &Materials, names: &[List<u8>], name: Option<u32>) -> Option<Paint>
     requires { IfSome name (λ n. n < length names.now) }
     ensures { result ≡ paint_by (look_up materials.now) names.now name }

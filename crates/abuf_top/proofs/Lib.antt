@@ -1,6 +1,7 @@
 pub mod Asking
 pub mod Frames
 pub mod Sights
-pub mod Longest
+pub mod Behind
 pub mod Telling
 pub mod Answering
+pub mod Lines

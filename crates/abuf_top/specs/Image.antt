@@ -1,5 +1,5 @@
 -- What a job draws, from its primitives alone, sample by sample.
-use Rattle.std.specs.Prelude.{ℕ, List, length, map}
+use Rattle.std.specs.Prelude.{◌+◌, ◌*◌, ℕ, List, length, map}
 use Rattle.abuf_num.specs.declared.plain.Paint.{Paint}
 use Rattle.abuf_raster.specs.declared.region.Region.{Region}
 use Rattle.abuf_raster.specs.Samples.{offsets_of}
@@ -41,3 +41,8 @@ total d = length (fragments d)
 unfoldable pub image : Drawing → List ℕ
 image d = pam.image d.job.camera.width d.job.camera.height d.job.maxval (length (offsets_of d.job.pattern))
     (region_sums (offsets_of d.job.pattern) d.job.background d.triangles d.paints (whole_image d.job))
+
+-- How many bytes an image has: its header, and the values of its pixels.
+abbrev pub size_of : Job → ℕ
+size_of job =
+    length (pam.header job.camera.width job.camera.height job.maxval) + pam.pixel_size job.maxval * (job.camera.width * job.camera.height)

@@ -1,16 +1,13 @@
 -- What `demo` writes: four numbers of a drawing.
-use Rattle.std.specs.Prelude.{◌++◌, ◌*◌, ◌/◌, ◌%◌, ℕ, List, [], ◌∷◌, length, map, max, drop, sum, codes}
+use Rattle.std.specs.Prelude.{◌++◌, ◌*◌, ◌/◌, ◌%◌, ℕ, List, length, map, drop, sum, codes}
 use Rattle.std.specs.Fmt.{decimal}
 use Rattle.std.specs.List.{range_with_len}
 use Rattle.abuf_raster.specs.Samples.{offsets_of}
 use Rattle.abuf_resolve.specs.Pixel.{present}
+use Rattle.abuf_resolve.specs.Shares.{greatest}
+use Rattle.abuf_cli.specs.declared.job.Job.{Job}
 use Rattle.abuf_pam.specs.Image as pam
 use Rattle.abuf_top.specs.Image.{Drawing, total, image}
-
--- The greatest of the numbers; 0, where there is none.
-abbrev pub greatest : List ℕ → ℕ
-greatest [] = 0
-greatest (n ∷ ns) = max n (greatest ns)
 
 -- How many primitives have a fragment in the pixel at this place.
 abbrev pub count_at : Drawing → ℕ → ℕ
@@ -20,9 +17,13 @@ count_at d place = length (present (offsets_of d.job.pattern) d.triangles (place
 unfoldable pub longest : Drawing → ℕ
 longest d = greatest (map (count_at d) (range_with_len 0 (d.job.camera.width * d.job.camera.height)))
 
--- The bytes of the image behind its header.
+-- The bytes of a job's image behind its header.
+abbrev pub values_in : Job → List ℕ → List ℕ
+values_in job bytes = drop (length (pam.header job.camera.width job.camera.height job.maxval)) bytes
+
+-- Those of the image that is drawn.
 unfoldable pub values : Drawing → List ℕ
-values d = drop (length (pam.header d.job.camera.width d.job.camera.height d.job.maxval)) (image d)
+values d = values_in d.job (image d)
 
 -- Four lines, each a name and a number.
 abbrev pub summary_text : ℕ → ℕ → ℕ → ℕ → List ℕ

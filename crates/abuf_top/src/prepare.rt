@@ -1,5 +1,5 @@
 // The work before the drawing: the words, the scene, the libraries, the materials, and the view.
-ghost use Rattle.std.specs.Prelude.{◌≡◌, ◌⊎◌, ◌≤◌, ◌+◌, [], List as Items, ℕ, length, map, true, All, IfOk, IfErr, IsErr, IfSome, None, Some, option_and_then};
+ghost use Rattle.std.specs.Prelude.{◌≡◌, ◌⊎◌, ◌≤◌, ◌+◌, [], List as Items, ℕ, length, map, true, All, IfOk, IfErr, IsErr, OnOk, IfSome, None, Some, option_and_then};
 ghost use Rattle.std.specs.String.{string_bytes};
 ghost use Rattle.abuf_io.specs.Causes.{Rose};
 ghost use Rattle.abuf_obj.specs.Sound.{IsScene};
@@ -8,7 +8,8 @@ ghost use Rattle.abuf_cli.specs.Jobs.{job};
 ghost use Rattle.abuf_cli.specs.Sound.{IsJob};
 ghost use Rattle.abuf_top.specs.Libraries.{asked};
 ghost use Rattle.abuf_top.specs.Stopped.{HasReadCause};
-ghost use Rattle.abuf_obj.specs.Scene.{libraries, obj_fault};
+ghost use Rattle.abuf_obj.specs.Scene.{points, faces, names, libraries, obj_fault};
+ghost use Rattle.abuf_obj.specs.Faults.{TellsFirst};
 ghost use Rattle.abuf_top.specs.Demonstration.{scene_for, shelf_of};
 ghost use Rattle.abuf_top.specs.Fetches.{fault_fetches, scene_fetches, command_fetches, fetches, CallsAtMost, CommandNeedsNoSource, NeedsNoSource};
 ghost use Rattle.abuf_top.specs.Verdict.{material_line, library_line, fault_line, scene_line, scene_of, drawing};
@@ -20,9 +21,10 @@ use crate::stop::{Refusal, Stop};
 use abuf_cli::{Job, What, WordFault, read_words};
 use abuf_io::{ReadEnd, Shelf, Source, read_all};
 use abuf_mtl::Materials;
+use abuf_num::List;
 use abuf_obj::{Obj, ObjFault, read_obj};
-use abuf_scene::{SceneFault, assemble};
-use abuf_view::{Projected, project};
+use abuf_scene::SceneFault;
+use abuf_view::{Projected, project_faces};
 use std::alloc::Global;
 
 impl From<ReadEnd> for Stop {
@@ -79,29 +81,26 @@ impl From<WordFault> for Stop {
     }
 }
 
-// The primitives of a scene whose libraries are read.
-fn show(alloc: Global, job: &Job, obj: &Obj, materials: &Materials) -> Result<Projected, Stop>
-    requires scene { IsScene obj.now }
-    ensures told { (libraries : Items (Items ℕ)) → StandsFor libraries materials.now → Prepares (material_line job.now obj.now libraries) ⊥ job.now result }
+// The primitives of a scene whose libraries are read. What was read of the file is then let go.
+fn show(alloc: Global, job: &Job, obj: Obj, materials: &Materials) -> Result<Projected, Stop>
+    requires scene { IsScene obj }
+    ensures told { (libraries : Items (Items ℕ)) → StandsFor libraries materials.now → Prepares (material_line job.now obj libraries) ⊥ job.now result }
     ensures cause { IfErr result (HasReadCause ⊥) }
     ensures one_length { IfOk result (λ p. length p.tris ≡ length p.paints) }
     ensures few { IfOk result (λ p. length p.tris ≤ 2097152) }
 {
-    let scene = assemble(alloc, obj, materials)?;
-    match project(alloc, &scene, &job.camera) {
-        Ok(shown) => Ok(shown),
-        Err(_) => Err(Stop::Memory),
-    }
+    let shown = project_faces(alloc, &obj, materials, &job.camera)?;
+    Ok(shown)
 }
 
 // The primitives of a scene whose libraries are yet to be read.
-fn furnish<H: Shelf>(alloc: Global, job: &Job, obj: &Obj, shelf: &mut H) -> Result<Projected, Stop>
-    requires scene { IsScene obj.now }
-    ensures told { H.tells shelf.old ≡ true → Prepares (library_line job.now obj.now (H.holds shelf.old)) (Rose (H.faults shelf.old) (H.faults shelf.new)) job.now result }
-    ensures none { obj.now.libraries ≡ [] → Prepares (material_line job.now obj.now []) ⊥ job.now result }
+fn furnish<H: Shelf>(alloc: Global, job: &Job, obj: Obj, shelf: &mut H) -> Result<Projected, Stop>
+    requires scene { IsScene obj }
+    ensures told { H.tells shelf.old ≡ true → Prepares (library_line job.now obj (H.holds shelf.old)) (Rose (H.faults shelf.old) (H.faults shelf.new)) job.now result }
+    ensures none { obj.libraries ≡ [] → Prepares (material_line job.now obj []) ⊥ job.now result }
     ensures cause { IfErr result (HasReadCause (Rose (H.faults shelf.old) (H.faults shelf.new))) }
-    ensures calls { H.tells shelf.old ≡ true → H.calls shelf.new ≤ H.calls shelf.old + asked (H.holds shelf.old) obj.now.libraries }
-    ensures still { obj.now.libraries ≡ [] → (H.calls shelf.new ≡ H.calls shelf.old) × (H.faults shelf.new ≡ H.faults shelf.old) }
+    ensures calls { H.tells shelf.old ≡ true → H.calls shelf.new ≤ H.calls shelf.old + asked (H.holds shelf.old) obj.libraries }
+    ensures still { obj.libraries ≡ [] → (H.calls shelf.new ≡ H.calls shelf.old) × (H.faults shelf.new ≡ H.faults shelf.old) }
     ensures later { H.faults shelf.old ≤ H.faults shelf.new }
     ensures one_length { IfOk result (λ p. length p.tris ≡ length p.paints) }
     ensures few { IfOk result (λ p. length p.tris ≤ 2097152) }
@@ -110,23 +109,37 @@ fn furnish<H: Shelf>(alloc: Global, job: &Job, obj: &Obj, shelf: &mut H) -> Resu
     show(alloc, job, obj, &materials)
 }
 
+// The scene that these bytes define. They are let go once they are read.
+fn read_list(alloc: Global, bytes: List<u8>) -> Result<Obj, ObjFault>
+    requires { length bytes ≤ 67108864 }
+    ensures fault { IfErr result (TellsFirst (obj_fault bytes)) }
+    ensures sound { OnOk result (obj_fault bytes ≡ None) }
+    ensures points { IfOk result (λ obj. obj.points ≡ points bytes) }
+    ensures faces { IfOk result (λ obj. obj.faces ≡ faces bytes) }
+    ensures names { IfOk result (λ obj. obj.names ≡ names bytes) }
+    ensures libraries { IfOk result (λ obj. obj.libraries ≡ libraries bytes) }
+    ensures scene { IfOk result IsScene }
+{
+    read_obj(alloc, bytes.as_slice())
+}
+
 // The primitives of the scene that these bytes define.
 fn read_bytes<H: Shelf>(
     alloc: Global,
     job: &Job,
-    bytes: &[u8],
+    bytes: List<u8>,
     shelf: &mut H,
 ) -> Result<Projected, Stop>
-    requires { length bytes.now ≤ 67108864 }
-    ensures told { IfSome (fault_line job.now (scene_of bytes.now) (told_by (H.tells shelf.old) (H.holds shelf.old)) (obj_fault bytes.now)) (λ line. Prepares line (Rose (H.faults shelf.old) (H.faults shelf.new)) job.now result) }
+    requires { length bytes ≤ 67108864 }
+    ensures told { IfSome (fault_line job.now (scene_of bytes) (told_by (H.tells shelf.old) (H.holds shelf.old)) (obj_fault bytes)) (λ line. Prepares line (Rose (H.faults shelf.old) (H.faults shelf.new)) job.now result) }
     ensures cause { IfErr result (HasReadCause (Rose (H.faults shelf.old) (H.faults shelf.new))) }
-    ensures calls { IfSome (fault_fetches (libraries bytes.now) (told_by (H.tells shelf.old) (H.holds shelf.old)) (obj_fault bytes.now)) (CallsAtMost (H.calls shelf.old) (H.calls shelf.new) (H.faults shelf.old) (H.faults shelf.new)) }
+    ensures calls { IfSome (fault_fetches (libraries bytes) (told_by (H.tells shelf.old) (H.holds shelf.old)) (obj_fault bytes)) (CallsAtMost (H.calls shelf.old) (H.calls shelf.new) (H.faults shelf.old) (H.faults shelf.new)) }
     ensures later { H.faults shelf.old ≤ H.faults shelf.new }
     ensures one_length { IfOk result (λ p. length p.tris ≡ length p.paints) }
     ensures few { IfOk result (λ p. length p.tris ≤ 2097152) }
 {
-    let obj = read_obj(alloc, bytes)?;
-    furnish(alloc, job, &obj, shelf)
+    let obj = read_list(alloc, bytes)?;
+    furnish(alloc, job, obj, shelf)
 }
 
 /// The primitives of the scene that the source has left.
@@ -143,7 +156,7 @@ pub fn read_scene<S: Source, H: Shelf>(
     ensures few { IfOk result (λ p. length p.tris ≤ 2097152) }
 {
     let bytes = read_all(alloc, scene, MOST_BYTES)?;
-    read_bytes(alloc, job, bytes.as_slice(), shelf)
+    read_bytes(alloc, job, bytes, shelf)
 }
 
 // The primitives of the job's scene: `demo` has its own, and calls neither the source nor the shelf.

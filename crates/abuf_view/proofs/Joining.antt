@@ -2,6 +2,7 @@
 use Rattle.std.proofs.Common.{◌≡◌, ◌∙◌, sym, ap, ap₂, refl, ℕ, ◌*◌, ◌≤◌, Bool, true, false, ℤ, List, [], ◌∷◌, ◌++◌, map, flat_map, take, length, arith}
 use Rattle.std.proofs.lemmas.List.{take_all, append_assoc, map-append, length-append, length-map}
 use Rattle.std.proofs.lemmas.Simd.{map-map}
+use Rattle.std.proofs.Math.Seq.{take-length}
 use Rattle.abuf_num.specs.declared.plain.Paint.{Paint}
 use Rattle.abuf_scene.specs.declared.triangles.Triangle.{Triangle}
 use Rattle.abuf_raster.specs.Triangle.{Triangle as OnScreen}
@@ -10,7 +11,7 @@ use Rattle.abuf_view.specs.declared.clipping.Corners.{Corners}
 use Rattle.abuf_view.specs.Camera.{Camera}
 use Rattle.abuf_view.specs.Clip.{clip_by}
 use Rattle.abuf_view.specs.declared.seeing.Eye.{Eye}
-use Rattle.abuf_view.specs.Eye.{eye_of, clipped_by, shown_by}
+use Rattle.abuf_view.specs.Eye.{eye_of, clipped_by, shown_by, tris_by, paints_by}
 use Rattle.abuf_view.specs.Primitives.{Primitive, primitive, prims, prims_of}
 
 -- two pushes in a row
@@ -57,3 +58,22 @@ prims_few k [] = omega arith
 prims_few k (t ∷ ts) =
     let one : length (prims_of k t) ≤ 2 = rw (length-map (clipped_by (eye_of k) t) (primitive k t.paint)) (clip_few _ _ _ _ _ _ _) in
     rw (length-append (prims_of k t) (prims k ts)) (omega (arith, one, prims_few k ts))
+
+-- the parts of triangles, as the eye of the camera sees them, are those of its primitives
+module _ (k : Camera) (e : Eye) (is : e ≡ eye_of k) (ts us : List Triangle) (same : us ≡ ts) where
+  pub joined_tris : (made : List OnScreen) → made ≡ tris_by e us → made ≡ map (λ q. q.triangle) (prims k ts)
+  joined_tris made h = all_tris k e is ts us same (length us) (omega arith) made (h ∙ ap (tris_by e) (sym (take-length us)))
+
+  pub joined_paints : (made : List Paint) → made ≡ paints_by e us → made ≡ map (λ q. q.paint) (prims k ts)
+  joined_paints made h = all_paints k e is ts us same (length us) (omega arith) made (h ∙ ap (paints_by e) (sym (take-length us)))
+
+-- two lists of the same primitives are of one length, and no triangle has more than two
+pub one_length : (k : Camera) (ts : List Triangle) (tris : List OnScreen) (paints : List Paint) → tris ≡ map (λ (q : Primitive). q.triangle) (prims k ts) → paints ≡ map (λ (q : Primitive). q.paint) (prims k ts)
+    → length tris ≡ length paints
+one_length k ts tris paints t p =
+    ap length t ∙ (length-map (prims k ts) (λ (q : Primitive). q.triangle) ∙ sym (length-map (prims k ts) (λ (q : Primitive). q.paint))) ∙ ap length (sym p)
+
+pub tris_few : (k : Camera) (ts : List Triangle) (tris : List OnScreen) → tris ≡ map (λ (q : Primitive). q.triangle) (prims k ts) → length tris ≤ 2 * length ts
+tris_few k ts tris t =
+    let same : length tris ≡ length (prims k ts) = ap length t ∙ length-map (prims k ts) (λ (q : Primitive). q.triangle) in
+    omega (arith, same, prims_few k ts)

@@ -3,3 +3,5 @@ pub mod Turning
 pub mod Joining
 pub mod Cutting
 pub mod Ring
+pub mod Quotients
+pub mod Fans

@@ -1,5 +1,6 @@
 -- What is computed once of a camera.
-use Rattle.std.specs.Prelude.{◌≤◌, ℤ, pos, ◌+ℤ◌, ◌*ℤ◌, neg_ℤ, unsigned_abs, List}
+use Rattle.std.specs.Prelude.{◌≤◌, ℤ, pos, ◌+ℤ◌, ◌*ℤ◌, neg_ℤ, unsigned_abs, List, map, flat_map}
+use Rattle.abuf_num.specs.declared.plain.Paint.{Paint}
 use Rattle.abuf_view.specs.Camera.{Camera, norm, row_x, row_y, row_z, dot, plane, place_of, IsNearby, IsFrom}
 use Rattle.abuf_scene.specs.declared.triangles.Triangle.{Triangle}
 use Rattle.abuf_raster.specs.Triangle.{Triangle as OnScreen}
@@ -50,3 +51,10 @@ pub record IsEye (e : Eye) : Type 0 where
   pub width : e.screen.width ≤ 4096
   pub height : e.screen.height ≤ 4096
   pub focal : IsFrom (pos 0) (pos 1048576) e.screen.focal
+
+-- The parts of triangles on its screen, and the paint of each.
+abbrev pub tris_by : Eye → List Triangle → List OnScreen
+tris_by e = flat_map (λ t. map (shown_by e) (clipped_by e t))
+
+abbrev pub paints_by : Eye → List Triangle → List Paint
+paints_by e = flat_map (λ t. map (λ (c : Corners). t.paint) (clipped_by e t))

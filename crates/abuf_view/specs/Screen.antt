@@ -1,5 +1,5 @@
 -- The place of a point on the screen, in 1/256 pixel.
-use Rattle.std.specs.Prelude.{ℕ, ◌*◌, ℤ, pos, ◌+ℤ◌, ◌-ℤ◌, ◌*ℤ◌, unsigned_abs}
+use Rattle.std.specs.Prelude.{ℕ, ◌*◌, ℤ, pos, negsuc, neg_ℤ, ◌+ℤ◌, ◌-ℤ◌, ◌*ℤ◌, unsigned_abs}
 use Rattle.abuf_raster.specs.declared.point.Point.{Point}
 use Rattle.abuf_raster.specs.Triangle.{Triangle}
 use Rattle.abuf_num.specs.Division.{floor_div, round_div}
@@ -27,3 +27,8 @@ on_screen width height focal m t = record {
   qb = depth_value m t.b;
   qc = depth_value m t.c;
 }
+
+-- A number of this size, negative where the first number is.
+abbrev pub signed_by : ℤ → ℕ → ℤ
+signed_by (pos _) size = pos size
+signed_by (negsuc _) size = neg_ℤ (pos size)

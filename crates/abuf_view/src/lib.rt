@@ -2,9 +2,11 @@
 #![tactic(auto)]
 
 mod clipping;
+mod faces;
 pub mod laws;
 mod numbers;
 mod projection;
+mod quotient;
 mod screen;
 mod seeing;
 #[cfg(test)]
@@ -12,5 +14,6 @@ mod tests;
 mod viewpoint;
 
 pub use clipping::{Corners, Seen};
+pub use faces::project_faces;
 pub use projection::{Projected, project};
 pub use viewpoint::Camera;

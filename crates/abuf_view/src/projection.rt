@@ -55,7 +55,7 @@ impl Projected {
     }
 
     /// Puts the primitives of a triangle last.
-    fn push_triangle(&mut self, eye: &Eye, t: &Triangle) -> Result<(), NoMemory>
+    pub fn push_triangle(&mut self, eye: &Eye, t: &Triangle) -> Result<(), NoMemory>
         requires eye { IsEye eye.now }
         requires near { IsNearTriangle t.now }
         ensures tris { OnOk result (self.new.tris ≡ self.old.tris ++ map (shown_by eye.now) (clipped_by eye.now t.now)) }

@@ -1,17 +1,27 @@
 // The screen.
-ghost use Rattle.std.specs.Prelude.{◌≡◌, ◌*◌, ◌^◌, ◌<◌, ◌≤◌, ℤ, pos, ◌+ℤ◌, ◌-ℤ◌, ◌*ℤ◌, ◌<ℤ◌, ◌≤ℤ◌, unsigned_abs};
-ghost use Rattle.abuf_num.specs.Division.{floor_div, round_div};
+ghost use Rattle.std.specs.Prelude.{◌≡◌, ◌*◌, ◌^◌, ◌<◌, ◌≤◌, ℤ, pos, ◌+ℤ◌, ◌-ℤ◌, ◌*ℤ◌, ◌<ℤ◌, ◌≤ℤ◌, unsigned_abs, IfSome};
+ghost use Rattle.abuf_num.specs.Division.{floor_div, round_div, nearest};
 ghost use Rattle.abuf_raster.specs.Triangle.{IsWithin};
 ghost use Rattle.abuf_view.specs.Clip.{IsView, InView};
-ghost use Rattle.abuf_view.specs.Screen.{shown, depth_value, on_screen};
+ghost use Rattle.abuf_view.specs.Screen.{shown, depth_value, on_screen, signed_by};
 
 use crate::clipping::{Corners, Seen, View};
 use crate::numbers::product;
+use crate::quotient::{quotient, reciprocal};
 use abuf_num::{floor_div, round_div};
 use abuf_raster::{Point, ScreenTri};
 
-/// The shift of a place from the middle of the screen.
-fn screen_part(height: u32, focal: i64, x: i64, w: i64) -> i64
+// The size below which half of the divisor can be added to it.
+const SHORT_SIZE: u64 = 4611686018427387904;
+
+// The w below which half of 512 times it is below the greatest size.
+const SHORT_W: u64 = 18014398509481984;
+
+// The near plane's w below which 63 bits hold 16777215 times it.
+const SHORT_PLANE: u64 = 549755813888;
+
+// The same as `screen_part`, in 128 bits.
+fn wide_part(height: u32, focal: i64, x: i64, w: i64) -> i64
     requires height { height ≤ 4096 }
     requires focal { (pos 0 ≤ℤ focal) × (focal ≤ℤ pos 1048576) }
     requires x { unsigned_abs x < 2 ^ 55 }
@@ -24,6 +34,62 @@ fn screen_part(height: u32, focal: i64, x: i64, w: i64) -> i64
     round_div(product(scale, x), product(65536, w)) as i64
 }
 
+// The height times the focal length and the distance from the middle, where it is short.
+fn size_of(height: u32, focal: i64, x: i64) -> Option<u64>
+    requires height { height ≤ 4096 }
+    requires focal { unsigned_abs focal ≤ 1048576 }
+    requires x { unsigned_abs x < 2 ^ 55 }
+    ensures value { IfSome result (λ size. size ≡ height * unsigned_abs focal * unsigned_abs x) }
+    ensures small { IfSome result (λ size. size < 2 ^ 62) }
+{
+    let scale = height as u64 * focal.unsigned_abs();
+    let size = scale as u128 * x.unsigned_abs() as u128;
+    if size < SHORT_SIZE as u128 {
+        Some(size as u64)
+    } else {
+        None
+    }
+}
+
+// 128 times the size over 65536 times w, to the nearest: with the common factor 128 left out, (size + 256 w) / (512 w).
+fn nearest_part(size: u64, w: u64, reciprocal: u64) -> u64
+    requires size { size < 2 ^ 62 }
+    requires some { 0 < w }
+    requires small { w < 2 ^ 54 }
+    requires reciprocal { reciprocal * w < 2 ^ 64 }
+    ensures value { result ≡ nearest (128 * size) (65536 * w) }
+    ensures bound { result < 2 ^ 62 }
+{
+    quotient((size + 256 * w) / 512, w, reciprocal)
+}
+
+// The size with the sign of x.
+fn with_sign(x: i64, size: u64) -> i64
+    requires { size < 2 ^ 62 }
+    ensures { result ≡ signed_by x size }
+{
+    if x < 0 { -(size as i64) } else { size as i64 }
+}
+
+/// The shift of a place from the middle of the screen. It takes a reciprocal of w.
+fn screen_part(height: u32, focal: i64, x: i64, w: i64, reciprocal: u64) -> i64
+    requires height { height ≤ 4096 }
+    requires focal { (pos 0 ≤ℤ focal) × (focal ≤ℤ pos 1048576) }
+    requires x { unsigned_abs x < 2 ^ 55 }
+    requires w { pos 0 <ℤ w }
+    requires steep { unsigned_abs x * 4096 ≤ unsigned_abs w * 8589934588 }
+    requires reciprocal { reciprocal * unsigned_abs w < 2 ^ 64 }
+    ensures value { result ≡ round_div (pos (128 * height) *ℤ focal *ℤ x) (pos 65536 *ℤ w) }
+    ensures bound { unsigned_abs result ≤ 2 ^ 44 }
+{
+    match size_of(height, focal, x) {
+        Some(size) if w.unsigned_abs() < SHORT_W => {
+            with_sign(x, nearest_part(size, w.unsigned_abs(), reciprocal))
+        }
+        _ => wide_part(height, focal, x, w),
+    }
+}
+
 /// A camera's screen.
 #[derive(Clone, Copy)]
 pub struct Screen {
@@ -33,30 +99,79 @@ pub struct Screen {
 }
 
 /// The place of a point on the screen.
-fn shown(screen: Screen, view: View, s: Seen) -> Point
+fn shown(screen: Screen, view: View, s: Seen, reciprocal: u64) -> Point
     requires view { IsView view.norm view.plane }
     requires width { screen.width ≤ 4096 }
     requires height { screen.height ≤ 4096 }
     requires focal { (pos 0 ≤ℤ screen.focal) × (screen.focal ≤ℤ pos 1048576) }
     requires seen { InView view.norm s }
     requires inside { view.plane ≤ℤ s.w }
+    requires reciprocal { reciprocal * unsigned_abs s.w < 2 ^ 64 }
     ensures value { result ≡ shown screen.width screen.height screen.focal s }
     ensures near { IsWithin (2 ^ 45) result }
 {
     Point {
-        x: (128 * screen.width) as i64 + screen_part(screen.height, screen.focal, s.x, s.w),
-        y: (128 * screen.height) as i64 - screen_part(screen.height, screen.focal, s.y, s.w),
+        x: (128 * screen.width) as i64
+            + screen_part(screen.height, screen.focal, s.x, s.w, reciprocal),
+        y: (128 * screen.height) as i64
+            - screen_part(screen.height, screen.focal, s.y, s.w, reciprocal),
     }
 }
 
-/// The depth value of a point in front of the near plane.
-fn depth_value(view: View, s: Seen) -> u32
+// The same as `depth_value`, in 128 bits.
+fn wide_depth(view: View, s: Seen) -> u32
     requires view { IsView view.norm view.plane }
     requires inside { view.plane ≤ℤ s.w }
     ensures value { result ≡ depth_value view.plane s }
     ensures small { result ≤ 16777215 }
 {
     floor_div(product(16777215, view.plane), s.w as i128) as u32
+}
+
+/// The depth value of a point in front of the near plane. It takes a reciprocal of its w.
+fn depth_value(view: View, s: Seen, reciprocal: u64) -> u32
+    requires view { IsView view.norm view.plane }
+    requires inside { view.plane ≤ℤ s.w }
+    requires reciprocal { reciprocal * unsigned_abs s.w < 2 ^ 64 }
+    ensures value { result ≡ depth_value view.plane s }
+    ensures small { result ≤ 16777215 }
+{
+    if view.plane.unsigned_abs() < SHORT_PLANE {
+        quotient(
+            16777215 * view.plane.unsigned_abs(),
+            s.w.unsigned_abs(),
+            reciprocal,
+        ) as u32
+    } else {
+        wide_depth(view, s)
+    }
+}
+
+// A corner on the screen.
+#[derive(Clone, Copy)]
+struct Vertex {
+    place: Point,
+    depth: u32,
+}
+
+// The corner that the camera sees there. What is divided by its w takes one reciprocal.
+fn corner(screen: Screen, view: View, s: Seen) -> Vertex
+    requires view { IsView view.norm view.plane }
+    requires width { screen.width ≤ 4096 }
+    requires height { screen.height ≤ 4096 }
+    requires focal { (pos 0 ≤ℤ screen.focal) × (screen.focal ≤ℤ pos 1048576) }
+    requires seen { InView view.norm s }
+    requires inside { view.plane ≤ℤ s.w }
+    ensures place { result.place ≡ shown screen.width screen.height screen.focal s }
+    ensures near { IsWithin (2 ^ 45) result.place }
+    ensures depth { result.depth ≡ depth_value view.plane s }
+    ensures small { result.depth ≤ 16777215 }
+{
+    let reciprocal = reciprocal(s.w.unsigned_abs());
+    Vertex {
+        place: shown(screen, view, s, reciprocal),
+        depth: depth_value(view, s, reciprocal),
+    }
 }
 
 /// A triangle on the screen.
@@ -73,15 +188,14 @@ pub fn on_screen(screen: Screen, view: View, t: Corners) -> ScreenTri
     requires c_inside { view.plane ≤ℤ t.c.w }
     ensures { result ≡ on_screen screen.width screen.height screen.focal view.plane t }
 {
-    let a = shown(screen, view, t.a);
-    let b = shown(screen, view, t.b);
-    let c = shown(screen, view, t.c);
-    let depths = [
-        depth_value(view, t.a),
-        depth_value(view, t.b),
-        depth_value(view, t.c),
-    ];
-    match ScreenTri::new([a.x, b.x, c.x], [a.y, b.y, c.y], depths) {
+    let a = corner(screen, view, t.a);
+    let b = corner(screen, view, t.b);
+    let c = corner(screen, view, t.c);
+    match ScreenTri::new(
+        [a.place.x, b.place.x, c.place.x],
+        [a.place.y, b.place.y, c.place.y],
+        [a.depth, b.depth, c.depth],
+    ) {
         Some(triangle) => triangle,
         None => unreachable!(),
     }

@@ -4,10 +4,12 @@ ghost use Rattle.abuf_obj.specs.Sound.{IsNear};
 ghost use Rattle.abuf_scene.specs.Triangles.{IsNearTriangle};
 ghost use Rattle.abuf_raster.specs.Region.{IsRegion};
 
-use crate::{Camera, Projected, project};
+use crate::{Camera, Projected, project, project_faces};
+use abuf_mtl::{Materials, read_mtl};
 use abuf_num::{List, NoMemory, Paint};
-use abuf_raster::{Pattern, Region, TileWalk, mask_at};
-use abuf_scene::{Scene, Triangle};
+use abuf_obj::read_obj;
+use abuf_raster::{Pattern, Region, TileWalk, depth_at, mask_at};
+use abuf_scene::{Scene, SceneFault, Triangle};
 use std::alloc::Global;
 use std::test::Fail;
 
@@ -68,7 +70,8 @@ fn pixels_at(shown: &Projected, region: Region, depth: u32) -> u32
     let mut count: u32 = 0;
     if let Some(triangle) = shown.tris.as_slice().first() {
         for hit in TileWalk::new(triangle, 0, region, Pattern::One) {
-            if hit.fragment.depth == depth {
+            let covered = mask_at(triangle, hit.x, hit.y, Pattern::One) == 1;
+            if covered && depth_at(triangle, hit.x, hit.y, Pattern::One, 0) == depth {
                 count = count.saturating_add(1);
             }
         }
@@ -161,6 +164,58 @@ fn far_corners_on_the_near_plane(rt: HostRuntime) -> Result<(), Fail> {
         h: 4096,
     };
     assert!(rt; pixels_at(&shown, column, 16777215) == 4096);
+    Ok(())
+}
+
+// Two halves of a square, of which the second has a material.
+const SQUARE: &[u8] = b"v -4 4 0\nv 4 4 0\nv 4 -4 0\nv -4 -4 0\nf 1 2 4\nusemtl red\nf 2 3 4";
+
+// What a camera sees of the square, by the materials of this library.
+fn seen_by_faces(
+    alloc: Global,
+    camera: &Camera,
+    library: &[u8],
+) -> Option<Result<Projected, SceneFault>> {
+    let mut materials = Materials::new(alloc);
+    if library.len() > 1000 || read_mtl(alloc, library, &mut materials).is_err() {
+        return None;
+    }
+    match read_obj(alloc, SQUARE) {
+        Ok(obj) => Some(project_faces(alloc, &obj, &materials, camera)),
+        Err(_) => None,
+    }
+}
+
+#[test]
+fn faces_have_the_paint_of_their_material(rt: HostRuntime) -> Result<(), Fail> {
+    let camera = front().ok_or("camera")?;
+    match seen_by_faces(rt.alloc(), &camera, b"newmtl red\nKd 1 0 0\nd 0.5") {
+        Some(Ok(shown)) => {
+            let red = Paint {
+                colour: [65535, 0, 0],
+                alpha: 32768,
+            };
+            assert!(rt; shown.tris.as_slice().len() == 2);
+            assert!(rt; shown.paints.as_slice() == [WHITE, red].as_slice());
+            for x in 0..4 {
+                for y in 0..4 {
+                    assert!(rt; covering(&shown, x, y) == 1);
+                }
+            }
+            assert!(rt; pixels_at(&shown, FOUR_BY_FOUR, 524287) == 6);
+        }
+        _ => assert!(rt; false),
+    }
+    Ok(())
+}
+
+#[test]
+fn face_of_an_unknown_material_is_told(rt: HostRuntime) -> Result<(), Fail> {
+    let camera = front().ok_or("camera")?;
+    match seen_by_faces(rt.alloc(), &camera, b"newmtl blue") {
+        Some(Err(fault)) => assert!(rt; fault == SceneFault::UnknownMaterial { line: 7 }),
+        _ => assert!(rt; false),
+    }
     Ok(())
 }
 

@@ -1,58 +1,68 @@
-use Rattle.std.proofs.Common.{arith, ◌*◌, ◌∙◌, List, [], ◌∷◌, map, refl, sym, subst, All}
-use Rattle.std.proofs.lemmas.List.Elements.{All-tail, All-nil}
+use Rattle.std.proofs.Common.{◌≡◌, ◌≤◌, ◌*◌, ◌++◌, ◌∙◌, ℕ, List, length, take, map, refl, sym, subst, All, arith}
+use Rattle.std.proofs.lemmas.List.{length-map}
 use Rattle.std.proofs.lemmas.List.Sorted.{IsPermutation-map}
 use Rattle.abuf_raster.specs.declared.region.Hit.{Hit}
 use Rattle.abuf_raster.specs.Samples.{offsets_of}
 use Rattle.abuf_raster.specs.Hits.{hits, placed, fragments, IsHitIn}
 use Rattle.abuf_frame.specs.Draws.{Draws}
 use Rattle.abuf_frame.proofs.Draws.{draws_credit, draws_endowment, draws_loose}
-use Rattle.abuf_draw.proofs.Drawing.{Midway, midway_starts, midway_room, midway_more, midway_ends, placed_few}
+use Rattle.abuf_draw.proofs.Drawing.{Midway, midway_starts, midway_room, midway_more, midway_ends, midway_tile, none_left, placed_few, all_first, all_rest}
 use Rattle.abuf_draw.proofs.triangle.draw.Goals as goal
-use Rattle.abuf_draw.proofs.triangle.draw.Goals.{After-flush}
+use Rattle.abuf_draw.proofs.triangle.draw.Goals.{After-batch-1, In_default}
 
-pub loop-hit-init : goal.loop-hit-init
-loop-hit-init c = let r = c.args.region in let e = c.into_iter-hit-iterator.ensures.into_iter_gives in
-    let all : List Hit = hits c.args.t.now c.args.prim (offsets_of c.args.pattern) r in let f = c.new-hit-items.ensures in record {
+pub loop-count-init : goal.loop-count-init
+loop-count-init c =
+    let r = c.args.region in
+    let all : List Hit = hits c.args.t.now c.args.prim (offsets_of c.args.pattern) r in
+    let f = c.new-tiles.ensures in
+    record {
       same = refl;
-      within = subst (All (IsHitIn r)) (sym e) f.within;
-      places = rw c.new-batch.ensures (All-nil _);
-      midway = rw (c.new-batch.ensures, e) (midway_starts (map (placed r) all) (map (placed r) c.new-hit-items.result) c.args.pass.now.view (IsPermutation-map (placed r) c.new-hit-items.result all f.hits));
+      long = refl;
+      within = f.within;
+      midway = midway_starts (map (placed r) all) (map (placed r) c.new-tiles.result) c.args.pass.now.view (IsPermutation-map (placed r) c.new-tiles.result all f.hits);
     }
 
-pub add-requires-clause-frame : goal.add-requires-clause-frame
-add-requires-clause-frame c = c.loop-hit.invariant.same ∙ c.requires.frame
+-- the hits of the next tile, and those after it
+split : (c : After-batch-1) → take c.in-Some.count c.next_tile.new.hits ++ c.next_tile.new.self ≡ c.loop-count.tiles
+split c = c.in-Some.ensures.gives.2
 
-pub add-requires-clause-credit : goal.add-requires-clause-credit
-add-requires-clause-credit c = let i = c.loop-hit.invariant in midway_room _ c.args.pass.now.view c.loop-hit.pass.view c.loop-hit.batch (map (placed c.args.region) c.loop-hit.hit-iterator) i.midway (c.args.region.w * c.args.region.h) (let f = c.new-hit-items.ensures in placed_few c.args.region c.new-hit-items.result (hits c.args.t.now c.args.prim (offsets_of c.args.pattern) c.args.region) f.hits (c.args.region.w * c.args.region.h) f.few) c.requires.credit
+next : (c : After-batch-1) → Midway (fragments c.args.t.now c.args.prim (offsets_of c.args.pattern) c.args.region) (map (placed c.args.region) (take c.in-Some.count c.next_tile.new.hits) ++ map (placed c.args.region) c.next_tile.new.self) c.args.pass.now.view c.loop-count.pass.view
+next c = midway_tile c.args.region _ (take c.in-Some.count c.next_tile.new.hits) c.next_tile.new.self c.loop-count.tiles _ _ (split c) c.loop-count.invariant.midway
 
-pub add-requires-clause-places : goal.add-requires-clause-places
-add-requires-clause-places c = c.loop-hit.invariant.places
+pub draw_hits-requires-clause-frame : goal.draw_hits-requires-clause-frame
+draw_hits-requires-clause-frame c = c.loop-count.invariant.same ∙ c.requires.frame
 
-pub loop-hit-preserved : goal.loop-hit-preserved
-loop-hit-preserved c = let i = c.loop-hit.invariant in let r = c.args.region in let s = c.in-Some.ensures.steps in let d = c.add.ensures.draws in
-    let w : All (IsHitIn r) (c.in-Some.hit ∷ c.next.new.self) = subst (All (IsHitIn r)) s i.within in
-    let m : Midway (fragments c.args.t.now c.args.prim (offsets_of c.args.pattern) r) c.loop-hit.batch (c.item.result ∷ map (placed r) c.next.new.self) c.args.pass.now.view c.loop-hit.pass.view = rw c.item.ensures.item (rw s at i.midway) in record {
-      same = c.add.ensures.frame ∙ i.same;
-      within = All-tail (IsHitIn r) c.in-Some.hit c.next.new.self w;
-      places = c.add.ensures.places;
-      midway = midway_more _ c.args.pass.now.view c.loop-hit.pass.view c.loop-hit.batch (map (placed r) c.next.new.self) c.add.new.batch c.item.result m d.0 c.add.new.pass.view d.1 d.2;
+pub draw_hits-requires-clause-within : goal.draw_hits-requires-clause-within
+draw_hits-requires-clause-within c =
+    let P : Hit → Type 0 = IsHitIn c.args.region in
+    all_first P (take c.in-Some.count c.next_tile.new.hits) c.next_tile.new.self (subst (All P) (sym (split c)) c.loop-count.invariant.within)
+
+few : (c : After-batch-1) → length (fragments c.args.t.now c.args.prim (offsets_of c.args.pattern) c.args.region) ≤ c.args.region.w * c.args.region.h
+few c = let f = c.new-tiles.ensures in placed_few c.args.region c.new-tiles.result (hits c.args.t.now c.args.prim (offsets_of c.args.pattern) c.args.region) f.hits (c.args.region.w * c.args.region.h) f.few
+
+pub draw_hits-requires-clause-credit : goal.draw_hits-requires-clause-credit
+draw_hits-requires-clause-credit c =
+    let xs : List Hit = take c.in-Some.count c.next_tile.new.hits in
+    let r = midway_room _ c.args.pass.now.view c.loop-count.pass.view (map (placed c.args.region) xs) (map (placed c.args.region) c.next_tile.new.self) (next c) (c.args.region.w * c.args.region.h) (few c) c.requires.credit in
+    subst (λ (n : ℕ). n ≤ c.loop-count.pass.view.credit) (length-map xs (placed c.args.region)) r
+
+pub loop-count-preserved : goal.loop-count-preserved
+loop-count-preserved c =
+    let d = (goal.at.loop-count-preserved c).After-batch-1 in
+    let P : Hit → Type 0 = IsHitIn c.args.region in
+    let xs : List Hit = take c.in-Some.count c.next_tile.new.hits in
+    record {
+      same = c.draw_hits.ensures.frame ∙ c.loop-count.invariant.same;
+      long = c.next_tile.ensures.long;
+      within = all_rest P xs c.next_tile.new.self (subst (All P) (sym (split d)) c.loop-count.invariant.within);
+      midway = midway_more _ c.args.pass.now.view c.loop-count.pass.view (map (placed c.args.region) xs) (map (placed c.args.region) c.next_tile.new.self) (next d) c.draw_hits.new.pass.view c.draw_hits.ensures.draws;
     }
 
-pub flush-requires-clause-frame : goal.flush-requires-clause-frame
-flush-requires-clause-frame c = c.loop-hit.invariant.same ∙ c.requires.frame
-
-pub flush-requires-clause-credit : goal.flush-requires-clause-credit
-flush-requires-clause-credit c = let i = c.loop-hit.invariant in midway_room _ c.args.pass.now.view c.loop-hit.pass.view c.loop-hit.batch (map (placed c.args.region) c.loop-hit.hit-iterator) i.midway (c.args.region.w * c.args.region.h) (let f = c.new-hit-items.ensures in placed_few c.args.region c.new-hit-items.result (hits c.args.t.now c.args.prim (offsets_of c.args.pattern) c.args.region) f.hits (c.args.region.w * c.args.region.h) f.few) c.requires.credit
-
-pub flush-requires-clause-places : goal.flush-requires-clause-places
-flush-requires-clause-places c = c.loop-hit.invariant.places
-
-whole : (c : After-flush) → Draws (fragments c.args.t.now c.args.prim (offsets_of c.args.pattern) c.args.region) c.args.pass.now.view c.flush.new.pass.view
-whole c = let i = c.loop-hit.invariant in let m : Midway (fragments c.args.t.now c.args.prim (offsets_of c.args.pattern) c.args.region) c.loop-hit.batch [] c.args.pass.now.view c.loop-hit.pass.view = rw (c.in-None.ensures.steps).0 at i.midway in
-    midway_ends _ c.args.pass.now.view c.loop-hit.pass.view c.loop-hit.batch m c.flush.new.pass.view c.flush.ensures.draws
+whole : (c : In_default) → Draws (fragments c.args.t.now c.args.prim (offsets_of c.args.pattern) c.args.region) c.args.pass.now.view c.loop-count.pass.view
+whole c = midway_ends _ c.args.pass.now.view c.loop-count.pass.view (none_left c.args.region _ c.loop-count.tiles _ _ c.in_default.ensures.gives c.loop-count.invariant.midway)
 
 pub returns-clause-frame : goal.returns-clause-frame
-returns-clause-frame c = c.flush.ensures.frame ∙ c.loop-hit.invariant.same
+returns-clause-frame c = c.loop-count.invariant.same
 
 pub returns-clause-draws : goal.returns-clause-draws
 returns-clause-draws c = whole c
@@ -61,7 +71,11 @@ pub returns-clause-credit : goal.returns-clause-credit
 returns-clause-credit c = draws_credit _ _ _ (whole c)
 
 pub returns-clause-few : goal.returns-clause-few
-returns-clause-few c = let d = draws_credit _ _ _ (whole c) in let f = c.new-hit-items.ensures in let l = placed_few c.args.region c.new-hit-items.result (hits c.args.t.now c.args.prim (offsets_of c.args.pattern) c.args.region) f.hits (c.args.region.w * c.args.region.h) f.few in omega arith
+returns-clause-few c =
+    let d = draws_credit _ _ _ (whole c) in
+    let f = c.new-tiles.ensures in
+    let l = placed_few c.args.region c.new-tiles.result (hits c.args.t.now c.args.prim (offsets_of c.args.pattern) c.args.region) f.hits (c.args.region.w * c.args.region.h) f.few in
+    omega (arith, d, l)
 
 pub returns-clause-endowment : goal.returns-clause-endowment
 returns-clause-endowment c = draws_endowment _ _ _ (whole c)

@@ -1,13 +1,16 @@
-use Rattle.std.proofs.Common.{◌≡◌, ◌<◌, map, All}
+use Rattle.std.proofs.Common.{◌≡◌, length, map, All}
 use Rattle.abuf_raster.specs.Samples.{offsets_of}
 use Rattle.abuf_raster.specs.Hits.{IsHitIn, fragments, placed}
 use Rattle.abuf_draw.proofs.Drawing.{Midway}
 use Rattle.abuf_draw.proofs.triangle.draw.Given as goal
 
-abbrev pub invariant-loop-hit : goal.invariant-loop-hit
-invariant-loop-hit l = record {
+abbrev pub invariant-loop-count : goal.invariant-loop-count
+invariant-loop-count l = record {
   same : l.pass.frame ≡ l.fn.pass.frame;
-  within : All (IsHitIn l.fn.region) l.hit-iterator;
-  places : All (λ x. x.0 < l.fn.frame.pixels) l.batch;
-  midway : Midway (fragments l.fn.t l.fn.prim (offsets_of l.fn.pattern) l.fn.region) l.batch (map (placed l.fn.region) l.hit-iterator) l.fn.pass.view l.pass.view;
+  long : length l.hits ≡ 64;
+  within : All (IsHitIn l.region) l.tiles;
+  midway : Midway (fragments l.t l.prim (offsets_of l.fn.pattern) l.region) (map (placed l.region) l.tiles) l.fn.pass.view l.pass.view;
 }
+
+abbrev pub decreases-loop-count : goal.decreases-loop-count
+decreases-loop-count l = length l.tiles

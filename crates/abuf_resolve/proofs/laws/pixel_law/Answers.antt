@@ -1,10 +1,12 @@
-use Rattle.std.proofs.Common.{arith, subst, ◌≡◌, ◌^◌, ◌<◌, ◌+◌, ◌%◌, ◌/◌, ◌≤◌, ℕ, List, All, length, ltb}
+use Rattle.std.proofs.Common.{arith, ap, map, ◌∙◌, subst, ◌≡◌, ◌^◌, ◌+◌, ◌%◌, ◌/◌, ◌≤◌, ℕ, List, length, ltb}
 use Rattle.abuf_raster.specs.Samples.{offsets_of}
 use Rattle.abuf_raster.proofs.Masks.{offsets_few}
 use Rattle.abuf_resolve.specs.Pixel.{present}
-use Rattle.abuf_resolve.specs.Words.{AreWordsAt}
+use Rattle.abuf_resolve.specs.Words.{AreWordsAt, IsFragmentAt, layer_of}
+use Rattle.abuf_resolve.specs.Colour.{layers}
 use Rattle.abuf_resolve.proofs.Hits.{all_fragments_are, all_hits}
 use Rattle.abuf_resolve.proofs.Fits.{words_fit}
+use Rattle.abuf_resolve.proofs.Lists.{layers_are, layers_below, told_are}
 use Rattle.abuf_resolve.proofs.Totals.{Alike-drawn}
 use Rattle.abuf_resolve.proofs.Present.{pixel_is, count_is, present_few, All-in_order}
 use Rattle.abuf_resolve.proofs.laws.pixel_law.Goals as goal
@@ -21,12 +23,17 @@ returns c =
     let are = subst (λ (es : List (ℕ × ℕ)). AreWordsAt es p words) (all_fragments_are os tris r) c.requires.words in
     let alike = Alike-drawn (all_hits os tris r) are.entries words p are.drawn are.here in
     let count : length words ≡ length (present os tris (r.x0 + p % r.w) (r.y0 + p / r.w)) = count_is os tris r p words few limit c.requires.region c.requires.place alike in
-    let fits = words_fit os tris r p words few limit are in
-    let fit : All (λ word. word < 2 ^ 56) words = λ k d l. (fits k d l).fits in
+    let fit = words_fit tris limit os few r c.requires.region p words are in
+    let x : ℕ = r.x0 + p % r.w in
+    let y : ℕ = r.y0 + p / r.w in
     record {
       fragments = pixel_is os tris r p words few limit c.requires.region c.requires.place are;
       count = count;
       most = omega (arith, count, present_few os tris (r.x0 + p % r.w) (r.y0 + p / r.w));
+      layers = λ k l. layers_are os tris r p k words few l limit c.requires.region c.requires.place alike;
+      told = λ k l.
+          ap (map layer_of) (layers_are os tris r p k words few l limit c.requires.region c.requires.place alike)
+          ∙ told_are tris os few x y k l (layers os tris x y k) (layers_below tris os few x y k l limit);
       fit = fit;
-      ordered_fit = All-in_order (λ word. word < 2 ^ 56) ltb words fit;
+      ordered_fit = All-in_order (IsFragmentAt os tris (r.x0 + p % r.w) (r.y0 + p / r.w)) ltb words fit;
     }

@@ -13,7 +13,7 @@ returns-clause-told g c =
     let tells = g.H.Shelf.tells c.args.shelf.now in
     let held = g.H.Shelf.holds c.args.shelf.now in
     let rose = Rose (g.H.Shelf.faults c.args.shelf.now) (g.H.Shelf.faults c.furnish.new.shelf) in
-    let same : obj ≡ scene_of c.args.bytes.now = λ i. record { points = from.points i; faces = from.faces i; names = from.names i; libraries = from.libraries i } in
+    let same : obj ≡ scene_of c.args.bytes = λ i. record { points = from.points i; faces = from.faces i; names = from.names i; libraries = from.libraries i } in
     let told = furnish_told c.args.job.now obj tells held rose c.furnish.result c.furnish.ensures.told c.furnish.ensures.none in
     rw from.sound (subst (λ (o : Obj). IfSome (option_map (library_line c.args.job.now o) (shelf_for o.libraries (told_by tells held))) (λ line. Prepares line rose c.args.job.now c.furnish.result)) same told)
 

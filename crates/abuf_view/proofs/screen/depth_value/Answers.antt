@@ -1,25 +1,17 @@
-use Rattle.std.proofs.Common.{arith, rules, ◌≡◌, ◌∙◌, ap₂, pos, ◌*ℤ◌, ◌≤ℤ◌, SFits, w64, to_z, of_z}
-use Rattle.std.specs.Int.{w128}
-use Rattle.std.proofs.lemmas.Int.{ints, to_z-of_z}
-use Rattle.abuf_num.specs.Division.{floor_div}
-use Rattle.abuf_view.proofs.Bounds.{depth_bound, fits55}
+use Rattle.std.proofs.Common.{arith, ◌≡◌, ◌∙◌, ap₂, ◌≤◌, ◌*◌, ◌/◌, ℕ, unsigned_abs}
+use Rattle.std.proofs.lemmas.Int.{ints}
+use Rattle.abuf_view.proofs.Quotients.{depth_le}
 use Rattle.abuf_view.proofs.screen.depth_value.Goals as goal
-use Rattle.abuf_view.proofs.screen.depth_value.Goals.{After-floor_div}
+use Rattle.abuf_view.proofs.screen.depth_value.Goals.{After-quotient}
 
-quotient : (c : After-floor_div) → c.floor_div.result ≡ floor_div (pos 16777215 *ℤ c.args.view.plane) c.args.s.w
-quotient c =
-    let f1 : SFits w64 c.args.view.plane = fits55 _ (omega (arith, c.requires.view.plane_high)) in
-    let f3 : SFits w64 c.args.s.w = search rules in
-    let f2 : SFits w128 c.product.result = record { sfits = c.product.type_inv } in
-    let p = simp to_z-of_z at c.product.ensures in
-    let w : to_z w128 (of_z w128 (to_z w64 (of_z w64 c.args.s.w))) ≡ c.args.s.w = omega (arith, ints, f3) in
-    c.floor_div.ensures ∙ ap₂ floor_div (to_z-of_z w128 c.product.result f2 ∙ p) w
-
-bounds : (c : After-floor_div) → (pos 0 ≤ℤ c.floor_div.result) × (c.floor_div.result ≤ℤ pos 16777215)
-bounds c = rw (quotient c) (depth_bound c.args.view.plane c.args.s.w c.requires.view.plane_some c.requires.inside)
+small : (c : After-quotient) → c.quotient.result ≤ 16777215
+small c =
+    let m : c.unsigned_abs-then-unsigned_abs-lt-SHORT_PLANE.result ≡ unsigned_abs c.args.view.plane = omega (arith, ints, c.unsigned_abs-then-unsigned_abs-lt-SHORT_PLANE.ensures.value, c.requires.view.plane_high) in
+    let w : c.unsigned_abs-then-unsigned_abs-lt-SHORT_PLANE-2.result ≡ unsigned_abs c.args.s.w = omega (arith, ints, c.unsigned_abs-then-unsigned_abs-lt-SHORT_PLANE-2.ensures.value) in
+    rw (c.quotient.ensures ∙ ap₂ (λ (m w : ℕ). 16777215 * m / w) m w) (depth_le c.args.view.plane c.args.s.w c.requires.view.plane_some c.requires.inside)
 
 pub overflow_cast-result : goal.overflow_cast-result
-overflow_cast-result c = omega (arith, ints, bounds (goal.at.overflow_cast-result c).After-floor_div)
+overflow_cast-result c = omega (arith, small (goal.at.overflow_cast-result c).After-quotient)
 
-pub returns-clause-small : goal.returns-clause-small
-returns-clause-small c = omega (arith, ints, bounds (goal.at.returns-clause-small c).After-floor_div)
+pub returns-then-unsigned_abs-lt-SHORT_PLANE-clause-small : goal.returns-then-unsigned_abs-lt-SHORT_PLANE-clause-small
+returns-then-unsigned_abs-lt-SHORT_PLANE-clause-small c = small (goal.at.returns-then-unsigned_abs-lt-SHORT_PLANE-clause-small c).After-quotient

@@ -1,29 +1,37 @@
-use Rattle.std.proofs.Common.{arith, ◌≡◌, ◌+◌, ◌-◌, ◌∷◌, length, ap, sym, ◌∙◌}
+use Rattle.std.proofs.Common.{◌≡◌, ◌≤◌, ◌++◌, [], List, take, drop, arith, ap, ap₂, sym, ◌∙◌}
+use Rattle.abuf_raster.specs.declared.region.Hit.{Hit}
 use Rattle.abuf_raster.specs.Samples.{offsets_of}
-use Rattle.abuf_raster.specs.Walk.{hits_from}
-use Rattle.abuf_raster.proofs.Steps.{hits_some, hits_none}
+use Rattle.abuf_raster.specs.TilesLeft.{hits_left}
+use Rattle.abuf_raster.proofs.Pieces.{left_none}
+use Rattle.abuf_raster.proofs.Ends.{none_behind, next_of}
 use Rattle.abuf_raster.proofs.walk.TileWalkIterator.next.Goals as goal
-use Rattle.abuf_raster.proofs.walk.TileWalkIterator.next.Goals.{In-Some}
 
-first : (c : In-Some) → let w = c.loop-self.self-inside in c.args.self.now ≡ c.in-Some.hit ∷ hits_from w.triangle w.prim (offsets_of w.pattern) w.region (w.place + 1) (w.end - (w.place + 1))
-first c =
+pub returns-then-is_done-clause-steps : goal.returns-then-is_done-clause-steps
+returns-then-is_done-clause-steps c =
     let w = c.loop-self.self-inside in
-    sym c.loop-self.invariant.left ∙ hits_some w.triangle w.prim (offsets_of w.pattern) w.region w.place w.end (omega arith) c.in-Some.hit c.hit_at-found.result c.hit_at-found.ensures c.in-Some.is
-
-pub returns-in-Some-clause-steps : goal.returns-in-Some-clause-steps
-returns-in-Some-clause-steps c = first (goal.at.returns-in-Some-clause-steps c).In-Some
-
-pub returns-in-Some-clause-goes : goal.returns-in-Some-clause-goes
-returns-in-Some-clause-goes c =
-    let e = ap length (first (goal.at.returns-in-Some-clause-goes c).In-Some) in
-    record { on = λ f. (tt, tt, omega (arith, e)); keeps = tt; rests = λ f. tt }
+    let t = w.tiles in
+    let done : t.end_y ≤ t.y = c.is_done.ensures.0 c.if-is_done.true in
+    let none : drop w.at (take w.count w.hits) ++ hits_left t ≡ [] =
+    ap₂ (λ (xs ys : List Hit). xs ++ ys) (none_behind w.hits w.at w.count c.loop-self-test.true) (left_none t.triangle t.prim (offsets_of t.pattern) t.first t.x t.end_x t.y t.end_y done) in
+    (sym c.loop-self.invariant.left ∙ none, none)
 
 pub loop-self-preserved : goal.loop-self-preserved
 loop-self-preserved c =
     let w = c.loop-self.self-inside in
+    let n = c.next_block-self-inside in
+    let none : drop w.at (take w.count w.hits) ++ hits_left w.tiles ≡ hits_left w.tiles =
+    ap (λ (xs : List Hit). xs ++ hits_left w.tiles) (none_behind w.hits w.at w.count c.loop-self-test.true) in
     record {
+      tiles = n.ensures.tiles;
       within = omega arith;
-      end = c.loop-self.invariant.end;
-      region = c.loop-self.invariant.region;
-      left = sym (hits_none w.triangle w.prim (offsets_of w.pattern) w.region w.place w.end (omega arith) c.hit_at-found.result c.hit_at-found.ensures c.in_default.is) ∙ c.loop-self.invariant.left;
+      few = n.ensures.room;
+      long = n.ensures.long;
+      left = n.ensures.hits ∙ (sym none ∙ c.loop-self.invariant.left);
     }
+
+pub returns-clause-steps : goal.returns-clause-steps
+returns-clause-steps c =
+    let w = c.loop-self.self-inside in
+    let i = c.loop-self.invariant in
+    let d : Hit = record { x = 0; y = 0; fragment = record { prim = 0; mask = 0 } } in
+    sym i.left ∙ ap (λ (xs : List Hit). xs ++ hits_left w.tiles) (next_of w.hits w.at w.count d c.loop-self-test.false (omega (arith, i.long, i.few)))

@@ -1,0 +1,138 @@
+-- The hits of rows and blocks of pixels, and those of blocks that need no test.
+use Rattle.std.proofs.Common.{◌≡◌, ℕ, zero, suc, ◌+◌, ◌-◌, ◌*◌, ◌^◌, ◌<◌, ◌≤◌, Bool, true, false, if◌then◌else◌, ℤ, pos, ◌+ℤ◌, ◌-ℤ◌, ◌*ℤ◌, ◌<ℤ◌, unsigned_abs, List, [], ◌∷◌, ◌++◌, map, length, slice_index_or, arith, ap, ap₂, refl, sym, ◌∙◌, pow-suc, pow_pos, append-nil, Option, Some, None, ne_eqb}
+use Rattle.std.specs.List.{filter_map, flat_map, range_with_len, cons_option}
+use Rattle.std.proofs.lemmas.Int.{ints}
+use Rattle.std.proofs.lemmas.List.Elements.{filter_map-append}
+use Rattle.std.proofs.lemmas.List.Concat.{flat_map-append}
+use Rattle.std.proofs.lemmas.List.{map-append}
+use Rattle.abuf_raster.specs.declared.point.Point.{Point}
+use Rattle.abuf_raster.specs.declared.pattern.Pattern.{Pattern}
+use Rattle.abuf_raster.specs.declared.region.Hit.{Hit}
+use Rattle.abuf_raster.specs.Edge.{edge_function}
+use Rattle.abuf_raster.specs.Triangle.{Triangle, IsWithin}
+use Rattle.abuf_raster.specs.Samples.{sample_place, offsets_of, reach_of}
+use Rattle.abuf_raster.specs.Coverage.{covers, mask, mask_below}
+use Rattle.abuf_raster.specs.Values.{values_at, changes, spreads, plus_all, minus_all, none_below}
+use Rattle.abuf_raster.specs.Walk.{hit_of, pixel_hit, row_hits, block_hits, full_row, full_hits, found, tile_middle}
+use Rattle.abuf_raster.proofs.Bounds.{abs-add}
+use Rattle.abuf_raster.proofs.Changes.{values_stepped, all_accept_values, covers_positive, offset_near, none_near, all_near_accepted, sixteenth}
+
+-- ---- one more
+
+range_suc : (a n : ℕ) → range_with_len a (suc n) ≡ range_with_len a n ++ (a + n) ∷ []
+range_suc a zero = ap (λ (x : ℕ). x ∷ []) (omega arith)
+range_suc a (suc n) = ap (λ (xs : List ℕ). a ∷ xs) (range_suc (a + 1) n ∙ ap (λ (x : ℕ). range_with_len (a + 1) n ++ x ∷ []) (omega arith))
+
+pub range_more : (a n : ℕ) → range_with_len a (n + 1) ≡ range_with_len a n ++ (a + n) ∷ []
+range_more a n = let e : n + 1 ≡ suc n = omega arith in ap (range_with_len a) e ∙ range_suc a n
+
+one_found : (f : ℕ → Option Hit) (x : ℕ) → filter_map f (x ∷ []) ≡ found (f x)
+one_found f x = elim (f x) as (λ (o : Option Hit). filter_map (λ _. o) (x ∷ []) ≡ found o) [ None ↦ refl | Some h ↦ refl ]
+
+module _ (t : Triangle) (n : ℕ) (os : List (ℤ × ℤ)) where
+  pub row_more : (x c y : ℕ) → row_hits t n os x (c + 1) y ≡ row_hits t n os x c y ++ found (pixel_hit t n os y (x + c))
+  row_more x c y =
+      ap (filter_map (pixel_hit t n os y)) (range_more x c)
+      ∙ (filter_map-append (pixel_hit t n os y) (range_with_len x c) ((x + c) ∷ []) ∙ ap (λ (hs : List Hit). row_hits t n os x c y ++ hs) (one_found (pixel_hit t n os y) (x + c)))
+
+  pub block_more : (x w y c : ℕ) → block_hits t n os x w y (c + 1) ≡ block_hits t n os x w y c ++ row_hits t n os x w (y + c)
+  block_more x w y c =
+      ap (flat_map (row_hits t n os x w)) (range_more y c)
+      ∙ (flat_map-append (row_hits t n os x w) (range_with_len y c) ((y + c) ∷ []) ∙ ap (λ (hs : List Hit). block_hits t n os x w y c ++ hs) (append-nil (row_hits t n os x w (y + c))))
+
+pub full_row_more : (n m x c y : ℕ) → full_row n m x (c + 1) y ≡ full_row n m x c y ++ (record { x = x + c; y = y; fragment = record { prim = n; mask = m } }) ∷ []
+full_row_more n m x c y =
+    let f : ℕ → Hit = λ (i : ℕ). record { x = i; y = y; fragment = record { prim = n; mask = m } } in
+    ap (map f) (range_more x c) ∙ map-append f (range_with_len x c) ((x + c) ∷ [])
+
+pub full_more : (n m x w y c : ℕ) → full_hits n m x w y (c + 1) ≡ full_hits n m x w y c ++ full_row n m x w (y + c)
+full_more n m x w y c =
+    ap (flat_map (full_row n m x w)) (range_more y c)
+    ∙ (flat_map-append (full_row n m x w) (range_with_len y c) ((y + c) ∷ []) ∙ ap (λ (hs : List Hit). full_hits n m x w y c ++ hs) (append-nil (full_row n m x w (y + c))))
+
+pub hit_of_some : (n x y m : ℕ) → 0 < m → hit_of n x y m ≡ Some (record { x = x; y = y; fragment = record { prim = n; mask = m } })
+hit_of_some n x y m h = rw (ne_eqb m 0 (λ e. omega arith)) refl
+
+pub hit_some : (n x y m : ℕ) → 0 < m → found (hit_of n x y m) ≡ (record { x = x; y = y; fragment = record { prim = n; mask = m } }) ∷ []
+hit_some n x y m h = ap found (hit_of_some n x y m h)
+
+-- ---- blocks whose pixels all have one mask
+
+module _ (t : Triangle) (n : ℕ) (os : List (ℤ × ℤ)) (y : ℕ) where
+  pub row_none : (x w : ℕ) → ((i : ℕ) → x ≤ i → i < x + w → mask t os i y ≡ 0) → row_hits t n os x w y ≡ []
+  row_none x zero h = refl
+  row_none x (suc w) h =
+      let z : mask t os x y ≡ 0 = h x (omega arith) (omega arith) in
+      rw z (row_none (x + 1) w (λ i l g. h i (omega arith) (omega arith)))
+
+  pub row_full : (m : ℕ) → 0 < m → (x w : ℕ) → ((i : ℕ) → x ≤ i → i < x + w → mask t os i y ≡ m) → full_row n m x w y ≡ row_hits t n os x w y
+  row_full m some x zero h = refl
+  row_full m some x (suc w) h =
+      let z : mask t os x y ≡ m = h x (omega arith) (omega arith) in
+      let e : pixel_hit t n os y x ≡ Some (record { x = x; y = y; fragment = record { prim = n; mask = m } }) = ap (hit_of n x y) z ∙ hit_of_some n x y m some in
+      ap (λ (hs : List Hit). (record { x = x; y = y; fragment = record { prim = n; mask = m } }) ∷ hs) (row_full m some (x + 1) w (λ i l g. h i (omega arith) (omega arith)))
+      ∙ ap (λ (o : Option Hit). cons_option o (row_hits t n os (x + 1) w y)) (sym e)
+
+module _ (t : Triangle) (n : ℕ) (os : List (ℤ × ℤ)) (x w : ℕ) where
+  pub block_none : (y h : ℕ) → ((i j : ℕ) → x ≤ i → i < x + w → y ≤ j → j < y + h → mask t os i j ≡ 0) → block_hits t n os x w y h ≡ []
+  block_none y zero f = refl
+  block_none y (suc h) f = ap₂ (λ (xs ys : List Hit). xs ++ ys) (row_none t n os y x w (λ i l g. f i y l g (omega arith) (omega arith))) (block_none (y + 1) h (λ i j l g p q. f i j l g (omega arith) (omega arith)))
+
+  pub block_full : (m : ℕ) → 0 < m → (y h : ℕ) → ((i j : ℕ) → x ≤ i → i < x + w → y ≤ j → j < y + h → mask t os i j ≡ m) → full_hits n m x w y h ≡ block_hits t n os x w y h
+  block_full m some y zero f = refl
+  block_full m some y (suc h) f = ap₂ (λ (xs ys : List Hit). xs ++ ys) (row_full t n os y m some x w (λ i l g. f i y l g (omega arith) (omega arith))) (block_full m some (y + 1) h (λ i j l g p q. f i j l g (omega arith) (omega arith)))
+
+-- ---- the masks of pixels whose samples are all alike
+
+pub mask_uncovered : (t : Triangle) (os : List (ℤ × ℤ)) (x y k : ℕ) → ((j : ℕ) → j < k → covers t os x y j ≡ false) → mask_below t os x y k ≡ 0
+mask_uncovered t os x y zero h = refl
+mask_uncovered t os x y (suc k) h = ap₂ (λ (m : ℕ) (b : Bool). m + (if b then 2 ^ k else 0)) (mask_uncovered t os x y k (λ j l. h j (omega arith))) (h k (omega arith))
+
+mask_covered : (t : Triangle) (os : List (ℤ × ℤ)) (x y k : ℕ) → ((j : ℕ) → j < k → covers t os x y j ≡ true) → mask_below t os x y k ≡ 2 ^ k - 1
+mask_covered t os x y zero h = refl
+mask_covered t os x y (suc k) h =
+    ap₂ (λ (m : ℕ) (b : Bool). m + (if b then 2 ^ k else 0)) (mask_covered t os x y k (λ j l. h j (omega arith))) (h k (omega arith))
+    ∙ omega (arith, pow-suc 2 k, pow_pos k)
+
+-- ---- a tile that needs no test
+
+-- how far a sample lies from the middle of its tile, along one direction
+off_middle : (a i m : ℕ) (z : ℤ) → a ≤ i → i < a + 8 → unsigned_abs z ≤ m → unsigned_abs ((pos (256 * i + 128) +ℤ z) -ℤ pos (256 * a + 1024)) ≤ 896 + m
+off_middle a i m z l g h =
+    let d : unsigned_abs (pos (256 * i + 128) -ℤ pos (256 * a + 1024)) ≤ 896 = omega (arith, ints) in
+    let e : (pos (256 * i + 128) +ℤ z) -ℤ pos (256 * a + 1024) ≡ (pos (256 * i + 128) -ℤ pos (256 * a + 1024)) +ℤ z = omega (arith, ints) in
+    rw e (abs-add (pos (256 * i + 128) -ℤ pos (256 * a + 1024)) z 896 m d h)
+
+back_again : (u v : ℤ) → u ≡ v +ℤ (u -ℤ v)
+back_again u v = omega (arith, ints)
+
+module _ (t : Triangle) (p : Pattern) (x y : ℕ) (positive : pos 0 <ℤ edge_function t.a t.b t.c) where
+  -- what a sample of a pixel of the tile accepts, seen from the middle
+  sample_covers : (i j k : ℕ) → (let s : Point = sample_place (slice_index_or (offsets_of p) k (pos 0, pos 0)) i j in let m : Point = tile_middle x y in covers t (offsets_of p) i j k ≡ none_below (plus_all (values_at t m) (changes t (s.x -ℤ m.x) (s.y -ℤ m.y))))
+  sample_covers i j k =
+      let s : Point = sample_place (slice_index_or (offsets_of p) k (pos 0, pos 0)) i j in
+      let m : Point = tile_middle x y in
+      covers_positive t s positive ∙ (all_accept_values t s ∙ sym (ap none_below (values_stepped t m s (s.x -ℤ m.x) (s.y -ℤ m.y) (back_again s.x m.x) (back_again s.y m.y))))
+
+  pub tile_outside : none_below (plus_all (values_at t (tile_middle x y)) (spreads t (896 + 16 * reach_of p))) ≡ false → (i j : ℕ) → x ≤ i → i < x + 8 → y ≤ j → j < y + 8 → mask t (offsets_of p) i j ≡ 0
+  tile_outside e i j xl xg yl yg = mask_uncovered t (offsets_of p) i j (length (offsets_of p)) (λ k l.
+      let near = offset_near p k l in
+      let o : ℤ × ℤ = slice_index_or (offsets_of p) k (pos 0, pos 0) in
+      let s : Point = sample_place o i j in
+      let m : Point = tile_middle x y in
+      sample_covers i j k ∙ none_near t (values_at t m) (896 + 16 * reach_of p) (s.x -ℤ m.x) (s.y -ℤ m.y)
+      (off_middle x i (16 * reach_of p) (pos 16 *ℤ o.0) xl xg (sixteenth o.0 (reach_of p) near.0))
+      (off_middle y j (16 * reach_of p) (pos 16 *ℤ o.1) yl yg (sixteenth o.1 (reach_of p) near.1)) e)
+
+  pub tile_inside : none_below (minus_all (values_at t (tile_middle x y)) (spreads t (896 + 16 * reach_of p))) ≡ true → (i j : ℕ) → x ≤ i → i < x + 8 → y ≤ j → j < y + 8 → mask t (offsets_of p) i j ≡ 2 ^ length (offsets_of p) - 1
+  tile_inside e i j xl xg yl yg = mask_covered t (offsets_of p) i j (length (offsets_of p)) (λ k l.
+      let near = offset_near p k l in
+      let o : ℤ × ℤ = slice_index_or (offsets_of p) k (pos 0, pos 0) in
+      let s : Point = sample_place o i j in
+      let m : Point = tile_middle x y in
+      sample_covers i j k ∙ all_near_accepted t (values_at t m) (896 + 16 * reach_of p) (s.x -ℤ m.x) (s.y -ℤ m.y)
+      (off_middle x i (16 * reach_of p) (pos 16 *ℤ o.0) xl xg (sixteenth o.0 (reach_of p) near.0))
+      (off_middle y j (16 * reach_of p) (pos 16 *ℤ o.1) yl yg (sixteenth o.1 (reach_of p) near.1)) e)
+
+pub middle_near : (r x y : ℕ) → 2 ^ 22 ≤ r → x ≤ 4200 → y ≤ 4200 → IsWithin r (tile_middle x y)
+middle_near r x y wide hx hy = (omega (arith, ints), omega (arith, ints))

@@ -1,0 +1,64 @@
+use Rattle.std.proofs.Common.{◌≡◌, ◌+◌, ◌*◌, ◌++◌, List, ℕ, length, take, arith, ap, ap₂, sym, ◌∙◌, append_assoc, append-nil, subst}
+use Rattle.abuf_raster.specs.declared.region.Hit.{Hit}
+use Rattle.abuf_raster.specs.Samples.{offsets_of, pixel_centre, reach_of}
+use Rattle.abuf_raster.specs.Coverage.{mask}
+use Rattle.abuf_raster.specs.Values.{Numbers, values_at, plus_all, minus_all, spreads, IsRoomFor, FitsSamples, mask_of_values}
+use Rattle.abuf_raster.specs.TrioNumbers.{numbers_of}
+use Rattle.abuf_raster.specs.Walk.{row_hits, hit_of, found}
+use Rattle.abuf_raster.proofs.Rooms.{spread_fits}
+use Rattle.abuf_raster.proofs.Changes.{values_right, mask_values, values_room, centre_near, samples_fit, reach_small}
+use Rattle.abuf_raster.proofs.Blocks.{row_more}
+use Rattle.abuf_raster.proofs.tile.row.Goals as goal
+
+pub loop-column-init : goal.loop-column-init
+loop-column-init g c = record {
+  at = c.requires.start ∙ ap (λ (x : ℕ). values_at c.args.t.now (pixel_centre x c.args.span.y)) (omega arith);
+  room = omega arith;
+  hits = sym (append-nil (take c.args.count c.args.hits.now));
+}
+
+pub pixel_mask-mask-requires-clause-fits : goal.pixel_mask-mask-requires-clause-fits
+pixel_mask-mask-requires-clause-fits g c =
+    subst (FitsSamples g.V.Width.reach c.args.t.now (offsets_of c.args.primitive.pattern)) (sym c.loop-column.invariant.at)
+    (samples_fit g.V.Width.reach c.args.t.now c.args.primitive.pattern (c.args.span.x + c.loop-column.column) c.args.span.y c.requires.wide c.requires.near (omega arith) (omega arith))
+
+pub pixel_mask-mask-requires-clause-more : goal.pixel_mask-mask-requires-clause-more
+pixel_mask-mask-requires-clause-more g c =
+    let e : plus_all (numbers_of g.V.Width.number c.loop-column.at) (numbers_of g.V.Width.number c.spreads-margin.result) ≡ plus_all (values_at c.args.t.now (pixel_centre (c.args.span.x + c.loop-column.column) c.args.span.y)) (spreads c.args.t.now (16 * reach_of c.args.primitive.pattern)) =
+    ap₂ plus_all c.loop-column.invariant.at (c.spreads-margin.ensures ∙ ap (λ (r : ℕ). spreads c.args.t.now (16 * r)) c.reach.ensures) in
+    subst (IsRoomFor g.V.Width.reach) (sym e) (spread_fits g.V.Width.reach c.args.t.now (pixel_centre (c.args.span.x + c.loop-column.column) c.args.span.y) (16 * reach_of c.args.primitive.pattern) c.requires.wide c.requires.near (centre_near g.V.Width.reach (c.args.span.x + c.loop-column.column) c.args.span.y c.requires.wide (omega arith) (omega arith)) (omega (arith, reach_small c.args.primitive.pattern))).0
+
+pub pixel_mask-mask-requires-clause-less : goal.pixel_mask-mask-requires-clause-less
+pixel_mask-mask-requires-clause-less g c =
+    let e : minus_all (numbers_of g.V.Width.number c.loop-column.at) (numbers_of g.V.Width.number c.spreads-margin.result) ≡ minus_all (values_at c.args.t.now (pixel_centre (c.args.span.x + c.loop-column.column) c.args.span.y)) (spreads c.args.t.now (16 * reach_of c.args.primitive.pattern)) =
+    ap₂ minus_all c.loop-column.invariant.at (c.spreads-margin.ensures ∙ ap (λ (r : ℕ). spreads c.args.t.now (16 * r)) c.reach.ensures) in
+    subst (IsRoomFor g.V.Width.reach) (sym e) (spread_fits g.V.Width.reach c.args.t.now (pixel_centre (c.args.span.x + c.loop-column.column) c.args.span.y) (16 * reach_of c.args.primitive.pattern) c.requires.wide c.requires.near (centre_near g.V.Width.reach (c.args.span.x + c.loop-column.column) c.args.span.y c.requires.wide (omega arith) (omega arith)) (omega (arith, reach_small c.args.primitive.pattern))).1
+
+pub plus-at-requires : goal.plus-at-requires
+plus-at-requires g c =
+    let x : ℕ = c.args.span.x + c.loop-column.column in
+    let e : plus_all (numbers_of g.V.Width.number c.loop-column.at) (numbers_of g.V.Width.number c.changes-right.result) ≡ values_at c.args.t.now (pixel_centre (x + 1) c.args.span.y) =
+    ap₂ plus_all c.loop-column.invariant.at c.changes-right.ensures ∙ values_right c.args.t.now x c.args.span.y in
+    subst (IsRoomFor g.V.Width.reach) (sym e) (values_room g.V.Width.reach c.args.t.now (pixel_centre (x + 1) c.args.span.y) c.requires.wide c.requires.near (centre_near g.V.Width.reach (x + 1) c.args.span.y c.requires.wide (omega arith) (omega arith)))
+
+pub loop-column-preserved : goal.loop-column-preserved
+loop-column-preserved g c =
+    let i = c.loop-column.invariant in
+    let k : ℕ = c.loop-column.column in
+    let x : ℕ = c.args.span.x + k in
+    let t = c.args.t.now in
+    let os = offsets_of c.args.primitive.pattern in
+    let e : plus_all (numbers_of g.V.Width.number c.loop-column.at) (numbers_of g.V.Width.number c.changes-right.result) ≡ values_at c.args.t.now (pixel_centre (x + 1) c.args.span.y) =
+    ap₂ plus_all i.at c.changes-right.ensures ∙ values_right c.args.t.now x c.args.span.y in
+    let old = take c.args.count c.args.hits.now in
+    let done = row_hits t c.args.primitive.number os c.args.span.x k c.args.span.y in
+    let m : c.pixel_mask-mask.result ≡ mask t os x c.args.span.y =
+    c.pixel_mask-mask.ensures ∙ (ap (λ (n : Numbers). mask_of_values t os n) i.at ∙ mask_values t os x c.args.span.y c.requires.positive (length os)) in
+    record {
+      at = c.plus-at.ensures ∙ (e ∙ ap (λ (x : ℕ). values_at c.args.t.now (pixel_centre x c.args.span.y)) (omega arith));
+      room = omega arith;
+      hits = c.put-count.ensures.hits
+          ∙ (ap₂ (λ (xs ys : List Hit). xs ++ ys) i.hits (ap (λ (m : ℕ). found (hit_of c.args.primitive.number x c.args.span.y m)) m)
+          ∙ (append_assoc old done _
+          ∙ ap (λ (xs : List Hit). old ++ xs) (sym (row_more t c.args.primitive.number os c.args.span.x k c.args.span.y))));
+    }

@@ -1,0 +1,66 @@
+-- Paints laid over one another in the order of a pixel's words.
+use Rattle.std.proofs.Common.{◌≡◌, ℕ, ◌/◌, ◌^◌, ◌≤◌, Bool, true, false, cond, if◌then◌else◌, ltb, All, List, [], ◌∷◌, map, length, ℤ, refl, ap, ◌∙◌, sym, subst, arith}
+use Rattle.std.specs.List.{filter, fold}
+use Rattle.std.specs.List.Sorted.{IsNonDecreasing}
+use Rattle.std.proofs.lemmas.List.Sorted.{IsNonDecreasingBy-short, IsPermutation-refl}
+use Rattle.std.proofs.lemmas.List.Elements.{All-head, All-tail, All-filter}
+use Rattle.abuf_num.specs.declared.plain.Paint.{Paint}
+use Rattle.abuf_raster.specs.Triangle.{Triangle}
+use Rattle.abuf_raster.specs.Packing.{unpacked}
+use Rattle.abuf_resolve.specs.Colour.{paint_at}
+use Rattle.abuf_resolve.specs.Order.{in_order}
+use Rattle.abuf_resolve.specs.Over.{laid_over}
+use Rattle.abuf_resolve.specs.Words.{has_sample, sample_of, sample_word, sample_words, with_fragment, folded, prim_of, IsFragmentAt}
+use Rattle.abuf_resolve.proofs.Lists.{sorted_is}
+
+-- Samples that each fragment has or hasn't alike have one colour.
+pub shared_fold : (paints : List Paint) (j k : ℕ) (u words : List ℕ) → All (λ word. has_sample j word ≡ has_sample k word) words → fold (with_fragment paints j) u words ≡ fold (with_fragment paints k) u words
+shared_fold paints j k u [] all = refl
+shared_fold paints j k u (w ∷ words) all =
+    let e : has_sample j w ≡ has_sample k w = All-head (λ word. has_sample j word ≡ has_sample k word) w words all in
+    let here : with_fragment paints j u w ≡ with_fragment paints k u w = ap (λ (b : Bool). if b then laid_over u (paint_at paints (unpacked w).prim) else u) e in
+    ap (λ (v : List ℕ). fold (with_fragment paints j) v words) here
+    ∙ shared_fold paints j k (with_fragment paints k u w) words (All-tail (λ word. has_sample j word ≡ has_sample k word) w words all)
+
+-- A list that ascends is the list put in order.
+pub ordered_is : (xs : List ℕ) → IsNonDecreasing xs → in_order ltb xs ≡ xs
+ordered_is xs h = sym (sorted_is xs xs (IsPermutation-refl xs) h)
+
+module _ (os : List (ℤ × ℤ)) (tris : List Triangle) (few : length tris ≤ 2 ^ 24) (x y k : ℕ) (paints : List Paint) where
+  -- What is laid over by a pixel's words is laid over by their words in the sample.
+  laid_is : (u words : List ℕ) → All (IsFragmentAt os tris x y) words → fold (with_fragment paints k) u words ≡ folded u paints (sample_words os tris x y k words)
+  laid_is u [] all = refl
+  laid_is u (w ∷ words) all = go (All-head (IsFragmentAt os tris x y) w words all) (λ v. laid_is v words (All-tail (IsFragmentAt os tris x y) w words all)) (has_sample k w) where
+    go : IsFragmentAt os tris x y w → ((v : List ℕ) → fold (with_fragment paints k) v words ≡ folded v paints (sample_words os tris x y k words))
+        → (b : Bool) → fold (with_fragment paints k) (if b then laid_over u (paint_at paints (unpacked w).prim) else u) words
+        ≡ folded u paints (map (sample_word os tris x y k) (cond b (w ∷ filter (has_sample k) words) (filter (has_sample k) words)))
+    go is rest false = rest u
+    go is rest true =
+        let known = is.known in
+        let e : prim_of (sample_word os tris x y k w) ≡ (unpacked w).prim = omega arith in
+        rest (laid_over u (paint_at paints (unpacked w).prim)) ∙ ap (λ (n : ℕ). folded (laid_over u (paint_at paints n)) paints (sample_words os tris x y k words)) (sym e)
+
+  -- Where the words stand in the order of the sample, that is its colour.
+  pub laid_in_order : (u words : List ℕ) → All (IsFragmentAt os tris x y) words → IsNonDecreasing (sample_words os tris x y k words)
+      → fold (with_fragment paints k) u words ≡ sample_of os u tris paints x y words k
+  laid_in_order u words all ascend = laid_is u words all ∙ sym (ap (folded u paints) (ordered_is (sample_words os tris x y k words) ascend))
+
+  -- The colour of a sample that one word alone has.
+  pub alone : (u list : List ℕ) (w : ℕ) → filter (has_sample k) list ≡ w ∷ [] → IsFragmentAt os tris x y w → laid_over u (paint_at paints (w / 2 ^ 16)) ≡ sample_of os u tris paints x y list k
+  alone u list w e is =
+      let known = is.known in
+      let p : prim_of (sample_word os tris x y k w) ≡ w / 2 ^ 16 = omega arith in
+      rw e (ap (λ (n : ℕ). laid_over u (paint_at paints n)) (sym p))
+
+-- A word that alone has a sample is one of the list.
+pub alone_fits : (P : ℕ → Type 0) (k : ℕ) (list : List ℕ) (w : ℕ) → filter (has_sample k) list ≡ w ∷ [] → All P list → P w
+alone_fits P k list w e all = All-head P w [] (subst (All P) e (All-filter (has_sample k) P list all))
+
+-- At most one word stands in order.
+pub few_ascend : (os : List (ℤ × ℤ)) (tris : List Triangle) (x y k : ℕ) (words : List ℕ) → length words ≤ 1 → IsNonDecreasing (sample_words os tris x y k words)
+few_ascend os tris x y k [] l = IsNonDecreasingBy-short (λ x. x) [] (omega arith)
+few_ascend os tris x y k (w ∷ []) l = go (has_sample k w) where
+  go : (b : Bool) → IsNonDecreasing (map (sample_word os tris x y k) (cond b (w ∷ []) []))
+  go true = IsNonDecreasingBy-short (λ x. x) (sample_word os tris x y k w ∷ []) (omega arith)
+  go false = IsNonDecreasingBy-short (λ x. x) [] (omega arith)
+few_ascend os tris x y k (v ∷ w ∷ words) l = absurd (omega arith)

@@ -1,0 +1,31 @@
+-- What workers have of their pixels.
+use Rattle.std.proofs.Common.{◌≡◌, ℕ, max, List, [], ◌∷◌, ◌++◌, length, slice_index_or, ap, ap₂, ◌∙◌, sym, subst}
+use Rattle.std.specs.List.{All}
+use Rattle.std.proofs.lemmas.List.{map-append}
+use Rattle.std.proofs.lemmas.List.Elements.{All-push}
+use Rattle.abuf_num.specs.declared.plain.PixelSum.{PixelSum}
+use Rattle.abuf_raster.specs.declared.region.Region.{Region}
+use Rattle.abuf_raster.specs.Samples.{offsets_of}
+use Rattle.abuf_resolve.specs.declared.runs.Resolved.{Resolved}
+use Rattle.abuf_resolve.specs.declared.scene.Scene.{Scene}
+use Rattle.abuf_resolve.specs.Parts.{IsPart}
+use Rattle.abuf_resolve.specs.Scene.{sum_in}
+use Rattle.abuf_resolve.specs.Shares.{greatest, lengths_at}
+use Rattle.abuf_resolve.specs.Sums.{IsSmall}
+use Rattle.abuf_resolve.proofs.Greatest.{greatest_more}
+
+-- With one pixel more.
+pub part_more : (scene : Scene) (r : Region) (lists : List (List ℕ)) (places : List ℕ) (p : ℕ) (old new : Resolved) (sum : PixelSum) (n : ℕ)
+    → IsPart scene r lists places old → new.sums ≡ old.sums ++ sum ∷ [] → new.longest ≡ max old.longest n
+    → sum ≡ sum_in scene r lists p → n ≡ length (slice_index_or lists p []) → IsSmall (length (offsets_of scene.pattern)) sum
+    → IsPart scene r lists (places ++ p ∷ []) new
+part_more scene r lists places p old new sum n is pushed most here count small = record {
+  sums = pushed
+      ∙ (ap₂ (λ (xs : List PixelSum) (x : PixelSum). xs ++ x ∷ []) is.sums here
+      ∙ sym (map-append (sum_in scene r lists) places (p ∷ [])));
+  small = subst (All (IsSmall (length (offsets_of scene.pattern)))) (sym pushed) (All-push (IsSmall (length (offsets_of scene.pattern))) old.sums sum is.small small);
+  longest = most
+      ∙ (ap₂ max is.longest count
+      ∙ (sym (greatest_more (lengths_at lists places) (length (slice_index_or lists p [])))
+      ∙ ap greatest (sym (map-append (λ place. length (slice_index_or lists place [])) places (p ∷ [])))));
+}

@@ -1,0 +1,13 @@
+-- Bounds of depth keys.
+use Rattle.std.specs.Prelude.{◌≡◌, ℕ, ◌<◌, ◌≤◌, true, ℤ, List, length}
+use Rattle.abuf_raster.specs.Triangle.{Triangle}
+use Rattle.abuf_raster.specs.Coverage.{covers}
+use Rattle.abuf_raster.specs.Depth.{depth_key}
+
+-- At no sample of pixel (x, y) that the triangle covers is its depth key below this,
+abbrev pub NoKeyBelow : Triangle → List (ℤ × ℤ) → ℕ → ℕ → ℕ → Type 0
+NoKeyBelow t offsets x y low = (k : ℕ) → k < length offsets → covers t offsets x y k ≡ true → low ≤ depth_key t offsets x y k
+
+-- and at none is it above this.
+abbrev pub NoKeyAbove : Triangle → List (ℤ × ℤ) → ℕ → ℕ → ℕ → Type 0
+NoKeyAbove t offsets x y high = (k : ℕ) → k < length offsets → covers t offsets x y k ≡ true → depth_key t offsets x y k ≤ high

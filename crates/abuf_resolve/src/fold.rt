@@ -1,0 +1,97 @@
+// Paints laid over one another.
+ghost use Rattle.std.specs.Prelude.{◌≡◌, ℕ, ◌*◌, ◌<◌, ◌≤◌, true, false, length, slice_index};
+ghost use Rattle.std.specs.List.{All};
+ghost use Rattle.std.specs.List.Sorted.{IsNonDecreasing};
+ghost use Rattle.abuf_num.specs.Division.{nearest};
+ghost use Rattle.abuf_resolve.specs.Over.{over, laid_over};
+ghost use Rattle.abuf_resolve.specs.Words.{folded, paint_of, hides, IsDepthWord};
+
+use abuf_num::Paint;
+
+/// The greatest colour, and the greatest alpha.
+const FULL: u32 = 65535;
+
+/// `n / 65535`, rounded to the nearest whole number.
+fn share(n: u32) -> u32
+    requires { n ≤ 65535 * 65535 }
+    ensures { result ≡ nearest n 65535 }
+{
+    (n + FULL / 2) / FULL
+}
+
+/// One channel of the operator over of Porter and Duff (1984): a colour of this alpha over what lies under it. Each of
+/// the two shares is rounded to the nearest whole number, so alpha 65535 gives the colour, and alpha 0 what lies under.
+pub fn over(under: u16, colour: u16, alpha: u16) -> u16
+    ensures { result ≡ over under colour alpha }
+{
+    let alpha = u32::from(alpha);
+    let above = share(alpha * u32::from(colour));
+    let below = share((FULL - alpha) * u32::from(under));
+    (above + below) as u16
+}
+
+/// A paint over a colour, channel by channel.
+pub fn laid_over(under: [u16; 3], paint: Paint) -> [u16; 3]
+    ensures { result ≡ laid_over under paint }
+{
+    [
+        over(under[0], paint.colour[0], paint.alpha),
+        over(under[1], paint.colour[1], paint.alpha),
+        over(under[2], paint.colour[2], paint.alpha),
+    ]
+}
+
+/// The colour of a sample: from the background on, the paint of every word is laid over, in order. A word is a depth key
+/// times 2^24 plus the number of a primitive that has a paint; the words ascend.
+pub fn sample_colour(sorted: &[u64], paints: &[Paint], background: [u16; 3]) -> [u16; 3]
+    requires words { All (IsDepthWord (length paints.now)) sorted.now }
+    requires ascending { IsNonDecreasing sorted.now }
+    ensures { result ≡ folded background paints.now sorted.now }
+{
+    let first = first_seen(sorted, paints);
+    lay_all(background, &sorted[first..], paints)
+}
+
+/// The paints of all words, laid over the colour in order.
+fn lay_all(under: [u16; 3], words: &[u64], paints: &[Paint]) -> [u16; 3]
+    requires words { All (IsDepthWord (length paints.now)) words.now }
+    ensures { result ≡ folded under paints.now words.now }
+{
+    let mut colour = under;
+    for word in words {
+        let above = laid_over(colour, paint_of(*word, paints));
+        colour = above;
+    }
+    colour
+}
+
+/// The place of the last word whose paint hides what lies under it, or 0: nothing below it is seen.
+fn first_seen(words: &[u64], paints: &[Paint]) -> usize
+    requires words { All (IsDepthWord (length paints.now)) words.now }
+    ensures within { result ≤ length words.now }
+    ensures hidden { 0 < result → (result < length words.now) × (hides paints.now (slice_index words.now result) ≡ true) }
+    ensures last { (k : ℕ) → result < k → k < length words.now → hides paints.now (slice_index words.now k) ≡ false }
+{
+    for i in (0..words.len()).rev() {
+        if hides(words[i], paints) {
+            return i;
+        }
+    }
+    0
+}
+
+/// The paint of the word's primitive.
+fn paint_of(word: u64, paints: &[Paint]) -> Paint
+    requires { IsDepthWord (length paints.now) word }
+    ensures { result ≡ paint_of paints.now word }
+{
+    paints[(word & 0xffffff) as usize]
+}
+
+/// That paint lets nothing through.
+pub(crate) fn hides(word: u64, paints: &[Paint]) -> bool
+    requires { IsDepthWord (length paints.now) word }
+    ensures { result ≡ hides paints.now word }
+{
+    paint_of(word, paints).alpha == 65535
+}

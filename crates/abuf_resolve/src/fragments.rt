@@ -1,0 +1,85 @@
+// From the words of a pixel to its fragments in one sample.
+ghost use Rattle.std.specs.Prelude.{◌≡◌, ◌<◌, ◌≤◌, true, nat_lt, length, IfOk};
+ghost use Rattle.std.specs.List.{All};
+ghost use Rattle.std.specs.List.Sorted.{IsNonDecreasing};
+ghost use Rattle.abuf_raster.specs.Samples.{offsets_of};
+ghost use Rattle.abuf_resolve.specs.Order.{in_order};
+ghost use Rattle.abuf_resolve.specs.Words.{sample_word, sample_words, has_sample, IsDepthWord, IsFragmentAt};
+
+use crate::order::put_in_order;
+use crate::planes::Planes;
+use crate::scene::Pixel;
+use abuf_num::NoMemory;
+use abuf_raster::Pattern;
+
+/// The fragment of this word has sample k, below 16.
+pub(crate) fn has_sample(word: u64, k: u32) -> bool
+    requires { k < 16 }
+    ensures { result ≡ has_sample k word }
+{
+    (word & 0xffff) >> k & 1 == 1
+}
+
+impl<'a> Planes<'a> {
+    /// The fragment of this word in sample k, which it has, as a word: its depth key there times 2^24, plus its primitive number.
+    pub(crate) fn sample_word(&self, word: u64, at: Pixel, pattern: Pattern, k: u32) -> u64
+        requires few { length self.now ≤ 2097152 }
+        requires sample { k < length (offsets_of pattern) }
+        requires word { IsFragmentAt (offsets_of pattern) self.now at.x at.y word }
+        requires has { has_sample k word ≡ true }
+        ensures value { result ≡ sample_word (offsets_of pattern) self.now at.x at.y k word }
+        ensures fits { IsDepthWord (length self.now) result }
+    {
+        let prim = (word >> 16) as u32;
+        let depth = self.key(prim, at, pattern, k);
+        u64::from(depth) * (1 << 24) + u64::from(prim)
+    }
+
+    /// The fragments that have sample k, as words of that sample, in the order of the list.
+    pub(crate) fn gather(
+        &self,
+        keys: &mut Vec<u64>,
+        list: &[u64],
+        at: Pixel,
+        pattern: Pattern,
+        k: u32,
+    ) -> Result<(), NoMemory>
+        requires few { length self.now ≤ 2097152 }
+        requires sample { k < length (offsets_of pattern) }
+        requires words { All (IsFragmentAt (offsets_of pattern) self.now at.x at.y) list.now }
+        ensures value { IfOk result (λ _. keys.new.items ≡ sample_words (offsets_of pattern) self.now at.x at.y k list.now) }
+        ensures fits { IfOk result (λ _. All (IsDepthWord (length self.now)) keys.new.items) }
+    {
+        keys.clear();
+        for word in list {
+            if has_sample(*word, k) {
+                keys.push(self.sample_word(*word, at, pattern, k))?;
+            }
+        }
+        Ok(())
+    }
+
+    /// The fragments of a pixel that have sample k, from the farthest to the nearest. Each is a word: its depth key there times
+    /// 2^24, plus its primitive number; the greater key is nearer, and of equal keys the lower number lies beneath. The list has
+    /// the words of the pixel's fragments in any order, with samples alone that their triangles cover. An error means want of
+    /// memory for the buffer.
+    pub fn sample_words(
+        &self,
+        keys: &mut Vec<u64>,
+        list: &[u64],
+        at: Pixel,
+        pattern: Pattern,
+        k: u32,
+    ) -> Result<(), NoMemory>
+        requires few { length self.now ≤ 2097152 }
+        requires sample { k < length (offsets_of pattern) }
+        requires words { All (IsFragmentAt (offsets_of pattern) self.now at.x at.y) list.now }
+        ensures value { IfOk result (λ _. keys.new.items ≡ in_order nat_lt (sample_words (offsets_of pattern) self.now at.x at.y k list.now)) }
+        ensures fits { IfOk result (λ _. All (IsDepthWord (length self.now)) keys.new.items) }
+        ensures ascending { IfOk result (λ _. IsNonDecreasing keys.new.items) }
+    {
+        self.gather(keys, list, at, pattern, k)?;
+        put_in_order(keys);
+        Ok(())
+    }
+}

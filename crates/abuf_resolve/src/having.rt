@@ -1,0 +1,56 @@
+// What a list of fragments has of one sample.
+ghost use Rattle.std.specs.Prelude.{◌≡◌, ◌<◌};
+ghost use Rattle.std.specs.List.{filter};
+ghost use Rattle.abuf_resolve.specs.Having.{Has, with_one};
+ghost use Rattle.abuf_resolve.specs.Words.{has_sample};
+
+use crate::fragments::has_sample;
+
+/// None of the words has the sample, this one alone, or more than one.
+#[derive(Clone, Copy)]
+pub(crate) enum Having {
+    Nothing,
+    One(u64),
+    More,
+}
+
+impl Having {
+    fn with_one(self, word: u64) -> Having
+        ensures { result ≡ with_one self word }
+    {
+        match self {
+            Having::Nothing => Having::One(word),
+            _ => Having::More,
+        }
+    }
+
+    /// What the words have of sample k.
+    pub(crate) fn of(words: &[u64], k: u32) -> Having
+        requires { k < 16 }
+        ensures { Has result (filter (has_sample k) words.now) }
+    {
+        let mut having = Having::Nothing;
+        for word in words {
+            if has_sample(*word, k) {
+                having = having.with_one(*word);
+                if let Having::More = having {
+                    break;
+                }
+            }
+        }
+        having
+    }
+}
+
+/// No two of the words have a sample in common. It decides which way is taken, and both are right.
+pub(crate) fn are_apart(words: &[u64]) -> bool {
+    let mut seen = 0;
+    for word in words {
+        let mask = *word & 0xffff;
+        if seen & mask != 0 {
+            return false;
+        }
+        seen |= mask;
+    }
+    true
+}

@@ -1,0 +1,42 @@
+// How the pixels are shared among workers: in blocks of 64, block after block in turn, since what is drawn often lies in the
+// middle of the image.
+ghost use Rattle.std.specs.Prelude.{◌≡◌, ◌^◌, ◌<◌, ◌≤◌};
+ghost use Rattle.abuf_resolve.specs.Shares.{count_of, place_at};
+
+/// The pixels of one of 1 to 64 workers.
+#[derive(Clone, Copy)]
+pub(crate) struct Share {
+    pub(crate) threads: u32,
+    pub(crate) worker: u32,
+    pub(crate) ghost some: { worker < threads },
+    pub(crate) ghost few: { threads ≤ 64 },
+}
+
+impl Share {
+    /// Those of this worker, of so many workers.
+    pub(crate) fn new(threads: u32, worker: u32) -> Share
+        requires some { worker < threads }
+        requires few { threads ≤ 64 }
+        ensures { (result.threads ≡ threads) × (result.worker ≡ worker) }
+    {
+        Share { threads, worker }
+    }
+
+    /// How many of so many pixels it has.
+    pub(crate) fn count(self, pixels: u32) -> u32
+        requires { pixels ≤ 4194304 }
+        ensures { result ≡ count_of pixels self.threads self.worker }
+    {
+        let round = 64 * self.threads;
+        let rest = (pixels % round).saturating_sub(64 * self.worker);
+        pixels / round * 64 + rest.min(64)
+    }
+
+    /// The place of its pixel of this number.
+    pub(crate) fn place(self, i: u32) -> u32
+        requires { place_at self.threads self.worker i < 2 ^ 32 }
+        ensures { result ≡ place_at self.threads self.worker i }
+    {
+        (i / 64 * self.threads + self.worker) * 64 + i % 64
+    }
+}

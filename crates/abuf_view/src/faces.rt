@@ -1,0 +1,112 @@
+// The primitives of a file's faces, without a list of their triangles.
+ghost use Rattle.std.specs.Prelude.{◌≡◌, ◌≤◌, ◌<◌, ◌++◌, All, List as Items, ℕ, length, map, None, OnOk, IfOk, IfErr};
+ghost use Rattle.abuf_obj.specs.Sound.{IsFace, IsNear, IsScene};
+ghost use Rattle.abuf_mtl.specs.StandsFor.{StandsFor};
+ghost use Rattle.abuf_scene.specs.Triangles.{fan, paint_by, triangles_of, triangles_by, unknown_by, triangles, unknown, Tells};
+ghost use Rattle.abuf_scene.specs.Lookup.{look_up, line_if_none};
+ghost use Rattle.abuf_view.specs.Eye.{IsEye, tris_by, paints_by};
+ghost use Rattle.abuf_view.specs.Primitives.{prims};
+
+use crate::projection::Projected;
+use crate::seeing::Eye;
+use crate::viewpoint::Camera;
+use abuf_mtl::Materials;
+use abuf_num::{List, NoMemory, Paint};
+use abuf_obj::{Face, Obj};
+use abuf_scene::{SceneFault, fan_triangle, paint_of};
+use std::alloc::Global;
+
+impl Projected {
+    // Puts the primitives of a fan last.
+    fn push_fan(
+        &mut self,
+        eye: &Eye,
+        points: &[[i64; 3]],
+        corners: &[u32],
+        paint: Paint,
+    ) -> Result<(), NoMemory>
+        requires eye { IsEye eye.now }
+        requires three { 3 ≤ length corners.now }
+        requires points { All (λ c. c < length points.now) corners.now }
+        requires near { All IsNear points.now }
+        ensures tris { OnOk result (self.new.tris ≡ self.old.tris ++ tris_by eye.now (fan points.now corners.now paint)) }
+        ensures paints { OnOk result (self.new.paints ≡ self.old.paints ++ paints_by eye.now (fan points.now corners.now paint)) }
+    {
+        for i in 1..corners.len() - 1 {
+            let triangle = fan_triangle(points, corners, paint, i);
+            self.push_triangle(eye, &triangle)?;
+        }
+        Ok(())
+    }
+
+    // Puts the primitives of a face last, or refuses a name without a material.
+    fn push_face(
+        &mut self,
+        eye: &Eye,
+        obj: &Obj,
+        materials: &Materials,
+        face: &Face,
+    ) -> Result<(), SceneFault>
+        requires eye { IsEye eye.now }
+        requires face { IsFace (length obj.now.points) (length obj.now.names) face.now }
+        requires near { All IsNear obj.now.points }
+        ensures fault { IfErr result (Tells (line_if_none face.now.line (paint_by (look_up materials.now) obj.now.names face.now.name))) }
+        ensures known { OnOk result (line_if_none face.now.line (paint_by (look_up materials.now) obj.now.names face.now.name) ≡ None) }
+        ensures tris { OnOk result (self.new.tris ≡ self.old.tris ++ tris_by eye.now (triangles_of (look_up materials.now) obj.now face.now)) }
+        ensures paints { OnOk result (self.new.paints ≡ self.old.paints ++ paints_by eye.now (triangles_of (look_up materials.now) obj.now face.now)) }
+    {
+        match paint_of(materials, obj.names.as_slice(), face.name) {
+            None => Err(SceneFault::UnknownMaterial { line: face.line }),
+            Some(paint) => {
+                self.push_fan(eye, obj.points.as_slice(), face.corners.as_slice(), paint)?;
+                Ok(())
+            }
+        }
+    }
+}
+
+// The primitives of all faces as the eye sees them, by the paints that the materials have.
+fn all_faces(
+    alloc: Global,
+    eye: &Eye,
+    obj: &Obj,
+    materials: &Materials,
+) -> Result<Projected, SceneFault>
+    requires eye { IsEye eye.now }
+    requires faces { All (IsFace (length obj.now.points) (length obj.now.names)) obj.now.faces }
+    requires near { All IsNear obj.now.points }
+    ensures fault { IfErr result (Tells (unknown_by (look_up materials.now) obj.now)) }
+    ensures known { OnOk result (unknown_by (look_up materials.now) obj.now ≡ None) }
+    ensures tris { IfOk result (λ p. p.tris ≡ tris_by eye.now (triangles_by (look_up materials.now) obj.now)) }
+    ensures paints { IfOk result (λ p. p.paints ≡ paints_by eye.now (triangles_by (look_up materials.now) obj.now)) }
+{
+    let mut made = Projected {
+        tris: List::new(alloc),
+        paints: List::new(alloc),
+    };
+    for face in obj.faces.as_slice() {
+        made.push_face(eye, obj, materials, face)?;
+    }
+    Ok(made)
+}
+
+/// What [`assemble`](abuf_scene::assemble) and then [`project`](crate::project) give: the primitives of the faces' triangles, in order,
+/// or the line of the first face whose name has no material. No list of the triangles is made, which would take 80 bytes each.
+pub fn project_faces(
+    alloc: Global,
+    obj: &Obj,
+    materials: &Materials,
+    camera: &Camera,
+) -> Result<Projected, SceneFault>
+    requires { IsScene obj.now }
+    ensures fault { (libraries : Items (Items ℕ)) → StandsFor libraries materials.now → IfErr result (Tells (unknown libraries obj.now)) }
+    ensures known { (libraries : Items (Items ℕ)) → StandsFor libraries materials.now → OnOk result (unknown libraries obj.now ≡ None) }
+    ensures tris { (libraries : Items (Items ℕ)) → StandsFor libraries materials.now → IfOk result (λ p. p.tris ≡ map (λ q. q.triangle) (prims camera.now (triangles libraries obj.now))) }
+    ensures paints { (libraries : Items (Items ℕ)) → StandsFor libraries materials.now → IfOk result (λ p. p.paints ≡ map (λ q. q.paint) (prims camera.now (triangles libraries obj.now))) }
+    ensures one_length { IfOk result (λ p. length p.tris ≡ length p.paints) }
+    ensures few { IfOk result (λ p. length p.tris ≤ 2097152) }
+{
+    let eye = camera.eye();
+    let made = all_faces(alloc, &eye, obj, materials)?;
+    Ok(made)
+}
