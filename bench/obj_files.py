@@ -128,17 +128,22 @@ class Scene:
 KINDS = ("decimals", "exponents", "polygons", "negative", "names", "passed", "mixed", "library")
 
 
+def write(kind, size, out, seed=1):
+    """Writes a file of this kind and of at most so many bytes."""
+    scene = Scene(size, seed, out)
+    if kind == "library":
+        return scene.library()
+    if kind in ("names", "mixed"):
+        scene.put("mtllib scene.mtl\n")
+    step = getattr(scene, kind)
+    while step():
+        pass
+
+
 def main(words):
     if len(words) not in (2, 3) or words[0] not in KINDS:
         sys.exit(__doc__)
-    scene = Scene(int(words[1]), int(words[2]) if len(words) == 3 else 1, sys.stdout.buffer)
-    if words[0] == "library":
-        return scene.library()
-    if words[0] in ("names", "mixed"):
-        scene.put("mtllib scene.mtl\n")
-    step = getattr(scene, words[0])
-    while step():
-        pass
+    write(words[0], int(words[1]), sys.stdout.buffer, int(words[2]) if len(words) == 3 else 1)
 
 
 if __name__ == "__main__":

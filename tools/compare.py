@@ -162,11 +162,11 @@ class Maker:
 
     def case(self, number):
         rng = self.rng
-        self.height = rng.choice([1, 2, 4, 4, 4, 8, 8, 3, 5, 7])
-        self.width = rng.randint(1, 9)
-        self.samples = rng.choice(["1", "4", "8"]) if "samples" in self.words else "1"
+        self.resize(rng.randint(1, 9), rng.choice([1, 2, 4, 4, 4, 8, 8, 3, 5, 7]))
+        self.samples = "1"
+        if "samples" in self.words:
+            self.samples = str(rng.choice(sorted(reference.OFFSETS)))
         self.forced = {}
-        self.place = rng.randrange(self.width), rng.randrange(self.height)
         libraries = {}
         lines = self.plain_scene() if not self.has["grammar"] else self.scene(libraries)
         scene = b"\n".join(lines) + (b"" if self.chance(5) else b"\n")
@@ -178,6 +178,10 @@ class Maker:
         if libraries and self.chance(2):
             del libraries[rng.choice(sorted(libraries))]
         return worked.Row(f"random scene {number}", self.command(), scene, libraries=libraries)
+
+    def resize(self, width, height):
+        self.width, self.height = width, height
+        self.place = self.rng.randrange(width), self.rng.randrange(height)
 
     # words
 
@@ -201,7 +205,7 @@ class Maker:
             joined = value.startswith("-") or "order" in self.words and self.chance(40)
             groups.append([f"--{name}={value}"] if joined else [f"--{name}", value])
         command = "render"
-        if "pick" in self.words and self.chance(20):
+        if "pick" in self.words and self.chance(35):
             command = "pick"
             groups.insert(0, self.positional("{},{}".format(*self.place)))
         elif "demo" in self.words and self.chance(3):
@@ -267,17 +271,23 @@ class Maker:
         return x, y
 
     def point(self, plane=None, grid=None):
-        """A point that the default camera shows at such a place, as three numbers. On a grid the
-        rows and columns are few, so that many edges are level, upright or shared."""
+        """The line of a point that the default camera shows at such a place. On a grid the rows and
+        columns are few, so that many edges are level, upright or shared."""
         rng = self.rng
         x, y = (rng.choice(grid)[0], rng.choice(grid)[1]) if grid else self.places()
         away = plane if plane is not None else rng.choice([4, 4, 4, 2, 1, 6, 5.5])
         if self.has["clip"] and plane is None and self.chance(12):
-            return [self.number(rng.randint(-400000, 400000)) for _ in range(2)] + [
-                self.number(int(65536 * rng.choice([3.875, 3.9, 4, 4.1, 5, 9])))]
-        scale = away * 65536 / (128 * self.height)
-        return [self.number(round(x * scale)), self.number(round(-y * scale)),
-                self.number(round(65536 * (4 - away)))]
+            return self.vertex(rng.randint(-400000, 400000), rng.randint(-400000, 400000),
+                               int(65536 * rng.choice([3.875, 3.9, 4, 4.1, 5, 9])))
+        return self.shown(x, y, away)
+
+    def shown(self, x, y, away, focal=1):
+        """The line of a point at a distance that the default camera shows at this place."""
+        scale = away * 65536 / (128 * self.height * focal)
+        return self.vertex(round(x * scale), round(-y * scale), round(65536 * (4 - away)))
+
+    def vertex(self, *units):
+        return ("v " + " ".join(self.number(value) for value in units)).encode()
 
     def number(self, units):
         """A text for a number of 1/65536."""
@@ -310,10 +320,20 @@ class Maker:
     def scene(self, libraries):
         rng = self.rng
         lines, materials = [], []
-        if self.chance(10):
+        if self.chance(8):
             return self.steep_scene()
-        if self.chance(15) and self.has["clip"] and {"focal", "near"} <= self.words:
+        if self.chance(10) and self.has["clip"] and {"focal", "near"} <= self.words:
             return self.near_scene()
+        if self.has["libraries"] and self.chance(80):
+            materials = self.make_paints(lines, libraries)
+        if self.chance(20) and {"focal", "near"} <= self.words:
+            return lines + self.huge_scene(materials)
+        if self.chance(30):
+            return lines + rng.choice([self.crossing_scene, self.long_scene])(materials)
+        if self.chance(10):
+            return lines + self.thin_scene(materials)
+        lines, materials = [], []
+        libraries.clear()
         if self.has["libraries"] and self.chance(60):
             materials = self.make_libraries(lines, libraries)
         count = 0
@@ -321,7 +341,7 @@ class Maker:
             plane = rng.choice([None, 4, 4, 2])
             grid = [self.places() for _ in range(3)] if self.chance(50) else None
             points = [self.point(plane, grid) for _ in range(rng.randint(3, 7))]
-            lines += [("v " + " ".join(point)).encode() for point in points]
+            lines += points
             count += len(points)
             for _ in range(rng.randint(1, 3)):
                 if materials and self.chance(80):
@@ -340,12 +360,104 @@ class Maker:
             column, row = self.place
             for _ in range(3):
                 x = 256 * column + rng.randint(-40, 296) - 128 * self.width
-                y = 128 * self.height - 256 * row - rng.randint(-40, 296)
+                y = 256 * row + rng.randint(-40, 296) - 128 * self.height
                 away = rng.choice([0.125, 0.125, 0.25, 500 * self.height])
-                scale = away * 65536 / (128 * self.height)
-                point = [round(x * scale), round(y * scale), round(65536 * (4 - away))]
-                lines.append(("v " + " ".join(self.number(units) for units in point)).encode())
+                lines.append(self.shown(x, y, away))
             lines.append(b"f -1 -2 -3")
+        return lines
+
+    def crossing_scene(self, materials):
+        """Triangles that cross within pixels, many of them where samples are: they have the same
+        corners on the image, whose distances are exchanged."""
+        rng = self.rng
+        lines = []
+        for _ in range(rng.randint(1, 3)):
+            corners = [self.places() for _ in range(3)]
+            if self.chance(70):
+                corners = [(x * rng.randint(2, 5), y * rng.randint(2, 5)) for x, y in corners]
+            distances = rng.choice([[2, 4, 8], [1, 2, 2], [4, 4.5, 5], [0.5, 1, 8], [3.9, 4, 4.1]])
+            for _ in range(rng.randint(2, 8)):
+                lines += [self.shown(x, y, rng.choice(distances)) for x, y in corners]
+                lines += self.painted(rng.sample([-1, -2, -3], 3), materials)
+        return lines
+
+    def long_scene(self, materials):
+        """Many triangles over a few pixels, of a small image or around the picked one."""
+        rng = self.rng
+        is_small = self.chance(50)
+        if is_small:
+            self.resize(rng.choice([1, 1, 2]), rng.choice([1, 1, 2]))
+        points = []
+        for _ in range(rng.randint(3, 12)):
+            if is_small:
+                x, y = (rng.randint(1, 4) * part for part in self.places())
+            else:
+                x, y = (256 * place + 16 * rng.randint(-8, 24) - 128 * side for place, side
+                        in zip(self.place, (self.width, self.height)))
+            points.append(self.shown(x, y, rng.choice([0.5, 1, 2, 4, 8, 4 + rng.random()])))
+        lines = []
+        for _ in range(rng.choice([30, 60, 100, 300])):
+            lines += self.painted(rng.sample(range(1, len(points) + 1), 3), materials)
+        return points + lines
+
+    def painted(self, corners, materials):
+        """The lines of a face, often with a material."""
+        paint = []
+        if materials and self.chance(90):
+            paint = [b"usemtl " + self.rng.choice(materials)]
+        return paint + ["f {} {} {}".format(*corners).encode()]
+
+    def make_paints(self, lines, libraries):
+        """Opaque, transparent and invisible materials, or thin films of which many show."""
+        rng = self.rng
+        alphas = rng.choice([["1", "1", "0.5", "0.25", f"{rng.random():.4f}", "0"],
+                             ["0.1", "0.05", "0.02", f"{rng.random():.4f}"]])
+        lines.append(b"mtllib a.mtl")
+        text = []
+        for i in range(6):
+            colour = " ".join(rng.choice(["0", "1", f"{rng.random():.4f}"]) for _ in range(3))
+            text += [f"newmtl m{i}", f"Kd {colour}"]
+            text.append("d " + rng.choice(alphas))
+        libraries["a.mtl"] = b"".join(line.encode() + b"\n" for line in text)
+        return [f"m{i}".encode() for i in range(6)]
+
+    def huge_scene(self, materials):
+        """Triangles with corners as far out as can be, and edges that run through samples."""
+        rng = self.rng
+        self.forced = {"focal": "16", "near": "0.0625"}
+        if self.chance(5):
+            self.resize(1, 4096)
+        else:
+            self.resize(self.width, rng.choice([1, 2, 4, 8, 16, 32]))
+        lines = []
+        for _ in range(rng.randint(1, 4)):
+            through = self.places()
+            right, down = rng.randint(-3, 3), rng.randint(-3, 3)
+            for side in (1, -1, 0):
+                away = rng.choice([0.0625, 0.0625, 0.125, 1])
+                farthest = round(2 ** 30 * self.height * 0.0625 / away)
+                steps = farthest // 2 ** rng.randint(10, rng.choice([12, 30])) * side
+                x, y = through[0] + 256 * steps * right, through[1] + 256 * steps * down
+                if side == 0:
+                    x, y = (rng.randint(-farthest, farthest) for _ in range(2))
+                    x, y = (16 * (value // 2 ** rng.choice([4, 8, 30])) for value in (x, y))
+                lines.append(self.shown(x, y, away, 16))
+            lines += self.painted(rng.sample([-1, -2, -3], 3), materials)
+        return lines
+
+    def thin_scene(self, materials):
+        """Tiny triangles and slivers near samples."""
+        rng = self.rng
+        lines = []
+        for _ in range(rng.randint(3, 12)):
+            x, y = self.places()
+            far = self.places() if self.chance(60) else None
+            near = [(x + rng.randint(-3, 3), y + rng.randint(-3, 3)) for _ in range(3)]
+            corners = near[:2] + [far or near[2]]
+            if self.chance(40):
+                corners[0] = x, y
+            lines += [self.shown(*corner, rng.choice([4, 4, 1])) for corner in corners]
+            lines += self.painted([-1, -2, -3], materials)
         return lines
 
     def near_scene(self):
@@ -353,12 +465,11 @@ class Maker:
         rng = self.rng
         self.forced = {"focal": "16", "near": "0.0625"}
         if "samples" in self.words:
-            self.samples = self.forced["samples"] = "8"
+            self.samples = self.forced["samples"] = rng.choice(["8", "16"])
         points = []
         for _ in range(rng.randint(3, 9)):
-            units = [rng.randint(-400, 400), rng.randint(-400, 400),
-                     262144 - rng.randint(-20000, 20000)]
-            points.append(("v " + " ".join(self.number(value) for value in units)).encode())
+            points.append(self.vertex(rng.randint(-400, 400), rng.randint(-400, 400),
+                                      262144 - rng.randint(-20000, 20000)))
         faces = []
         for _ in range(rng.randint(2, 6)):
             corners = [rng.randint(1, len(points)) for _ in range(3)]

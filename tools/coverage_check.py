@@ -2,165 +2,386 @@
 """Checks the coverage of an abuf program on random triangles, many of whose edges run exactly
 through samples.
 
-    coverage_check.py PATH/TO/abuf [--edges 100000] [--samples 1,4,8] [--plain] [--seed 1]
+    coverage_check.py PATH/TO/abuf [--edges 1000000] [--samples 1,2,4,8,16] [--seed 1] [--jobs 4]
 
-Each triangle is drawn alone, opaque and white over black, so the value of a pixel tells how many
-of its samples are covered. The same number is computed here from the rule in its other form: of a
-triangle in positive order, an edge from a to b accepts a sample where (E, ay - by, bx - ax) is
+What the program covers is compared with the rule in its other form, reckoned here: of a triangle in
+positive order, an edge from a to b accepts a sample where (E, ay - by, bx - ax) is
 lexicographically greater than (0, 0, 0). That is the top-left rule as it follows from moving the
 sample by an infinitely small amount to the right and a still smaller one downwards.
 
-The check goes on until the images hold the wanted number of samples that lie exactly on an edge,
-and says how many they were. With --plain the scenes have whole numbers alone and the command is
-'render --size WxH' with one sample, for a program that reads nothing else.
+Each scene has hundreds of triangles, from those within a pixel to those whose corners lie 2^30 and
+more from the image in 1/256 pixel, and it is looked at in one of two ways.
+
+- An image: each triangle is a film that adds 16 to the value of a sample that it covers, in one of
+  the three channels. So the values of a pixel tell how many samples all triangles cover in it.
+- The report of one pixel, which tells the mask of each triangle there.
+
+The check goes on until the wanted number of samples, an equal share of each pattern, lay exactly on
+an outline, and says how many they were.
 """
 
 import argparse
+import multiprocessing
 import os
 import random
 import subprocess
 import sys
+import tempfile
+from dataclasses import dataclass
 
-# Offsets of the samples in 1/256 pixel from the pixel's centre, x to the right and y downwards.
+# Offsets of the samples in 1/16 pixel from the pixel's centre, x to the right and y downwards.
 SAMPLES = {
     1: [(0, 0)],
-    4: [(-32, -96), (96, -32), (-96, 32), (32, 96)],
-    8: [(16, -48), (-16, 48), (80, 16), (-48, -80), (-80, 80), (-112, -16), (48, 112), (112, -112)],
+    2: [(4, 4), (-4, -4)],
+    4: [(-2, -6), (6, -2), (-6, 2), (2, 6)],
+    8: [(1, -3), (-1, 3), (5, 1), (-3, -5), (-5, 5), (-7, -1), (3, 7), (7, -7)],
+    16: [(1, 1), (-1, -3), (-3, 2), (4, -1), (-5, -2), (2, 5), (5, 3), (3, -5),
+         (-2, 6), (0, -7), (-4, -6), (-6, 4), (-8, 0), (7, -4), (6, 7), (-7, -8)],
 }
 
+# The films of a channel add up without rounding as long as their sum is below 2048.
+FILM = 16
+MOST_FILMS = 128
+LIBRARY = "".join(
+    f"newmtl {name}\nKd {colour}\nd 0.00024414\n"
+    for name, colour in (("m0", "1 0 0"), ("m1", "0 1 0"), ("m2", "0 0 1"))
+)
 
-def decimal(numerator, halvings):
-    """numerator / 2^halvings as an exact decimal text."""
-    return f"{numerator * 5 ** halvings}e-{halvings}"
+
+# ---- scenes
 
 
-def scene_of(corners, width, height, is_plain):
-    """A scene whose triangle has these corners, in 1/256 pixel from the image's top left.
+def halvings_of(height):
+    """How often the height can be halved."""
+    return (height & -height).bit_length() - 1
 
-    The default camera stands at distance 4 and shows an image of height 8 there: a pixel is 8 /
-    height wide, so 1/256 pixel is 1 / (32 height). The height is a power of two.
+
+def scene_of(triangles, height):
+    """A scene whose triangles have these corners, in 1/256 pixel from the middle of the image.
+
+    Seen by `words_of`, 1/256 pixel is 2 / 2^k units of 1/65536, with k the halvings of the height.
     """
-    halvings = 4 + height.bit_length()
-    lines = []
-    for x, y in corners:
-        x, y = x - 128 * width, 128 * height - y
-        if is_plain:
-            lines.append(f"v {x >> halvings} {y >> halvings} 0")
+    k = halvings_of(height)
+    lines = ["mtllib films.mtl"]
+    for number, corners in enumerate(triangles):
+        for x, y in corners:
+            x, y = 2 * x >> k, -2 * y >> k
+            lines.append(f"v {x * 5 ** 16}e-16 {y * 5 ** 16}e-16 0")
+        lines += [f"usemtl m{number % 3}", "f -3 -2 -1"]
+    return ("\n".join(lines) + "\n").encode()
+
+
+def words_of(command, width, height, samples, nodes):
+    """A command whose camera stands so near that coordinates are huge on the screen."""
+    away = 625 * (height >> halvings_of(height))
+    return [*command, "--size", f"{width}x{height}", "--samples", str(samples), "--maxval", "65535",
+            "--nodes", str(nodes), "--focal", "16", "--near", "0.0625", f"--move=0,0,-{away}e-4"]
+
+
+@dataclass
+class Maker:
+    """Random triangles, in 1/256 pixel from the image's middle."""
+
+    rng: random.Random
+    width: int
+    height: int
+    offsets: list
+    pixel: tuple = None  # the pixel near which they lie, or None for the whole image
+
+    def sample(self):
+        """A sample in the image or a little beside it, often at its sides."""
+        rng = self.rng
+        if self.pixel:
+            i, j = (part + rng.choice([0, 0, 0, 0, -1, 1]) for part in self.pixel)
         else:
-            lines.append(f"v {decimal(x, halvings)} {decimal(y, halvings)} 0")
-    return ("\n".join(lines) + "\nf 1 2 3\n").encode()
+            i, j = (rng.choice([-1, 0, rng.randrange(side), rng.randrange(side), side - 1, side])
+                    for side in (self.width, self.height))
+        right, down = rng.choice(self.offsets)
+        return (256 * i + 128 + 16 * right - 128 * self.width,
+                256 * j + 128 + 16 * down - 128 * self.height)
+
+    def reach(self):
+        """How far out the coordinates of a scene can be."""
+        return 2 ** 30 << halvings_of(self.height)
+
+    def most(self, start, step, reach):
+        """How many such steps from there stay below this."""
+        return (reach - 1 - max(map(abs, start))) // max(map(abs, step))
+
+    def steps(self, most):
+        """A number of steps up to the most: a few, or near the most, or in between."""
+        rng = self.rng
+        kind = rng.randrange(8)
+        if kind < 4:
+            return min(most, rng.randint(0, 1 if self.pixel else 3))
+        if kind < 6:
+            return most - rng.randrange(1 + most // 4)
+        return rng.randrange(1 + min(most, 2 ** rng.randint(1, 36)))
+
+    def step(self, start):
+        """A way from one sample to another, which isn't nothing."""
+        rng = self.rng
+        other = start
+        if rng.randrange(2):
+            other = self.sample()
+        if other == start:
+            right, down = rng.choice([(1, 0), (0, 1), (1, 1), (1, -1), (2, 1), (1, 2), (2, -1),
+                                      (1, -2), (3, 1), (1, 3)])
+            return 256 * right, 256 * down
+        return other[0] - start[0], other[1] - start[1]
+
+    def along(self, start, step, side):
+        reach = self.rng.choice([2 ** 29, self.reach()])
+        count = side * self.steps(self.most(start, step, reach))
+        return start[0] + count * step[0], start[1] + count * step[1]
+
+    def triangle(self):
+        """An edge that runs through samples, and a third corner from which another often does."""
+        rng = self.rng
+        start = self.sample()
+        step = self.step(start)
+        first, second = self.along(start, step, -1), self.along(start, step, 1)
+        third = self.sample()
+        kind = rng.randrange(4)
+        if kind == 0:
+            third = self.along(third, self.step(third), rng.choice([1, -1]))
+        elif kind == 1 and third != first:
+            away = third[0] - first[0], third[1] - first[1]
+            if self.most(third, away, self.reach()) > 0:
+                third = third[0] + away[0], third[1] + away[1]
+        corners = [first, second, third]
+        if rng.randrange(16) == 0:
+            away = rng.choice([16, 256, 4096])
+            corners[rng.randrange(3)] = tuple(
+                16 * rng.randint(-away, away) for _ in range(2))
+        rng.shuffle(corners)
+        return corners
 
 
-def covered(corners, width, height, offsets):
-    """The number of covered samples of each pixel, and how many samples lie on the outline."""
+# ---- the rule
+
+
+def directed_edges(corners):
+    """The edges of a triangle in positive order, or none where it has no area. Each is its start,
+    its way, and whether it accepts a sample that lies on it."""
     (ax, ay), (bx, by), (cx, cy) = corners
     area = (bx - ax) * (cy - ay) - (by - ay) * (cx - ax)
-    if area == 0:
-        return [0] * (width * height), 0
     if area < 0:
         bx, by, cx, cy = cx, cy, bx, by
     edges = [
         (ax, ay, bx - ax, by - ay), (bx, by, cx - bx, cy - by), (cx, cy, ax - cx, ay - cy)
     ]
-    counts, on_outline = [], 0
-    for y in range(height):
-        for x in range(width):
-            count = 0
-            for dx, dy in offsets:
-                sx, sy = 256 * x + 128 + dx, 256 * y + 128 + dy
-                values = [(u * (sy - py) - v * (sx - px), -v, u) for px, py, u, v in edges]
-                count += min(values) > (0, 0, 0)
-                least = min(value[0] for value in values)
-                on_outline += least == 0
-            counts.append(count)
-    return counts, on_outline
+    return [(x, y, u, v, (-v, u) > (0, 0)) for x, y, u, v in edges] if area else []
 
 
-DIRECTIONS = [(1, 0), (0, 1), (1, 1), (1, -1), (2, 1), (1, 2), (2, -1), (1, -2), (3, 1), (1, 3)]
+def mask_at(edges, places):
+    """The mask of a triangle of some area over a pixel's samples, and how many of the samples lie
+    on its outline."""
+    mask = on_outline = 0
+    bit = 1
+    for sx, sy in places:
+        is_covered, is_on = True, False
+        for x, y, u, v, accepts_zero in edges:
+            value = u * (sy - y) - v * (sx - x)
+            if value < 0:
+                break
+            if value == 0:
+                is_on = True
+                is_covered = is_covered and accepts_zero
+        else:
+            mask += bit * is_covered
+            on_outline += is_on
+        bit *= 2
+    return mask, on_outline
 
 
-def random_corners(rng, width, height, offsets, is_plain):
-    """Corners of which most lie on samples, with edges that run from sample to sample."""
-    step = 128 if is_plain else 256
-
-    def somewhere():
-        if is_plain:
-            y = rng.choice([rng.randint(0, 2 * height), 2 * rng.randrange(height) + 1])
-            return 128 * rng.randint(0, 2 * width), 128 * y
-        dx, dy = rng.choice(offsets)
-        return 256 * rng.randrange(width) + 128 + dx, 256 * rng.randrange(height) + 128 + dy
-
-    def along(start, longest, directions=DIRECTIONS):
-        x, y = rng.choice(directions)
-        steps = step * rng.choice([1, -1]) * rng.randint(longest // 3, longest)
-        return start[0] + steps * x, start[1] + steps * y
-
-    first = somewhere()
-    longest = 2 * width if is_plain else max(width, height)
-    level = rng.randrange(3) > 0 if is_plain else False
-    second = along(first, longest, DIRECTIONS[:1] if level else DIRECTIONS)
-    corners = [first, second, along(first, 2 * height)]
-    if rng.randrange(4) == 0:
-        corners[2] = somewhere()
-    if rng.randrange(12) == 0 and not is_plain:
-        corners[rng.randrange(3)] = (rng.randint(0, 256 * width), rng.randint(0, 256 * height))
-    rng.shuffle(corners)
-    return corners
+def places_of(width, height, offsets, i, j):
+    """The samples of a pixel, in 1/256 pixel from the image's middle."""
+    return [(256 * i + 128 + 16 * right - 128 * width, 256 * j + 128 + 16 * down - 128 * height)
+            for right, down in offsets]
 
 
-def image_of(program, words, scene):
-    done = subprocess.run([program] + words, input=scene, capture_output=True, timeout=600)
+# ---- one scene
+
+
+@dataclass
+class Found:
+    """What a scene showed."""
+
+    samples: int = 0  # those looked at
+    on_outline: int = 0
+    far_on_outline: int = 0  # those of triangles with a coordinate of 2^29 or more
+    triangles: int = 0
+    fault: str = ""
+
+
+class Disagreement(Exception):
+    pass
+
+
+def run(program, folder, words, scene):
+    done = subprocess.run([program] + words, input=scene, capture_output=True, cwd=folder,
+                          timeout=600)
     if done.returncode != 0:
-        sys.exit(f"status {done.returncode} {done.stderr!r}\n  words: {words}\n  scene: {scene!r}")
+        raise Disagreement(f"status {done.returncode} {done.stderr!r}\n  words: {words}\n"
+                           f"  scene: {scene!r}")
     return done.stdout
+
+
+def masks_of_report(report):
+    """The masks of the fragments by primitive number."""
+    lines = report.decode().splitlines()
+    count = int(lines[0].removeprefix("fragments "))
+    words = [line.split() for line in lines[1:count + 1]]
+    return {int(prim): int(mask) for _, prim, _, mask in words}
+
+
+def is_far(corners):
+    return max(abs(part) for corner in corners for part in corner) >= 2 ** 29
+
+
+def count_outline(found, corners, on_outline):
+    found.on_outline += on_outline
+    if is_far(corners):
+        found.far_on_outline += on_outline
+
+
+def blame(program, folder, triangles, maker, samples, i, j):
+    """A text on the first of the triangles whose mask differs in this pixel when drawn alone."""
+    words = words_of(["pick", f"{i},{j}"], maker.width, maker.height, samples, 8388608)
+    for corners in triangles:
+        scene = scene_of([corners], maker.height)
+        edges = directed_edges(corners)
+        places = places_of(maker.width, maker.height, maker.offsets, i, j)
+        wanted = mask_at(edges, places)[0] if edges else 0
+        got = masks_of_report(run(program, folder, words, scene)).get(0, 0)
+        if got != wanted:
+            return (f"a triangle of its own differs: mask {got}, wanted {wanted}\n"
+                    f"  words: {words}\n  scene: {scene!r}\n"
+                    f"  corners in 1/256 pixel from the middle: {corners}")
+    return f"no triangle of its own differs\n  triangles: {triangles}"
+
+
+def check_image(program, folder, rng, samples):
+    """Films over an image, compared by the number of covered samples in each pixel and channel."""
+    width, height = rng.randint(1, 24), rng.choice([1, 2, 3, 4, 5, 7, 8, 9, 11, 12, 13, 16, 16, 17])
+    maker = Maker(rng, width, height, SAMPLES[samples])
+    triangles = [maker.triangle() for _ in range(3 * MOST_FILMS)]
+    counts = [0] * (3 * width * height)
+    found = Found(len(triangles) * samples * width * height, triangles=len(triangles))
+    pixels = [places_of(width, height, maker.offsets, place % width, place // width)
+              for place in range(width * height)]
+    for number, corners in enumerate(triangles):
+        edges = directed_edges(corners)
+        if not edges:
+            continue
+        total = 0
+        for place, places in enumerate(pixels):
+            mask, on_outline = mask_at(edges, places)
+            counts[3 * place + number % 3] += mask.bit_count()
+            total += on_outline
+        count_outline(found, corners, total)
+    words = words_of(["render"], width, height, samples, len(triangles) * width * height)
+    scene = scene_of(triangles, height)
+    image = run(program, folder, words, scene)
+    header = f"P7\nWIDTH {width}\nHEIGHT {height}\nDEPTH 3\nMAXVAL 65535\nTUPLTYPE RGB\nENDHDR\n"
+    wanted = b"".join((count * FILM // samples).to_bytes(2, "big") for count in counts)
+    if image != header.encode() + wanted:
+        values = image[-len(wanted):]
+        at = next((n for n in range(len(wanted)) if values[n] != wanted[n]), 0) // 6
+        found.fault = (f"pixel ({at % width}, {at // width}): "
+                       + blame(program, folder, triangles, maker, samples, at % width, at // width)
+                       + f"\n  words of all: {words}")
+    return found
+
+
+def check_pixel(program, folder, rng, samples):
+    """Triangles near one pixel, compared by their masks."""
+    width, height = rng.choice([1, 2, 3, 9, 12]), rng.choice([1, 2, 3, 5, 8, 10])
+    if rng.randrange(8) == 0:
+        width, height = rng.choice([(4096, 1), (1, 4095), (333, 16)])
+    pixel = tuple(rng.choice([0, rng.randrange(side), side - 1]) for side in (width, height))
+    maker = Maker(rng, width, height, SAMPLES[samples], pixel)
+    triangles = [maker.triangle() for _ in range(3000 if width * height < 1000 else 500)]
+    found = Found(len(triangles) * samples, triangles=len(triangles))
+    places = places_of(width, height, maker.offsets, *pixel)
+    wanted = {}
+    for number, corners in enumerate(triangles):
+        edges = directed_edges(corners)
+        mask, on_outline = mask_at(edges, places) if edges else (0, 0)
+        if mask:
+            wanted[number] = mask
+        count_outline(found, corners, on_outline)
+    words = words_of(["pick", "{},{}".format(*pixel)], width, height, samples,
+                     len(triangles) * width * height)
+    got = masks_of_report(run(program, folder, words, scene_of(triangles, height)))
+    if got != wanted:
+        differing = [corners for number, corners in enumerate(triangles)
+                     if got.get(number, 0) != wanted.get(number, 0)]
+        found.fault = (f"pixel {pixel}, {len(differing)} triangles differ: "
+                       + blame(program, folder, differing, maker, samples, *pixel)
+                       + f"\n  words of all: {words}")
+    return found
+
+
+def check_scene(task):
+    program, folder, samples, seed, number = task
+    rng = random.Random(f"{seed} {samples} {number}")
+    check = check_image if number % 2 else check_pixel
+    try:
+        found = check(program, folder, rng, samples)
+    except Disagreement as disagreement:
+        found = Found(fault=str(disagreement))
+    if found.fault:
+        found.fault = f"scene {number} of {samples} samples, seed {seed}\n  {found.fault}"
+    return found
+
+
+# ---- all scenes
+
+
+def check_pattern(pool, program, folder, samples, seed, wanted):
+    """Scenes of this pattern until so many samples lay on an outline, all told together."""
+    total = Found()
+    number = 0
+    while total.on_outline < wanted:
+        tasks = [(program, folder, samples, seed, number + i) for i in range(16)]
+        number += len(tasks)
+        for found in pool.imap(check_scene, tasks):
+            if found.fault:
+                sys.exit(found.fault)
+            total.samples += found.samples
+            total.triangles += found.triangles
+            total.on_outline += found.on_outline
+            total.far_on_outline += found.far_on_outline
+    print(f"{samples} samples a pixel: {number} scenes, {total.triangles} triangles and "
+          f"{total.samples} samples agree; {total.on_outline} samples lay exactly on an outline, "
+          f"{total.far_on_outline} of them on one that reaches 2^29", flush=True)
+    return total
 
 
 def main():
     parser = argparse.ArgumentParser(description=__doc__,
                                      formatter_class=argparse.RawDescriptionHelpFormatter)
     parser.add_argument("program", help="the abuf program")
-    parser.add_argument("--edges", type=int, default=100000,
-                        help="samples on edges to reach (100000)")
-    parser.add_argument("--samples", default="1,4,8", help="samples per pixel (1,4,8)")
-    parser.add_argument("--plain", action="store_true")
+    parser.add_argument("--edges", type=int, default=1000000,
+                        help="samples on outlines to reach (1000000)")
+    parser.add_argument("--samples", default="1,2,4,8,16", help="samples a pixel (1,2,4,8,16)")
     parser.add_argument("--seed", type=int, default=1)
+    parser.add_argument("--jobs", type=int, default=os.cpu_count(), help="processes at one time")
     given = parser.parse_args()
     program = os.path.abspath(given.program)
-    patterns = [1] if given.plain else [int(number) for number in given.samples.split(",")]
-    rng = random.Random(given.seed)
-    triangles = looked_at = on_outline = 0
-    while on_outline < given.edges:
-        samples = rng.choice(patterns)
-        width, height = (200, 4) if given.plain else (rng.randint(9, 40), rng.choice([8, 32, 32]))
-        offsets = SAMPLES[samples]
-        corners = random_corners(rng, width, height, offsets, given.plain)
-        scene = scene_of(corners, width, height, given.plain)
-        words = ["render", "--size", f"{width}x{height}"]
-        if not given.plain:
-            # Room for one fragment a pixel, which is all that a triangle has: a large pool would take most of the time.
-            words += ["--nodes", str(width * height)]
-        if not given.plain and samples > 1:
-            words += ["--samples", str(samples)]
-        counts, outline = covered(corners, width, height, offsets)
-        # the value of n white samples out of s: n * 255 / s to the nearest, halves upwards
-        values = bytes((510 * n + samples) // (2 * samples) for n in counts for _ in range(3))
-        header = f"P7\nWIDTH {width}\nHEIGHT {height}\nDEPTH 3\nMAXVAL 255\n"
-        wanted = (header + "TUPLTYPE RGB\nENDHDR\n").encode() + values
-        got = image_of(program, words, scene)
-        triangles += 1
-        looked_at += samples * width * height
-        on_outline += outline
-        if got != wanted:
-            print(f"triangle {triangles} differs\n  words: {words}\n  scene: {scene!r}")
-            print(f"  corners in 1/256 pixel: {corners}")
-            if len(got) == len(wanted):
-                place = next(i for i in range(len(got)) if got[i] != wanted[i])
-                pixel = (place - len(wanted) + len(values)) // 3
-                print(f"  pixel ({pixel % width}, {pixel // width}): {got[place]}, and "
-                      f"{counts[pixel]} of its {samples} samples are covered")
-            sys.exit(1)
-    print(f"{triangles} triangles and {looked_at} samples agree; "
-          f"{on_outline} samples lay exactly on an edge")
+    patterns = [int(number) for number in given.samples.split(",")]
+    with tempfile.TemporaryDirectory() as folder, multiprocessing.Pool(given.jobs) as pool:
+        with open(os.path.join(folder, "films.mtl"), "w") as file:
+            file.write(LIBRARY)
+        share = -(-given.edges // len(patterns))
+        totals = [check_pattern(pool, program, folder, samples, given.seed, share)
+                  for samples in patterns]
+    print(f"in all {sum(total.triangles for total in totals)} triangles and "
+          f"{sum(total.samples for total in totals)} samples agree; "
+          f"{sum(total.on_outline for total in totals)} samples lay exactly on an outline, "
+          f"{sum(total.far_on_outline for total in totals)} of them on one that reaches 2^29")
 
 
 if __name__ == "__main__":

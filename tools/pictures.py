@@ -4,9 +4,14 @@
     pictures.py [check]     compare each picture with what the program draws (the default)
     pictures.py draw        draw the pictures anew
 
-An example is a file examples/NAME.obj that has a comment line '# abuf WORDS..' near its head: the
-words that draw its picture, docs/pictures/NAME.png. The README shows the picture with the same
-words. The tools pamtopng and pngtopam of netpbm are needed.
+An example is a file examples/NAME.obj that has comment lines near its head, one for each of its
+pictures:
+
+    # abuf WORDS..                              the words that draw docs/pictures/NAME.png
+    # abuf WORDS.. | pamenlarge N > OTHER.pam   those of docs/pictures/OTHER.png, N times enlarged
+
+The README shows the pictures with the same words. The tools pamtopng, pngtopam and pamenlarge of
+netpbm are needed.
 
 The status is 0 where all is well, and 1 where a picture differs or something couldn't be run.
 """
@@ -17,6 +22,7 @@ import re
 import shlex
 import subprocess
 import sys
+from dataclasses import dataclass
 
 TOP = os.path.dirname(os.path.dirname(os.path.abspath(__file__)))
 EXAMPLES = os.path.join(TOP, "examples")
@@ -28,17 +34,35 @@ class Failed(Exception):
     """What is told of a picture that isn't as it should be."""
 
 
-def examples():
-    """The names of the examples with the words that draw them."""
-    found = {}
+@dataclass
+class Picture:
+    name: str
+    scene: str  # the name of the example
+    words: str
+    times: str  # how many times it is enlarged; empty where it isn't
+
+    def path(self):
+        return os.path.join(PICTURES, self.name + ".png")
+
+    def command(self):
+        """What the README has of the command that draws it."""
+        pipe = f" | pamenlarge {self.times}" if self.times else ""
+        return f"abuf {self.words} < {self.scene}.obj{pipe}"
+
+
+LINE = re.compile(r"(?m)^# abuf (.*?)(?: \| pamenlarge ([0-9]+))?(?: > ([a-z0-9-]+)\.pam)?$")
+
+
+def pictures():
+    """The pictures of all examples."""
+    found = []
     for file_name in sorted(os.listdir(EXAMPLES)):
-        name, ending = os.path.splitext(file_name)
+        scene, ending = os.path.splitext(file_name)
         if ending != ".obj":
             continue
         with open(os.path.join(EXAMPLES, file_name), encoding="utf-8") as file:
-            words = re.search(r"(?m)^# abuf (.*)$", file.read())
-        if words:
-            found[name] = words.group(1).strip()
+            for words, times, name in LINE.findall(file.read()):
+                found.append(Picture(name or scene, scene, words, times))
     return found
 
 
@@ -65,17 +89,18 @@ def pixels_of(image):
     return tuple(map(int, header.groups())), image[header.end():]
 
 
-def drawn(program, name, words):
-    with open(os.path.join(EXAMPLES, name + ".obj"), "rb") as file:
-        return run([program] + shlex.split(words), file.read(), EXAMPLES)
+def drawn(program, picture):
+    with open(os.path.join(EXAMPLES, picture.scene + ".obj"), "rb") as file:
+        image = run([program] + shlex.split(picture.words), file.read(), EXAMPLES)
+    return run(["pamenlarge", picture.times], image) if picture.times else image
 
 
-def check(program, name, words, picture):
+def check(program, picture):
     """Failed where the picture isn't what the program draws, or the README has other words."""
-    wanted_size, wanted = pixels_of(drawn(program, name, words))
-    if not os.path.exists(picture):
+    wanted_size, wanted = pixels_of(drawn(program, picture))
+    if not os.path.exists(picture.path()):
         raise Failed("there is no picture; 'pictures.py draw' makes it")
-    size, pixels = pixels_of(run(["pngtopam", picture]))
+    size, pixels = pixels_of(run(["pngtopam", picture.path()]))
     if size != wanted_size:
         raise Failed(f"width, height and greatest value are {size}, and {wanted_size} are drawn")
     if pixels != wanted:
@@ -83,14 +108,14 @@ def check(program, name, words, picture):
         count = sum(pixels[i:i + step] != wanted[i:i + step] for i in range(0, len(wanted), step))
         raise Failed(f"{count} of {size[0] * size[1]} pixels differ")
     with open(README, encoding="utf-8") as file:
-        if f"abuf {words} < {name}.obj" not in file.read():
+        if picture.command() not in file.read():
             raise Failed("README.md doesn't have the words of the example")
     return "the same pixels"
 
 
-def draw(program, name, words, picture):
-    png = run(["pamtopng"], drawn(program, name, words))
-    with open(picture, "wb") as file:
+def draw(program, picture):
+    png = run(["pamtopng"], drawn(program, picture))
+    with open(picture.path(), "wb") as file:
         file.write(png)
     return f"{len(png)} bytes"
 
@@ -104,13 +129,12 @@ def main():
     given = parser.parse_args()
     work = draw if given.task == "draw" else check
     failed = 0
-    for name, words in examples().items():
-        picture = os.path.join(PICTURES, name + ".png")
+    for picture in pictures():
         try:
-            print(f"{name}: {work(os.path.abspath(given.abuf), name, words, picture)}", flush=True)
+            print(f"{picture.name}: {work(os.path.abspath(given.abuf), picture)}", flush=True)
         except Failed as why:
             failed += 1
-            print(f"{name}: {why}", flush=True)
+            print(f"{picture.name}: {why}", flush=True)
     sys.exit(1 if failed else 0)
 
 

@@ -8,7 +8,8 @@ same files from the working folder, and ends with the same status, output and
 message. It shares no code with abuf and has none of its machinery: no lists of
 fragments, no pool of nodes, no threads and no tiles. Each sample of each pixel
 asks every primitive by itself whether it covers the sample; those that do are
-put in order and folded over the background. It is slow, and made to be read.
+put in order by their depth there and folded over the background. It is slow,
+and made to be read.
 
 Words that read are taken, --threads has no effect, and --nodes only decides
 whether the scene is refused. Whole numbers are exact throughout.
@@ -349,6 +350,10 @@ def number_by(k, low=-FARTHEST, high=FARTHEST):
     return read
 
 
+def number_of_samples(text):
+    return int(text) if text in ("1", "2", "4", "8", "16") else None
+
+
 def channel(text):
     value = scaled(text.encode(), 65535)
     return None if value is None else held(value, 0, 65535)
@@ -386,7 +391,7 @@ def job_of(words):
         return None
 
     job.width, job.height = take("size", size) or (job.width, job.height)
-    job.samples = take("samples", lambda t: int(t) if t in ("1", "4", "8") else None) or job.samples
+    job.samples = take("samples", number_of_samples) or job.samples
     take("threads", lambda text: whole(text, 2, 1, 64))
     job.nodes = take("nodes", lambda text: whole(text, 7, 1, 8388608)) or job.nodes
     job.turn = take("turn", turn) or job.turn
@@ -484,20 +489,23 @@ def primitives_of(job, triangles):
 # ---- samples
 
 
+# Offsets from the pixel's centre in 1/16 pixel, x to the right and y downwards.
 OFFSETS = {
     1: [(0, 0)],
+    2: [(4, 4), (-4, -4)],
     4: [(-2, -6), (6, -2), (-6, 2), (2, 6)],
     8: [(1, -3), (-1, 3), (5, 1), (-3, -5), (-5, 5), (-7, -1), (3, 7), (7, -7)],
+    16: [(1, 1), (-1, -3), (-3, 2), (4, -1), (-5, -2), (2, 5), (5, 3), (3, -5),
+         (-2, 6), (0, -7), (-4, -6), (-6, 4), (-8, 0), (7, -4), (6, 7), (-7, -8)],
 }
 
 
-def centre(x, y):
-    return (256 * x + 128, 256 * y + 128)
-
-
-def sample(x, y, offset):
-    """A sample's place in 1/256 pixel; offsets are in 1/16 pixel."""
-    return (centre(x, y)[0] + 16 * offset[0], centre(x, y)[1] + 16 * offset[1])
+def samples_of(job, x, y):
+    """The places of the pixel's samples in 1/256 pixel."""
+    return [
+        (256 * x + 128 + 16 * right, 256 * y + 128 + 16 * down)
+        for right, down in OFFSETS[job.samples]
+    ]
 
 
 def covers(primitive, s):
@@ -514,12 +522,11 @@ def covers(primitive, s):
     return True
 
 
-def depth_key(primitive, x, y):
-    """The depth at the pixel's centre, which may lie outside the primitive."""
+def depth_key(primitive, s):
+    """The depth at a sample that the primitive covers; a greater one is nearer."""
     a, b, c = primitive.corners
-    s = centre(x, y)
     total = edge(b, c, s) * a[2] + edge(c, a, s) * b[2] + edge(a, b, s) * c[2]
-    return held(floor_div(total, primitive.area), 0, NEAREST_KEY)
+    return floor_div(total, primitive.area)
 
 
 def over(under, colour, alpha):
@@ -527,18 +534,17 @@ def over(under, colour, alpha):
     return round_div(alpha * colour, 65535) + round_div((65535 - alpha) * under, 65535)
 
 
-def covering(job, primitives, x, y):
-    """For each sample of the pixel, the numbers of the primitives that cover it."""
-    return [
-        [n for n, primitive in enumerate(primitives) if covers(primitive, sample(x, y, offset))]
-        for offset in OFFSETS[job.samples]
-    ]
+def covering(primitives, s):
+    """The depths and numbers of the primitives that cover the sample, the farthest first; of equal
+    depths the lower number."""
+    return sorted((depth_key(primitive, s), n)
+                  for n, primitive in enumerate(primitives) if covers(primitive, s))
 
 
-def sample_colour(job, primitives, x, y, numbers):
-    """These primitives over the background, the farthest first; of equals the lower number."""
+def sample_colour(job, primitives, covering_it):
+    """The primitives that cover a sample over the background, in their order."""
     colour = list(job.background)
-    for n in sorted(numbers, key=lambda n: (depth_key(primitives[n], x, y), n)):
+    for _, n in covering_it:
         paint = primitives[n].paint
         for i in range(3):
             colour[i] = over(colour[i], paint.colour[i], paint.alpha)
@@ -563,16 +569,17 @@ def image_of(job, values):
     return header.encode(), b"".join(value.to_bytes(width, "big") for value in values)
 
 
-def report_of(primitives, x, y, samples):
-    """The text of pick: the pixel's fragments from the farthest to the nearest."""
+def report_of(samples):
+    """The text of pick: the pixel's fragments by number, then what covers each of its samples."""
     masks = {}
-    for k, numbers in enumerate(samples):
-        for n in numbers:
+    for k, covering_it in enumerate(samples):
+        for _, n in covering_it:
             masks[n] = masks.get(n, 0) + 2 ** k
-    fragments = sorted((depth_key(primitives[n], x, y), n, mask) for n, mask in masks.items())
-    text = f"fragments {len(fragments)}\n"
-    for depth, n, mask in fragments:
-        text += f"depth {depth} prim {n} mask {mask}\n"
+    text = f"fragments {len(masks)}\n"
+    for n in sorted(masks):
+        text += f"prim {n} mask {masks[n]}\n"
+    for k, covering_it in enumerate(samples):
+        text += f"sample {k}" + "".join(f" prim {n} depth {z}" for z, n in covering_it) + "\n"
     return text.encode()
 
 
@@ -604,14 +611,14 @@ def output_of(words, read_scene, fetch):
     values, total, longest, report = [], 0, 0, None
     for y in range(job.height):
         for x in range(job.width):
-            samples = covering(job, primitives, x, y)
-            length = len(set().union(*samples))
+            samples = [covering(primitives, s) for s in samples_of(job, x, y)]
+            length = len({n for covering_it in samples for _, n in covering_it})
             total += length
             longest = max(longest, length)
             if job.at == (x, y):
-                report = report_of(primitives, x, y, samples)
+                report = report_of(samples)
             if job.at is None:
-                colours = [sample_colour(job, primitives, x, y, ns) for ns in samples]
+                colours = [sample_colour(job, primitives, one) for one in samples]
                 values += [pixel_value(job, sum(channels)) for channels in zip(*colours)]
     if total > job.nodes:
         raise Refusal(5, f"pool full: {total} fragments, {job.nodes} nodes")

@@ -57,6 +57,11 @@ def text(*lines):
     return "".join(line + "\n" for line in lines).encode()
 
 
+def in_samples(count, covering, covered):
+    """The lines of pick for so many samples of which these have the same covering."""
+    return [f"sample {k} {covering}" if k in covered else f"sample {k}" for k in range(count)]
+
+
 # ---- scenes
 
 
@@ -82,6 +87,29 @@ RED_AND_GREEN = {
     "a.mtl": join("newmtl red", "Kd 1 0 0", "d 0.5", "newmtl green", "Kd 0 1 0", "d 0.5")
 }
 CLEAR = {"a.mtl": join("newmtl red", "d 0")}
+CROSSING_SCENE = join(
+    "mtllib x.mtl", "v -9 9 -0.5", "v 27 9 -0.5", "v -9 -27 -0.5", "v -16 16 -4", "v 12 4 2",
+    "v -16 -48 -4", "usemtl red", "f 1 2 3", "usemtl green", "f 4 5 6"
+)
+CROSSING = {"x.mtl": join("newmtl red", "Kd 1 0 0", "newmtl green", "Kd 0 1 0")}
+# Three planes that meet at the centre of the only pixel, where each has the depth 524287. The first
+# is level. The second has 8192 more for each 1/16 pixel to the right, the third for each downwards.
+PLANES = [
+    "mtllib a.mtl", *BIG, "v -32 32 -4", "v 16 8 2", "v -32 -64 -4", "v -32 32 -4", "v 64 32 -4",
+    "v -8 -16 2"
+]
+LEVEL, RIGHTWARDS, DOWNWARDS = "f 1 2 3", "f 4 5 6", "f 7 8 9"
+TWO_PLANES = join(*PLANES, "usemtl red", LEVEL, "usemtl green", RIGHTWARDS)
+TWO_PLANES_EXCHANGED = join(*PLANES, "usemtl green", RIGHTWARDS, "usemtl red", LEVEL)
+THREE_PLANES = join(*PLANES[1:], LEVEL, RIGHTWARDS, DOWNWARDS)
+OPAQUE = {"a.mtl": join("newmtl red", "Kd 1 0 0", "newmtl green", "Kd 0 1 0")}
+RED_IS_OPAQUE = {"a.mtl": join("newmtl red", "Kd 1 0 0", "newmtl green", "Kd 0 1 0", "d 0.5")}
+GREEN_IS_OPAQUE = {"a.mtl": join("newmtl red", "Kd 1 0 0", "d 0.5", "newmtl green", "Kd 0 1 0")}
+GREEN_IS_CLEAR = {"a.mtl": join("newmtl red", "Kd 1 0 0", "newmtl green", "Kd 0 1 0", "d 0")}
+FILMS = {
+    "a.mtl": join("newmtl red", "Kd 1 0 0", "d 0.5", "newmtl green", "Kd 0 1 0", "d 0.5",
+                  "newmtl blue", "Kd 0 0 1", "d 0.5")
+}
 HUGE_SCENE = join("v -32767 -32767 3.9375", "v 32767 -32767 3.9375", "v 0 32767 3.9375", "f 1 2 3")
 CUBE_LINES = [
     "# Exported cube",
@@ -186,6 +214,135 @@ def rows():
     row("eight samples of which four are covered", one + " --samples 8", LEFT_HALF_SCENE,
         pixel(128, 128, 128))
 
+    for samples in (2, 16):
+        row(f"{samples} samples of which half are covered", f"{one} --samples {samples}",
+            LEFT_HALF_SCENE, pixel(128, 128, 128))
+    row("half blue over red, over white", one + " --background 1,1,1 --maxval 65535",
+        join("mtllib a.mtl", *BIG, "v -8 8 2", "v 24 8 2", "v -8 -24 2", "usemtl red", "f 1 2 3",
+             "usemtl blue", "f 4 5 6"),
+        header(1, 1, 65535) + bytes.fromhex("7fff00008000"),
+        libraries={"a.mtl": join("newmtl red", "Kd 1 0 0", "newmtl blue", "Kd 0 0 1", "d 0.5")})
+
+    # depth in each sample
+    row("one of two crossing planes is in front at the centre", one, CROSSING_SCENE,
+        pixel(255, 0, 0), libraries=CROSSING)
+    row("each of them is in front in one of two samples", one + " --samples 2", CROSSING_SCENE,
+        pixel(128, 128, 0), libraries=CROSSING)
+    row("pick shows both orders", "pick 0,0 --size 1x1 --samples 2", CROSSING_SCENE,
+        text("fragments 2", "prim 0 mask 3", "prim 1 mask 3",
+             "sample 0 prim 0 depth 466033 prim 1 depth 507903",
+             "sample 1 prim 1 depth 409599 prim 0 depth 466033"), libraries=CROSSING)
+    crossing = "the crossing runs through the centre, "
+    row(crossing + "the later plane is on top there", one, TWO_PLANES, pixel(0, 255, 0),
+        libraries=OPAQUE)
+    row(crossing + "with the planes exchanged", one, TWO_PLANES_EXCHANGED, pixel(255, 0, 0),
+        libraries=OPAQUE)
+    for samples in (2, 4, 8):
+        for order in (TWO_PLANES, TWO_PLANES_EXCHANGED):
+            row(crossing + f"{samples} samples", f"{one} --samples {samples}", order,
+                pixel(128, 128, 0), libraries=OPAQUE)
+    # sample 9 of 16 is on the crossing
+    row(crossing + "8 of 16 samples on either side", one + " --samples 16", TWO_PLANES,
+        pixel(128, 128, 0), libraries=OPAQUE)
+    row(crossing + "9 of 16 samples are red", one + " --samples 16", TWO_PLANES_EXCHANGED,
+        pixel(143, 112, 0), libraries=OPAQUE)
+    row(crossing + "two bytes a value", one + " --samples 16 --maxval 65535",
+        TWO_PLANES_EXCHANGED, header(1, 1, 65535) + bytes.fromhex("8fff70000000"),
+        libraries=OPAQUE)
+    for samples in (2, 4, 8):
+        row(f"a film that crosses an opaque face, {samples} samples", f"{one} --samples {samples}",
+            TWO_PLANES, pixel(191, 64, 0), libraries=RED_IS_OPAQUE)
+    row("a film that crosses an opaque face, 16 samples", one + " --samples 16 --maxval 65535",
+        TWO_PLANES, header(1, 1, 65535) + bytes.fromhex("bfff40000000"), libraries=RED_IS_OPAQUE)
+    row("a film beneath an opaque face in 9 of 16 samples", one + " --samples 16 --maxval 65535",
+        TWO_PLANES_EXCHANGED, header(1, 1, 65535) + bytes.fromhex("c7ff38000000"),
+        libraries=RED_IS_OPAQUE)
+    row("a film that an opaque face crosses, 2 samples", one + " --samples 2", TWO_PLANES,
+        pixel(64, 191, 0), libraries=GREEN_IS_OPAQUE)
+    row("an invisible face crosses an opaque one", one + " --samples 8 --nodes 2", TWO_PLANES,
+        pixel(255, 0, 0), libraries=GREEN_IS_CLEAR)
+    row("crossing films, 2 samples", one + " --samples 2", TWO_PLANES, pixel(96, 96, 0),
+        libraries=RED_AND_GREEN)
+    row("the crossing of two faces needs no further node", one + " --samples 16 --nodes 1",
+        TWO_PLANES, 5, "pool full: 2 fragments, 1 nodes", libraries=OPAQUE)
+    row("three planes in another order in each sample", "pick 0,0 --size 1x1 --samples 4",
+        THREE_PLANES,
+        text("fragments 3", "prim 0 mask 15", "prim 1 mask 15", "prim 2 mask 15",
+             "sample 0 prim 2 depth 475135 prim 1 depth 507903 prim 0 depth 524287",
+             "sample 1 prim 2 depth 507903 prim 0 depth 524287 prim 1 depth 573439",
+             "sample 2 prim 1 depth 475135 prim 0 depth 524287 prim 2 depth 540671",
+             "sample 3 prim 0 depth 524287 prim 1 depth 540671 prim 2 depth 573439"))
+    row("three planes of one depth at the centre", "pick 0,0 --size 1x1", THREE_PLANES,
+        text("fragments 3", "prim 0 mask 1", "prim 1 mask 1", "prim 2 mask 1",
+             "sample 0 prim 0 depth 524287 prim 1 depth 524287 prim 2 depth 524287"))
+    row("equal depths in the samples of one diagonal", "pick 0,0 --size 1x1 --samples 2",
+        THREE_PLANES,
+        text("fragments 3", "prim 0 mask 3", "prim 1 mask 3", "prim 2 mask 3",
+             "sample 0 prim 0 depth 524287 prim 1 depth 557055 prim 2 depth 557055",
+             "sample 1 prim 1 depth 491519 prim 2 depth 491519 prim 0 depth 524287"))
+    films = ["usemtl red", "f 4 5 6", "usemtl green", "f 6 5 4", "usemtl blue", "f 5 6 4"]
+    for samples in (1, 2, 4, 8, 16):
+        row(f"films in one slanting plane, {samples} samples", f"{one} --samples {samples}",
+            join(*PLANES, *films), pixel(32, 64, 128), libraries=FILMS)
+        row(f"and so from blue to red, {samples} samples", f"{one} --samples {samples}",
+            join(*PLANES, *films[4:], *films[2:4], *films[:2]), pixel(128, 64, 32),
+            libraries=FILMS)
+    row("pick of films in one slanting plane", "pick 0,0 --size 1x1 --samples 2",
+        join(*PLANES, *films),
+        text("fragments 3", "prim 0 mask 3", "prim 1 mask 3", "prim 2 mask 3",
+             "sample 0 prim 0 depth 557055 prim 1 depth 557055 prim 2 depth 557055",
+             "sample 1 prim 0 depth 491519 prim 1 depth 491519 prim 2 depth 491519"),
+        libraries=FILMS)
+
+    far = join("v -32767 32767 3.92578125", "v 32767 32767 3.92578125",
+               "v -32767 -32767 3.92578125", "v -32767 32767 3.875",
+               "v 32767 19402.2227783203125 3.9375", "v -16000 -32767 3.9375", "f 1 2 3", "f 4 5 6")
+    far_words = "pick 0,0 --size 1x1 --focal 16 --near 0.0625 --samples"
+    row("crossing triangles of the greatest size, 4 samples", far_words + " 4", far,
+        text("fragments 2", "prim 0 mask 5", "prim 1 mask 15",
+             "sample 0 prim 1 depth 14128180 prim 0 depth 14128181",
+             "sample 1 prim 1 depth 14128181",
+             "sample 2 prim 1 depth 14128180 prim 0 depth 14128181",
+             "sample 3 prim 1 depth 14128181"))
+    only, behind, equal, nearest = (
+        "prim 1 depth 14128181", "prim 1 depth 14128180 prim 0 depth 14128181",
+        "prim 0 depth 14128181 prim 1 depth 14128181", "prim 1 depth 14128182"
+    )
+    row("crossing triangles of the greatest size, 16 samples", far_words + " 16", far,
+        text("fragments 2", "prim 0 mask 40598", "prim 1 mask 65535",
+             *(f"sample {k} {covering}" for k, covering in enumerate(
+                 [only, behind, equal, only, behind, only, only, equal,
+                  only, behind, behind, equal, behind, only, nearest, behind]))))
+
+    # few samples
+    corner = join("v 3.375 2.125 0", "v 3.875 2.125 0", "v 3.375 1.625 0", "f 1 2 3")
+    row("one of 16 samples", one + " --samples 16", corner, pixel(16, 16, 16))
+    row("one of 16 samples, two bytes a value", one + " --samples 16 --maxval 65535", corner,
+        header(1, 1, 65535) + bytes.fromhex("100010001000"))
+    row("pick of one of 16 samples", "pick 0,0 --size 1x1 --samples 16", corner,
+        text("fragments 1", "prim 0 mask 8192",
+             *in_samples(16, "prim 0 depth 524287", [13])))
+    for samples in (1, 2, 4, 8):
+        row(f"of {samples} samples it has none", f"pick 0,0 --size 1x1 --samples {samples}",
+            corner, text("fragments 0", *in_samples(samples, "", [])))
+    row("a face within a pixel is in front in its own samples alone",
+        "pick 0,0 --size 1x1 --samples 4", join(*BIG, "v 1 1.5 2", "v 2.5 1.5 2", "v 1 -1 2",
+                                                "f 4 5 6", "f 1 2 3"),
+        text("fragments 2", "prim 0 mask 2", "prim 1 mask 15", "sample 0 prim 1 depth 524287",
+             "sample 1 prim 1 depth 524287 prim 0 depth 1048575", "sample 2 prim 1 depth 524287",
+             "sample 3 prim 1 depth 524287"))
+    # samples 12 and 15 of 16 are on the left and the upper side of their pixel
+    beside = join("v 0 36 0", "v 0 -36 0", "v -32 0 0", "v 32 0 0", "f 1 2 3", "f 1 2 4")
+    below = join("v -36 0 0", "v 36 0 0", "v 0 32 0", "v 0 -32 0", "f 1 2 3", "f 1 2 4")
+    for place, size, halves in (("1,0", "2x1", beside), ("0,1", "1x2", below)):
+        title = f"faces that meet between the pixels of an image of {size}"
+        words = f"--size {size} --samples 16"
+        row(title, f"pick {place} {words}", halves,
+            text("fragments 1", "prim 1 mask 65535",
+                 *in_samples(16, "prim 1 depth 524287", range(16))))
+        row(title + ", the pool", f"render {words} --nodes 1", halves,
+            5, "pool full: 2 fragments, 1 nodes")
+
     # the near plane and the camera
     row("one corner behind the near plane", small, ONE_BEHIND_SCENE,
         picture("WWWW", "WWWW", "....", "...."))
@@ -216,36 +373,51 @@ def rows():
 
     # pick and demo
     row("pick on a covered pixel", "pick 3,0 --size 4x4", SQUARE_SCENE,
-        text("fragments 1", "depth 524287 prim 1 mask 1"))
+        text("fragments 1", "prim 1 mask 1", "sample 0 prim 1 depth 524287"))
     row("pick on a pixel that isn't covered", "pick 3,3 --size 4x4", UPPER_SCENE,
-        text("fragments 0"))
+        text("fragments 0", "sample 0"))
     row("pick after clipping", "pick 1,1 --size 3x4", SHARED_CUT_SCENE,
-        text("fragments 1", "depth 3145727 prim 3 mask 1"))
+        text("fragments 1", "prim 3 mask 1", "sample 0 prim 3 depth 3145727"))
     row("pick shows the mask of the samples", "pick 0,0 --size 1x1 --samples 4", LEFT_HALF_SCENE,
-        text("fragments 1", "depth 524287 prim 0 mask 5"))
-    for place in ("0,0", "0,4095"):
-        row("the depth key is held at its greatest value",
-            f"pick {place} --size 1x4096 --focal 16 --near 0.0625", HUGE_SCENE,
-            text("fragments 1", "depth 16777215 prim 0 mask 1"))
-    row("a depth beyond the greatest value at a centre that isn't covered",
+        text("fragments 1", "prim 0 mask 5", "sample 0 prim 0 depth 524287", "sample 1",
+             "sample 2 prim 0 depth 524287", "sample 3"))
+    row("pick with two samples", "pick 0,0 --size 1x1 --samples 2", LEFT_HALF_SCENE,
+        text("fragments 1", "prim 0 mask 2", "sample 0", "sample 1 prim 0 depth 524287"))
+    row("pick with sixteen samples, two of them on an edge", "pick 0,0 --size 1x1 --samples 16",
+        LEFT_HALF_SCENE,
+        text("fragments 1", "prim 0 mask 40214",
+             *in_samples(16, "prim 0 depth 524287", [1, 2, 4, 8, 10, 11, 12, 15])))
+    for place in ("0,0", "0,2047", "0,4095"):
+        row("the greatest depth key", f"pick {place} --size 1x4096 --focal 16 --near 0.0625",
+            HUGE_SCENE,
+            text("fragments 1", "prim 0 mask 1", "sample 0 prim 0 depth 16777215"))
+    row("and so in each of 16 samples",
+        "pick 0,4095 --size 1x4096 --focal 16 --near 0.0625 --samples 16", HUGE_SCENE,
+        text("fragments 1", "prim 0 mask 65535",
+             *in_samples(16, "prim 0 depth 16777215", range(16))))
+    row("a steep face that would be beyond the greatest depth at the pixel's centre",
         "pick 0,0 --size 1x1 --samples 4",
         join("v -32000 32000 -31996", "v -0.0078125 0.125 3.875", "v -32000 -18000 -31996",
-             "f 1 2 3"), text("fragments 1", "depth 16777215 prim 0 mask 1"))
-    row("a depth below 0 at such a centre", "pick 0,0 --size 1x1 --samples 4",
+             "f 1 2 3"),
+        text("fragments 1", "prim 0 mask 1",
+             *in_samples(4, "prim 0 depth 13421785", [0])))
+    row("a steep face that would be below 0 there", "pick 0,0 --size 1x1 --samples 4",
         join("v -0.125 0.125 3.875", "v -2000 32000 -31996", "v -0.125 -0.0703125 3.875",
-             "f 1 2 3"), text("fragments 1", "depth 0 prim 0 mask 1"))
-    row("pick with the farthest first", "pick 0,0 --size 1x1",
+             "f 1 2 3"),
+        text("fragments 1", "prim 0 mask 1", *in_samples(4, "prim 0 depth 3355495", [0])))
+    row("pick with the farthest first in a sample", "pick 0,0 --size 1x1",
         join("v -8 8 0", "v 24 8 0", "v -8 -24 0", "v -8 8 2", "v 24 8 2", "v -8 -24 2",
              "f 4 5 6", "f 1 2 3", "f 1 2 3"),
-        text("fragments 3", "depth 524287 prim 1 mask 1", "depth 524287 prim 2 mask 1",
-             "depth 1048575 prim 0 mask 1"))
+        text("fragments 3", "prim 0 mask 1", "prim 1 mask 1", "prim 2 mask 1",
+             "sample 0 prim 1 depth 524287 prim 2 depth 524287 prim 0 depth 1048575"))
     row("pick refuses a full pool", "pick 0,0 --size 4x4 --nodes 15", SQUARE_SCENE,
         5, "pool full: 16 fragments, 15 nodes")
     row("pick refuses a faulty line", "pick 0,0 --size 4x4", b"v 1 2\n", 3, "line 1: bad number")
     row("pick refuses a library that is missing", "pick 0,0 --size 4x4", b"mtllib a.mtl\n",
         4, "library 1 missing")
     row("pick tells an invisible fragment", "pick 0,0 --size 1x1", RED_SCENE,
-        text("fragments 1", "depth 524287 prim 0 mask 1"), libraries=CLEAR)
+        text("fragments 1", "prim 0 mask 1", "sample 0 prim 0 depth 524287"),
+        libraries=CLEAR)
     row("one triangle of the demonstration", "demo 1 --size 1x1 --move 0,0.3,-4", b"",
         text("triangles 1", "fragments 1", "longest 1", "sum 32"))
     row("both bytes of a value are summed",
@@ -389,14 +561,15 @@ def rows():
     row("a value as a word of its own", "render --move 0,0,-4 --size 4x4", UPPER_SCENE,
         UPPER_IMAGE)
     row("nothing after two hyphens", "render --size 4x4 --", UPPER_SCENE, UPPER_IMAGE)
-    row("a place after two hyphens", "pick --size 4x4 -- 3,3", UPPER_SCENE, text("fragments 0"))
+    row("a place after two hyphens", "pick --size 4x4 -- 3,3", UPPER_SCENE,
+        text("fragments 0", "sample 0"))
     row("a place between the options", "pick --samples 4 3,3 --size 4x4", UPPER_SCENE,
-        text("fragments 0"))
+        text("fragments 0", "sample 0", "sample 1", "sample 2", "sample 3"))
     row("a number after the options", "demo --size 1x1 --move 0,0.3,-4 000001", b"",
         text("triangles 1", "fragments 1", "longest 1", "sum 32"))
     row("an option is named before a place", "pick 9,9 --size 4x4 --maxval 256", UPPER_SCENE,
         2, "bad value: maxval")
-    row("an option is named before a number", "demo 0 --samples 2", b"", 2, "bad value: samples")
+    row("an option is named before a number", "demo 0 --samples 3", b"", 2, "bad value: samples")
     row("a place comes before the scene", "pick 4,0 --size 4x4", b"v 1 2\n", 2, "bad value: at")
     for number in ("", "-", "1e3", "+1", "0000001", "help"):
         row(f"the number {number!r} of the demonstration", ["demo", number], b"",
@@ -405,7 +578,8 @@ def rows():
         2, "bad value: near")
     for option, values in {
         "size": ("4096x4096", "0x4", "4097x1", "00001x1", "4", "4x4x4", "", "4X4", "4,4"),
-        "samples": ("2", "16", "01", ""),
+        "samples": ("3", "02", "32", "", "0", "01", "016", "5", "12", "17", "64", "-", "-2", "+2",
+                    "2.0", "2x", " 2", "1,2", "162"),
         "threads": ("0", "65", "001", "+1"),
         "nodes": ("0", "8388609", "00000001", "-"),
         "turn": ("0,0,0,0", "1,0,0", "1025,0,0,0", "+1,0,0,0", "00001,0,0,0"),
@@ -452,6 +626,19 @@ def agreements():
         Agreement("a demonstration on several numbers of threads",
                   ["demo", "1000", "--size", "64x48"], [["--threads", "1"], ["--threads", "64"]],
                   text("triangles 1000", "fragments 19690", "longest 238", "sum 160776")),
+        Agreement("two samples a pixel",
+                  ["demo", "200", "--size", "24x16", "--samples", "2"],
+                  [["--threads", "1"], ["--threads", "7"], ["--threads", "64"]],
+                  text("triangles 200", "fragments 576", "longest 56", "sum 12931")),
+        Agreement("sixteen samples a pixel",
+                  ["demo", "200", "--size", "24x16", "--samples", "16"],
+                  [["--threads", "1"], ["--threads", "7"], ["--threads", "64"]],
+                  text("triangles 200", "fragments 1151", "longest 93", "sum 12220")),
+        Agreement("sixteen samples a pixel and two bytes a value",
+                  ["demo", "1000", "--size", "64x48", "--samples", "16", "--maxval", "65535"],
+                  [["--threads", "1"], ["--threads", "7"]],
+                  text("triangles 1000", "fragments 32343", "longest 351", "sum 284278"),
+                  is_slow=True),
         Agreement("a larger one", ["demo", "20000", "--size", "64x48"],
                   [["--threads", "1"], ["--threads", "7"]],
                   text("triangles 20000", "fragments 393171", "longest 4928", "sum 210871"),

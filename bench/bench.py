@@ -1,0 +1,303 @@
+#!/usr/bin/env python3
+"""Times abuf on scenes of its own: the time, the fragments a second and the peak memory.
+
+    bench.py [OPTIONS]              draws each scene on 1 and on 4 threads; with --shares, tells where the time goes
+    bench.py --growth [OPTIONS]     doubles the work step by step, and prints the time for a unit of it
+    bench.py --reading [OPTIONS]    reads several kinds of text and draws nothing
+
+The scenes are written into a new folder, and of several rounds the best counts. Beside another program, which is given the same
+words and the same scene on standard input, both run in turn, and the ratio of their times is printed. README.md here tells what
+the scenes are and how the figures are read.
+"""
+
+import argparse
+import datetime
+import hashlib
+import math
+import os
+import re
+import shlex
+import subprocess
+import sys
+import tempfile
+import time
+from typing import NamedTuple
+
+import scenes
+import shares
+
+TOP = os.path.dirname(os.path.dirname(os.path.abspath(__file__)))
+PROGRAM = os.path.join(TOP, "crates", "abuf", "out", "abuf")
+LARGE_PAGES = "glibc.malloc.hugetlb=1"
+
+
+class Failed(Exception):
+    """What is told of a run that can't be measured."""
+
+
+class Run(NamedTuple):
+    seconds: float
+    processor: float  # seconds of all threads, in the program and in the kernel
+    peak: int  # KiB
+    status: int
+    output: str  # its hash
+    error: bytes
+
+
+# ---- running
+
+
+def words_of(task, threads, nodes=None):
+    return [*shlex.split(task.words), "--nodes", str(nodes or task.nodes), "--threads", str(threads)]
+
+
+def environment(given):
+    """The variables of the programs, in which only the option tells whether large pages are asked for."""
+    found = {name: value for name, value in os.environ.items() if name != "GLIBC_TUNABLES"}
+    if given.pages == "large":
+        found["GLIBC_TUNABLES"] = LARGE_PAGES
+    return found
+
+
+class Bench:
+    """The folder with the scenes, the programs, and how they are run."""
+
+    def __init__(self, folder, given):
+        self.folder = folder
+        self.rounds = given.rounds
+        self.programs = [os.path.abspath(name) for name in (given.program, given.beside) if name]
+        self.variables = environment(given)
+
+    def path(self, name):
+        return os.path.join(self.folder, name)
+
+    def run(self, program, task, threads, nodes=None):
+        """One run of one program, its output written to a file."""
+        with open(self.path(task.scene), "rb") as scene, open(self.path("output"), "w+b") as output, \
+                open(self.path("error"), "w+b") as error:
+            before = time.perf_counter()
+            child = subprocess.Popen([program, *words_of(task, threads, nodes)], stdin=scene, stdout=output, stderr=error,
+                                     cwd=self.folder, env=self.variables)
+            _, status, usage = os.wait4(child.pid, 0)
+            seconds = time.perf_counter() - before
+            child.returncode = os.waitstatus_to_exitcode(status)
+            output.seek(0)
+            error.seek(0)
+            return Run(seconds, usage.ru_utime + usage.ru_stime, usage.ru_maxrss, child.returncode,
+                       hashlib.sha256(output.read()).hexdigest(), error.read())
+
+    def best(self, task, threads, status=0):
+        """The best run of each program, all of them in turn."""
+        runs = [[] for _ in self.programs]
+        for _ in range(self.rounds):
+            for program, done in zip(self.programs, runs):
+                done.append(self.run(program, task, threads))
+                if done[-1].status != status:
+                    raise Failed(f"{os.path.basename(program)} {task.words}: status {done[-1].status}, "
+                                 f"{done[-1].error.decode(errors='replace').strip()}")
+        if len({run.output for run in runs[0]}) > 1:
+            raise Failed("the output isn't the same in every round")
+        return [min(done) for done in runs]
+
+    def fragments(self, task):
+        """The number of fragments, which a pool of one node tells."""
+        told = self.run(self.programs[0], task, 4, nodes=1)
+        found = re.match(rb"pool full: (\d+) fragments", told.error)
+        return int(found.group(1)) if found else 0
+
+
+# ---- printing
+
+
+class Table:
+    """Rows that are printed one by one, in columns or as Markdown."""
+
+    def __init__(self, head, is_markdown):
+        self.is_markdown = is_markdown
+        self.widths = [max(len(name), 9) for name in head]
+        self.row(head)
+        if is_markdown:
+            print("|" + "---|" + "---:|" * (len(head) - 1), flush=True)
+
+    def row(self, cells):
+        if self.is_markdown:
+            print("| " + " | ".join(cells) + " |", flush=True)
+        else:
+            first, *rest = (f"{cell:>{width}}" for cell, width in zip(cells, self.widths))
+            print("  ".join([f"{first.strip():<{self.widths[0]}}", *rest]), flush=True)
+
+
+def milliseconds(seconds):
+    return f"{seconds * 1000:.1f} ms"
+
+
+def mebibytes(run):
+    return f"{run.peak / 1024:.0f} MiB"
+
+
+def beside(runs):
+    """The cells of the other program, if there is one: its time, and how many times longer the first program takes."""
+    return [cell for other in runs[1:] for cell in (milliseconds(other.seconds), f"{runs[0].seconds / other.seconds:.2f}")]
+
+
+def beside_more(runs):
+    """The ratio of the processor times, and the peak of the other program."""
+    return [cell for other in runs[1:] for cell in (f"{runs[0].processor / other.processor:.2f}", mebibytes(other))]
+
+
+def head_beside(given, *more):
+    return ["the other", "ratio", *more] if given.beside else []
+
+
+def processor():
+    """The name of the processor, as lscpu tells it."""
+    try:
+        told = subprocess.run(["lscpu"], capture_output=True, text=True, env={**os.environ, "LC_ALL": "C"}).stdout
+    except OSError:
+        told = ""
+    found = re.search(r"(?m)^Model name:\s*(.*)$", told)
+    return found.group(1) if found else "an unknown processor"
+
+
+def told(given):
+    """The machine and the conditions, and in Markdown the command."""
+    pages = f"large pages asked for (GLIBC_TUNABLES={LARGE_PAGES})" if given.pages == "large" else "pages of the usual size"
+    command = f"`bench/bench.py {shlex.join(sys.argv[1:])}`: " if given.table else ""
+    return (f"{command}{datetime.date.today()}, {processor()}, {os.cpu_count()} processors, "
+            f"load {os.getloadavg()[0]:.1f} at the start; {pages}; best of {given.rounds}")
+
+
+# ---- what is measured
+
+
+def each(names, work):
+    """Does the work for each name, tells what fails, and gives whether anything did."""
+    failed = False
+    for name in names:
+        try:
+            work(name)
+        except (Failed, shares.Failed) as why:
+            failed = True
+            print(f"{name}: {why}", flush=True)
+    return failed
+
+
+def measure_scenes(bench, given):
+    table = Table(["scene", "threads", "fragments", "time", "processor", "millions/s", "peak",
+                   *head_beside(given, "processor ratio", "its peak")], given.table)
+
+    def one(name):
+        task = scenes.SCENES[name](bench.folder)
+        fragments = bench.fragments(task)
+        outputs = set()
+        for threads in given.threads:
+            runs = bench.best(task, threads)
+            outputs.add(runs[0].output)
+            rate = fragments / runs[0].seconds / 1e6
+            table.row([name, str(threads), str(fragments), milliseconds(runs[0].seconds), milliseconds(runs[0].processor),
+                       f"{rate:.2f}", mebibytes(runs[0]), *beside(runs), *beside_more(runs)])
+        if len(outputs) > 1:
+            raise Failed("the output isn't the same for every number of threads")
+
+    return each(given.only or scenes.SCENES, one)
+
+
+def measure_shares(bench, given):
+    print("\nShares of the time on one thread, in percent\n")
+    table = Table(["scene", *shares.COLUMNS, "in kernel"], given.table)
+    told = []
+
+    def one(name):
+        task = scenes.SCENES[name](bench.folder)
+        found = shares.sampled([bench.programs[0], *words_of(task, 1)], bench.path(task.scene), bench.folder, bench.variables)
+        table.row([name, *map(found.of_part, shares.COLUMNS), found.of_kernel()])
+        told.extend([name, *row] for row in found.greatest(given.functions))
+
+    failed = each(given.only or scenes.SCENES, one)
+    if told:
+        print("\nThe functions with the greatest shares\n")
+        table = Table(["scene", "percent", "part", "function"], given.table)
+        for row in told:
+            table.row(row)
+    return failed
+
+
+def measure_growth(bench, given):
+    table = Table(["series", "work", "unit", "time", "the rest", "ns a unit", "over log2", *head_beside(given)], given.table)
+
+    def one(name):
+        unit, steps = scenes.SERIES[name]
+        for step in steps(bench.folder):
+            work = step.work or bench.fragments(step.task)
+            if not work:
+                raise Failed("the program doesn't tell the number of fragments")
+            runs = bench.best(step.task, given.threads[0])
+            rests = bench.best(step.rest, given.threads[0])
+            ours, *theirs = [(run.seconds - rest.seconds) * 1e9 / work for run, rest in zip(runs, rests)]
+            compared = [cell for other in theirs for cell in (f"{other:.1f}", f"{ours / other:.2f}")]
+            table.row([name, str(work), unit, milliseconds(runs[0].seconds), milliseconds(rests[0].seconds), f"{ours:.1f}",
+                       f"{ours / math.log2(work):.2f}", *compared])
+
+    return each(given.only or scenes.SERIES, one)
+
+
+def measure_reading(bench, given):
+    table = Table(["text", "size", "time", "MiB/s", *head_beside(given)], given.table)
+
+    def one(kind):
+        task, size = scenes.reading(bench.folder, kind, given.bytes)
+        runs = bench.best(task, given.threads[0], status=3)
+        table.row([kind, f"{size / 2 ** 20:.1f} MiB", milliseconds(runs[0].seconds), f"{size / 2 ** 20 / runs[0].seconds:.0f}",
+                   *beside(runs)])
+
+    return each(given.only or scenes.TEXTS, one)
+
+
+# ---- words
+
+# For each kind of bench, what measures it and the names that it has.
+KINDS = {"scenes": (measure_scenes, scenes.SCENES), "growth": (measure_growth, scenes.SERIES),
+         "reading": (measure_reading, scenes.TEXTS)}
+
+
+def read_words():
+    ask = argparse.ArgumentParser(description=__doc__, formatter_class=argparse.RawDescriptionHelpFormatter)
+    kind = ask.add_mutually_exclusive_group()
+    for name in ("growth", "reading"):
+        kind.add_argument("--" + name, dest="kind", action="store_const", const=name, default="scenes")
+    ask.add_argument("--shares", action="store_true", help="print besides how the time of the scenes is shared; perf is needed")
+    ask.add_argument("--functions", metavar="N", type=int, default=0, help="with --shares: and the N greatest functions of each")
+    ask.add_argument("--program", default=PROGRAM, help="the program (that of this checkout, which ./abuf builds)")
+    ask.add_argument("--beside", metavar="OTHER", help="another program, which runs in turn with the first")
+    ask.add_argument("--only", metavar="NAMES", type=lambda text: text.split(","), help="these scenes, series or texts alone")
+    ask.add_argument("--threads", metavar="N,N", type=lambda text: [int(part) for part in text.split(",")], default=[1, 4],
+                     help="numbers of threads for the scenes (1,4); a series and a text take the first, and shares are of 1")
+    ask.add_argument("--rounds", type=int, default=5, help="rounds, of which the best counts (5)")
+    ask.add_argument("--pages", choices=["large", "usual"], default="large",
+                     help=f"large: the programs are started with GLIBC_TUNABLES={LARGE_PAGES}, as ./abuf starts abuf (large)")
+    ask.add_argument("--bytes", type=int, default=8388608, help="the size of a text for --reading (8388608)")
+    ask.add_argument("--table", action="store_true", help="print Markdown")
+    given = ask.parse_args()
+    for name in given.only or []:
+        if name not in KINDS[given.kind][1]:
+            ask.error(f"no {name}; there are {', '.join(KINDS[given.kind][1])}")
+    for program in (given.program, given.beside):
+        if program and not os.access(program, os.X_OK):
+            ask.error(f"{program} can't be run")
+    return given
+
+
+def main():
+    given = read_words()
+    print(told(given) + "\n", flush=True)
+    with tempfile.TemporaryDirectory() as folder:
+        scenes.start(folder)
+        bench = Bench(folder, given)
+        failed = KINDS[given.kind][0](bench, given)
+        if given.shares and given.kind == "scenes":
+            failed |= measure_shares(bench, given)
+    sys.exit(1 if failed else 0)
+
+
+if __name__ == "__main__":
+    main()
