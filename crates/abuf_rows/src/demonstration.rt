@@ -18,7 +18,7 @@ fn summaries(rt: HostRuntime) -> Result<(), Fail> {
         ),
         (
             "demo --size 5x4 --move 0,0,-2 --samples 8 -- 000009",
-            "triangles 9\nfragments 25\nlongest 5\nsum 898\n",
+            "triangles 9\nfragments 25\nlongest 5\nsum 900\n",
         ),
         (
             "demo 9 --size 5x4 --move 0,0,-2 --maxval 65535",
