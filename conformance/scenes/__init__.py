@@ -1,0 +1,1 @@
+"""The scenes of the suite, a module for each subject."""
