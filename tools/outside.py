@@ -1,0 +1,263 @@
+#!/usr/bin/env python3
+"""Runs abuf where the outside is odd, and checks its status, its output and its text.
+
+    outside.py [--program PATH]
+
+Standard input, output or error is closed, full or a folder; a reader goes away; a library is a
+device, a pipe, a folder or no name at all; memory is short. Each check is a line of the shell, run
+in a new folder in which are
+
+    scene.obj       a triangle, white, or red by a library that the check names
+    a.mtl           the library with the colour
+    folder          an empty folder
+
+'abuf WORDS..' runs the program, whose status is what counts, also within a pipe; 'render' runs
+'abuf render' with few pixels and nodes; 'unblock N' lets no read or write of a descriptor wait. A
+line that doesn't end has failed. The status is 1 where a check failed.
+"""
+
+import argparse
+import os
+import signal
+import subprocess
+import sys
+import tempfile
+from dataclasses import dataclass
+
+sys.path.insert(0, os.path.dirname(os.path.abspath(__file__)))
+import reference  # noqa: E402
+
+TOP = os.path.dirname(os.path.dirname(os.path.abspath(__file__)))
+PROGRAM = os.path.join(TOP, "crates", "abuf", "out", "abuf")
+SECONDS = 60
+
+SHELL = """
+abuf() { "$program" "$@"; echo $? > status; }
+render() { abuf render --size 4x4 --nodes 100 "$@"; }
+unblock() { "$python" -c "import os; os.set_blocking($1, False)"; }
+until_it_ends() { until [ -e status ]; do sleep 0.1; done; }
+"""
+TRIANGLE = b"v 0 3 0\nv 3 -3 0\nv -3 -3 0\n%bf 1 2 3\n"
+LIBRARY = b"newmtl red\nKd 1 0 0\n"
+WHOLE = "the image"
+NOTHING = ""
+
+
+@dataclass
+class Check:
+    title: str
+    line: str
+    status: int
+    text: str = ""  # on standard error, where the line leaves it
+    out: str = NOTHING
+    library: bytes = None  # its name in the scene
+    is_short: bool = False  # of memory: status 8 is well too
+
+
+# ---- the checks
+
+
+def checks():
+    yield from of_the_scene()
+    yield from of_the_output()
+    yield from of_the_text()
+    yield from of_names()
+    yield from of_pipes()
+    yield from of_memory()
+
+
+def of_the_scene():
+    fault = "read fault"
+    yield Check("standard input is closed", "render <&-", 6, fault)
+    yield Check("it is open for writing alone", "render 0> other", 6, fault)
+    yield Check("it is a folder", "render < folder", 6, fault)
+    yield Check("it is memory that can't be read", "render < /proc/self/mem", 6, fault)
+    yield Check("it has no end", "render < /dev/zero", 3, "scene too long")
+    yield Check("it comes byte by byte", "dd bs=1 if=scene.obj 2> log | render", 0, out=WHOLE)
+    yield Check("it comes late", "(sleep 0.5; cat scene.obj) | render", 0, out=WHOLE)
+    yield Check("it is empty for now and doesn't wait",
+                "until_it_ends | (unblock 0; render)", 6, fault)
+    yield Check("it ends within a line", "printf 'v 1' | render", 3, "line 1: bad number")
+    yield Check("refused words leave it unread",
+                "(abuf render --size 0x0; cmp - scene.obj >&2) < scene.obj", 2, "bad value: size")
+    yield Check("demo doesn't read it", "abuf demo 1 --size 1x1 --nodes 9 <&- > other", 0)
+
+
+def of_the_output():
+    fault = "write fault"
+    large = "abuf render --size 200x200 --nodes 40000 < scene.obj"
+    yield Check("standard output is closed", "render < scene.obj >&-", 7, fault)
+    yield Check("it is open for reading alone", "render < scene.obj 1< a.mtl", 7, fault)
+    yield Check("it is a full disk", "render < scene.obj > /dev/full", 7, fault)
+    yield Check("a report on a full disk", "abuf pick 1,1 < scene.obj > /dev/full", 7, fault)
+    yield Check("a summary on a full disk", "abuf demo 1 --size 1x1 > /dev/full", 7, fault)
+    yield Check("its reader has gone", "(sleep 0.5; render < scene.obj) | true", 7, fault)
+    yield Check("its reader goes away", f"{large} | head -c 9 > other", 7, fault)
+    yield Check("its reader is slow", "render < scene.obj | (sleep 0.5; cat)", 0, out=WHOLE)
+    yield Check("it is full for now and doesn't wait",
+                f"(unblock 1; {large}) | (until_it_ends; cat > other)", 7, fault)
+    yield Check("a refusal leaves it alone", "abuf render --size 0x0 > /dev/full", 2,
+                "bad value: size")
+
+
+def of_the_text():
+    yield Check("standard error is closed", "abuf render --size 0x0 2>&-", 2)
+    yield Check("it is full", "abuf render --size 0x0 2> /dev/full", 2)
+    yield Check("its reader has gone", "(sleep 0.5; abuf render --size 0x0 2>&1) | true", 2)
+    yield Check("it is closed on a write fault", "render < scene.obj > /dev/full 2>&-", 7)
+    yield Check("it is closed and not needed", "render < scene.obj 2>&-", 0, out=WHOLE)
+    yield Check("all three are closed", "render <&- >&- 2>&-", 6)
+
+
+def of_names():
+    def check(title, name, status, text="", before="", out=NOTHING):
+        return Check(title, f"{before}render < scene.obj", status, text, out, name)
+
+    fault, missing = "read fault", "library 1 missing"
+    unknown = "line 6: unknown material"
+    yield check("a library", b"a.mtl", 0, out=WHOLE)
+    yield check("through a folder and back", b"folder/../a.mtl", 0, out=WHOLE)
+    yield check("from the root", b"$PWD/a.mtl", 0, out=WHOLE)
+    yield check("through the folders above", b"../" * 20 + b"$PWD/a.mtl", 0, out=WHOLE)
+    yield check("a link", b"b.mtl", 0, before="ln -s a.mtl b.mtl; ", out=WHOLE)
+    yield check("the name of a variable isn't one", b"$HOME/a.mtl$(echo)", 4, missing)
+    yield check("no such file", b"b.mtl", 4, missing)
+    yield check("no such folder", b"no/../a.mtl", 4, missing)
+    yield check("a link to nothing", b"b.mtl", 4, missing, "ln -s no.mtl b.mtl; ")
+    yield check("a link to itself", b"b.mtl", 6, fault, "ln -s b.mtl b.mtl; ")
+    yield check("a folder", b"folder", 6, fault)
+    yield check("the folder above", b"..", 6, fault)
+    yield check("the root", b"/", 6, fault)
+    yield check("a path through a file", b"a.mtl/b.mtl", 6, fault)
+    yield check("a zero byte", b"a.mtl\0", 6, fault)
+    yield check("bytes that aren't UTF-8", b"a\xff.mtl", 6, fault)
+    yield check("a name that is too long", b"a" * 300, 6, fault)
+    yield check("a path that is too long", b"./" * 3000 + b"a.mtl", 6, fault)
+    if os.geteuid() != 0:  # to whom nothing is forbidden
+        yield check("a file that may not be read", b"a.mtl", 6, fault, "chmod 0 a.mtl; ")
+    yield check("memory that can't be read", b"/proc/self/mem", 6, fault)
+    yield check("the terminal, where there is none", b"/dev/tty", 6, fault)
+    yield check("an empty device", b"/dev/null", 3, unknown)
+    yield check("a device without an end", b"/dev/zero", 4, "library 1 too long")
+    yield check("the scene itself", b"/dev/stdin", 3, unknown)
+
+
+def of_pipes():
+    pipe = b"b.mtl"
+    make = "mkfifo b.mtl; "
+    yield Check("a library from a pipe", make + "cat a.mtl > b.mtl & render < scene.obj", 0,
+                out=WHOLE, library=pipe)
+    yield Check("its writer comes late",
+                make + "(sleep 0.5; cat a.mtl > b.mtl) & render < scene.obj", 0,
+                out=WHOLE, library=pipe)
+    yield Check("its writer never ends", make + "cat /dev/zero > b.mtl & render < scene.obj", 4,
+                "library 1 too long", library=pipe)
+    yield Check("it has no writer and is waited for",
+                make + 'timeout 1 "$program" render < scene.obj; echo $? > status', 124,
+                library=pipe)
+    yield Check("it is the program's own and is waited for",
+                '(timeout 1 "$program" render < scene.obj; echo $? > status) | cat', 124,
+                library=b"/dev/stdout")
+    yield Check("the scene's own pipe, at its end", "cat scene.obj | render", 3,
+                "line 6: unknown material", library=b"/dev/stdin")
+
+
+def of_memory():
+    for threads, nodes in ((1, 4194304), (64, 100), (64, 4194304)):
+        for limit in (6, 8, 12, 16, 24, 32, 48, 64, 96, 128, 160, 192, 256, 384, 512, 768, 1024):
+            line = f"ulimit -v {1024 * limit}; abuf render --size 4x4 --threads {threads} " \
+                f"--nodes {nodes} < scene.obj"
+            yield Check("little memory", line, 0, out=WHOLE, library=b"a.mtl", is_short=True)
+
+
+# ---- running
+
+
+def scene_of(check, folder):
+    if check.library is None:
+        return TRIANGLE % b""
+    name = check.library.replace(b"$PWD", os.fsencode(folder))
+    return TRIANGLE % (b"mtllib %b\nusemtl red\n" % name)
+
+
+def image_of(check):
+    """The bytes of the image, by the reference."""
+    paint = b"" if check.library is None else b"mtllib a.mtl\nusemtl red\n"
+    return reference.output_of(["render", "--size", "4x4"], lambda most: TRIANGLE % paint,
+                               lambda name, most: LIBRARY)
+
+
+def prepare(check, folder):
+    os.mkdir(os.path.join(folder, "folder"))
+    for name, data in (("scene.obj", scene_of(check, folder)), ("a.mtl", LIBRARY)):
+        with open(os.path.join(folder, name), "wb") as file:
+            file.write(data)
+
+
+def run(check, program, folder):
+    """The status, output and text of a line; the status is None where it didn't end."""
+    out_path, err_path, status_path = (os.path.join(folder, n) for n in ("out", "err", "status"))
+    with open(out_path, "wb") as out, open(err_path, "wb") as err:
+        shell = subprocess.Popen(["sh", "-c", SHELL + check.line], cwd=folder,
+                                 stdin=subprocess.DEVNULL, stdout=out, stderr=err,
+                                 start_new_session=True,
+                                 env={**os.environ, "program": program, "python": sys.executable})
+        try:
+            shell.wait(SECONDS)
+        except subprocess.TimeoutExpired:
+            os.killpg(shell.pid, signal.SIGKILL)
+            shell.wait()
+    if not os.path.exists(status_path):
+        return None, b"", b""
+    status, out, err = (read(path) for path in (status_path, out_path, err_path))
+    return int(status), out, err
+
+
+def read(path):
+    with open(path, "rb") as file:
+        return file.read()
+
+
+def fault_of(check, answer):
+    """What is wrong, or None."""
+    wanted = check.status, image_of(check) if check.out == WHOLE else b"", \
+        check.text.encode() + b"\n" if check.text else b""
+    if answer == wanted or check.is_short and answer == (8, b"", b"no memory\n"):
+        return None
+    if answer[0] is None:
+        return f"it didn't end within {SECONDS} seconds"
+    for name, a, b in zip(("status", "standard output", "standard error"), wanted, answer):
+        if a != b:
+            return f"{name}: wanted {short(a)}, got {short(b)}"
+    return None
+
+
+def short(found):
+    told = repr(found)
+    return told if len(told) <= 120 else f"{told[:80]}.. ({len(found)} bytes)"
+
+
+def main():
+    parser = argparse.ArgumentParser(description=__doc__,
+                                     formatter_class=argparse.RawDescriptionHelpFormatter)
+    parser.add_argument("--program", default=PROGRAM, metavar="PATH",
+                        help="the program (crates/abuf/out/abuf below the top)")
+    program = os.path.abspath(parser.parse_args().program)
+    if not os.access(program, os.X_OK):
+        parser.error(f"there is no program {program}; ./abuf builds it")
+    count = failed = 0
+    for check in checks():
+        count += 1
+        with tempfile.TemporaryDirectory() as folder:
+            folder = os.path.realpath(folder)
+            prepare(check, folder)
+            fault = fault_of(check, run(check, program, folder))
+        if fault is not None:
+            failed += 1
+            print(f"{check.title}: {check.line}\n    {fault}", flush=True)
+    print(f"outside: {count} checks, {failed} failed")
+    sys.exit(1 if failed else 0)
+
+
+if __name__ == "__main__":
+    main()
