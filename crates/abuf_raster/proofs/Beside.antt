@@ -9,7 +9,7 @@ use Rattle.abuf_raster.specs.declared.pattern.Pattern.{Pattern}
 use Rattle.abuf_raster.specs.Edge.{edge_function}
 use Rattle.abuf_raster.specs.Triangle.{Triangle}
 use Rattle.abuf_raster.specs.Samples.{sample_place, offsets_of, reach_of}
-use Rattle.abuf_raster.specs.TilesLeft.{IsBefore, IsBehind}
+use Rattle.abuf_raster.specs.BoundingBox.{IsBefore, IsBehind}
 use Rattle.abuf_raster.specs.Coverage.{accepts, all_accept, mask}
 use Rattle.abuf_raster.proofs.Ring.{mul_add, add_mul, neg_mul, mul_neg}
 use Rattle.abuf_raster.proofs.Linear.{E_sum}

@@ -1,21 +1,13 @@
 -- The hits of rows and blocks of pixels, and those of blocks that need no test.
-use Rattle.std.proofs.Common.{◌≡◌, ℕ, zero, suc, ◌+◌, ◌-◌, ◌*◌, ◌^◌, ◌<◌, ◌≤◌, Bool, true, false, if◌then◌else◌, ℤ, pos, ◌+ℤ◌, ◌-ℤ◌, ◌*ℤ◌, ◌<ℤ◌, unsigned_abs, List, [], ◌∷◌, ◌++◌, map, length, slice_index_or, arith, ap, ap₂, refl, sym, ◌∙◌, pow-suc, pow_pos, append-nil, Option, Some, None, ne_eqb}
+use Rattle.std.proofs.Common.{◌≡◌, ℕ, zero, suc, ◌+◌, ◌^◌, ◌<◌, ◌≤◌, Bool, false, if◌then◌else◌, ℤ, List, [], ◌∷◌, ◌++◌, map, arith, ap, ap₂, refl, sym, ◌∙◌, append-nil, Option, Some, None, ne_eqb}
 use Rattle.std.specs.List.{filter_map, flat_map, range_with_len, cons_option}
-use Rattle.std.proofs.lemmas.Int.{ints}
 use Rattle.std.proofs.lemmas.List.Elements.{filter_map-append}
 use Rattle.std.proofs.lemmas.List.Concat.{flat_map-append}
 use Rattle.std.proofs.lemmas.List.{map-append}
-use Rattle.abuf_raster.specs.declared.point.Point.{Point}
-use Rattle.abuf_raster.specs.declared.pattern.Pattern.{Pattern}
 use Rattle.abuf_raster.specs.declared.region.Hit.{Hit}
-use Rattle.abuf_raster.specs.Edge.{edge_function}
-use Rattle.abuf_raster.specs.Triangle.{Triangle, IsWithin}
-use Rattle.abuf_raster.specs.Samples.{sample_place, offsets_of, reach_of}
+use Rattle.abuf_raster.specs.Triangle.{Triangle}
 use Rattle.abuf_raster.specs.Coverage.{covers, mask, mask_below}
-use Rattle.abuf_raster.specs.Values.{values_at, changes, spreads, plus_all, minus_all, none_below}
-use Rattle.abuf_raster.specs.Walk.{hit_of, pixel_hit, row_hits, block_hits, full_row, full_hits, found, tile_middle}
-use Rattle.abuf_raster.proofs.Bounds.{abs-add}
-use Rattle.abuf_raster.proofs.Changes.{values_stepped, all_accept_values, covers_positive, offset_near, none_near, all_near_accepted, sixteenth}
+use Rattle.abuf_raster.specs.Walk.{hit_of, pixel_hit, row_hits, block_hits, full_row, full_hits, found}
 
 -- ---- one more
 
@@ -87,52 +79,3 @@ module _ (t : Triangle) (n : ℕ) (os : List (ℤ × ℤ)) (x w : ℕ) where
 pub mask_uncovered : (t : Triangle) (os : List (ℤ × ℤ)) (x y k : ℕ) → ((j : ℕ) → j < k → covers t os x y j ≡ false) → mask_below t os x y k ≡ 0
 mask_uncovered t os x y zero h = refl
 mask_uncovered t os x y (suc k) h = ap₂ (λ (m : ℕ) (b : Bool). m + (if b then 2 ^ k else 0)) (mask_uncovered t os x y k (λ j l. h j (omega arith))) (h k (omega arith))
-
-mask_covered : (t : Triangle) (os : List (ℤ × ℤ)) (x y k : ℕ) → ((j : ℕ) → j < k → covers t os x y j ≡ true) → mask_below t os x y k ≡ 2 ^ k - 1
-mask_covered t os x y zero h = refl
-mask_covered t os x y (suc k) h =
-    ap₂ (λ (m : ℕ) (b : Bool). m + (if b then 2 ^ k else 0)) (mask_covered t os x y k (λ j l. h j (omega arith))) (h k (omega arith))
-    ∙ omega (arith, pow-suc 2 k, pow_pos k)
-
--- ---- a tile that needs no test
-
--- how far a sample lies from the middle of its tile, along one direction
-off_middle : (a i m : ℕ) (z : ℤ) → a ≤ i → i < a + 8 → unsigned_abs z ≤ m → unsigned_abs ((pos (256 * i + 128) +ℤ z) -ℤ pos (256 * a + 1024)) ≤ 896 + m
-off_middle a i m z l g h =
-    let d : unsigned_abs (pos (256 * i + 128) -ℤ pos (256 * a + 1024)) ≤ 896 = omega (arith, ints) in
-    let e : (pos (256 * i + 128) +ℤ z) -ℤ pos (256 * a + 1024) ≡ (pos (256 * i + 128) -ℤ pos (256 * a + 1024)) +ℤ z = omega (arith, ints) in
-    rw e (abs-add (pos (256 * i + 128) -ℤ pos (256 * a + 1024)) z 896 m d h)
-
-back_again : (u v : ℤ) → u ≡ v +ℤ (u -ℤ v)
-back_again u v = omega (arith, ints)
-
-module _ (t : Triangle) (p : Pattern) (x y : ℕ) (positive : pos 0 <ℤ edge_function t.a t.b t.c) where
-  -- what a sample of a pixel of the tile accepts, seen from the middle
-  sample_covers : (i j k : ℕ) → (let s : Point = sample_place (slice_index_or (offsets_of p) k (pos 0, pos 0)) i j in let m : Point = tile_middle x y in covers t (offsets_of p) i j k ≡ none_below (plus_all (values_at t m) (changes t (s.x -ℤ m.x) (s.y -ℤ m.y))))
-  sample_covers i j k =
-      let s : Point = sample_place (slice_index_or (offsets_of p) k (pos 0, pos 0)) i j in
-      let m : Point = tile_middle x y in
-      covers_positive t s positive ∙ (all_accept_values t s ∙ sym (ap none_below (values_stepped t m s (s.x -ℤ m.x) (s.y -ℤ m.y) (back_again s.x m.x) (back_again s.y m.y))))
-
-  pub tile_outside : none_below (plus_all (values_at t (tile_middle x y)) (spreads t (896 + 16 * reach_of p))) ≡ false → (i j : ℕ) → x ≤ i → i < x + 8 → y ≤ j → j < y + 8 → mask t (offsets_of p) i j ≡ 0
-  tile_outside e i j xl xg yl yg = mask_uncovered t (offsets_of p) i j (length (offsets_of p)) (λ k l.
-      let near = offset_near p k l in
-      let o : ℤ × ℤ = slice_index_or (offsets_of p) k (pos 0, pos 0) in
-      let s : Point = sample_place o i j in
-      let m : Point = tile_middle x y in
-      sample_covers i j k ∙ none_near t (values_at t m) (896 + 16 * reach_of p) (s.x -ℤ m.x) (s.y -ℤ m.y)
-      (off_middle x i (16 * reach_of p) (pos 16 *ℤ o.0) xl xg (sixteenth o.0 (reach_of p) near.0))
-      (off_middle y j (16 * reach_of p) (pos 16 *ℤ o.1) yl yg (sixteenth o.1 (reach_of p) near.1)) e)
-
-  pub tile_inside : none_below (minus_all (values_at t (tile_middle x y)) (spreads t (896 + 16 * reach_of p))) ≡ true → (i j : ℕ) → x ≤ i → i < x + 8 → y ≤ j → j < y + 8 → mask t (offsets_of p) i j ≡ 2 ^ length (offsets_of p) - 1
-  tile_inside e i j xl xg yl yg = mask_covered t (offsets_of p) i j (length (offsets_of p)) (λ k l.
-      let near = offset_near p k l in
-      let o : ℤ × ℤ = slice_index_or (offsets_of p) k (pos 0, pos 0) in
-      let s : Point = sample_place o i j in
-      let m : Point = tile_middle x y in
-      sample_covers i j k ∙ all_near_accepted t (values_at t m) (896 + 16 * reach_of p) (s.x -ℤ m.x) (s.y -ℤ m.y)
-      (off_middle x i (16 * reach_of p) (pos 16 *ℤ o.0) xl xg (sixteenth o.0 (reach_of p) near.0))
-      (off_middle y j (16 * reach_of p) (pos 16 *ℤ o.1) yl yg (sixteenth o.1 (reach_of p) near.1)) e)
-
-pub middle_near : (r x y : ℕ) → 2 ^ 22 ≤ r → x ≤ 4200 → y ≤ 4200 → IsWithin r (tile_middle x y)
-middle_near r x y wide hx hy = (omega (arith, ints), omega (arith, ints))

@@ -1,23 +1,24 @@
 -- How the values of the three edges change from place to place, and what they say of a pixel's samples.
-use Rattle.std.proofs.Common.{◌≡◌, ℕ, zero, suc, ◌+◌, ◌-◌, ◌*◌, ◌^◌, ◌<◌, ◌≤◌, Bool, true, false, not, ◌&&◌, ◌||◌, if◌then◌else◌, ℤ, pos, negsuc, neg_ℤ, ◌+ℤ◌, ◌-ℤ◌, ◌*ℤ◌, ◌<ℤ◌, ◌≤ℤ◌, unsigned_abs, List, [], ◌∷◌, length, slice_index_or, arith, ap, ap₂, refl, sym, ◌∙◌, true≢false, pow-suc, pow_pos, lit≤, subst, add-one}
+use Rattle.std.proofs.Common.{inl, inr, ◌≡◌, ℕ, zero, suc, ◌+◌, ◌-◌, ◌*◌, ◌^◌, ◌<◌, ◌≤◌, Bool, true, false, not, ◌&&◌, ◌||◌, if◌then◌else◌, ℤ, pos, negsuc, neg_ℤ, ◌+ℤ◌, ◌-ℤ◌, ◌*ℤ◌, ◌<ℤ◌, ◌≤ℤ◌, unsigned_abs, List, [], ◌∷◌, length, slice_index_or, arith, ap, ap₂, refl, sym, ◌∙◌, true≢false, pow-suc, pow_pos, lit≤, subst}
 use Rattle.std.specs.Prelude.{int_lt}
 use Rattle.std.specs.Ordering.{int_eq}
 use Rattle.std.proofs.lemmas.Int.{ints}
-use borrow.Author.Differences.{true_is_lt, false_is_lt}
 use Rattle.abuf_raster.specs.declared.point.Point.{Point}
 use Rattle.abuf_raster.specs.declared.pattern.Pattern.{Pattern}
 use Rattle.abuf_raster.specs.declared.pattern.Pattern.TheVariants.{One, Two, Four, Eight, Sixteen}
 use Rattle.abuf_raster.specs.Edge.{edge_function, is_left_edge, is_top_edge}
 use Rattle.abuf_raster.specs.Triangle.{Triangle, IsWithin, AreWithin}
 use Rattle.abuf_raster.specs.Samples.{sample_place, pixel_centre, offsets_of, reach_of}
-use Rattle.abuf_raster.specs.Coverage.{accepts, all_accept, covers, covers_sample, mask_below}
-use Rattle.abuf_raster.specs.Values.{edge_value, edge_change, edge_spread, Numbers, values_at, changes, spreads, plus_all, minus_all, none_below, IsRoomFor, at_sample, mask_of_values, mask_of_values_below, FitsSamples}
+use Rattle.abuf_raster.specs.Coverage.{mask, accepts, all_accept, covers, covers_sample, mask_below}
+use Rattle.abuf_raster.specs.Values.{edge_value, edge_change, rising, falling, edge_rise, edge_fall, Numbers, values_at, changes, rises, falls, plus_all, none_below, AreUp, AreAtMost, IsRoomFor, sample_changes, at_sample, mask_of_values, mask_of_values_below, FitsSamples}
+use Rattle.abuf_raster.specs.Setup.{AreBetween}
+use Rattle.std.proofs.lemmas.Nat.{mul-le}
+use Rattle.std.proofs.lemmas.Bool.{cases_lt}
 use Rattle.abuf_raster.proofs.Bounds.{abs-add, abs-mul}
 use Rattle.abuf_raster.proofs.Ring.{neg_mul}
 use Rattle.abuf_raster.proofs.Linear.{E_from}
 use Rattle.abuf_raster.proofs.Means.{both_true}
-use Rattle.abuf_raster.proofs.Rooms.{value_room}
-use Rattle.abuf_raster.proofs.Masks.{if_lt}
+use Rattle.abuf_raster.proofs.Rooms.{value_room, lt_true, lt_false, rising_pos, falling_pos, change_room}
 
 -- ---- from place to place
 
@@ -46,12 +47,6 @@ pub values_sample : (t : Triangle) (os : List (ℤ × ℤ)) (x y k : ℕ) → at
 values_sample t os x y k = let o : ℤ × ℤ = slice_index_or os k (pos 0, pos 0) in values_stepped t (pixel_centre x y) (sample_place o x y) (pos 16 *ℤ o.0) (pos 16 *ℤ o.1) refl refl
 
 -- ---- what an edge accepts
-
-lt_true : (a b : ℤ) → a <ℤ b → int_lt a b ≡ true
-lt_true a b h = sym (true_is_lt a b (omega (arith, ints)))
-
-lt_false : (a b : ℤ) → b ≤ℤ a → int_lt a b ≡ false
-lt_false a b h = sym (false_is_lt a b (omega (arith, ints)))
 
 value_sign : (z : ℤ) (p : Bool) → (int_lt (pos 0) z || (int_eq z (pos 0) && p)) ≡ not (int_lt (z -ℤ (if p then pos 0 else pos 1)) (pos 0))
 value_sign (pos zero) true = refl
@@ -82,7 +77,7 @@ mask_values t os x y h (suc k) =
     let e : none_below (at_sample t os (values_at t (pixel_centre x y)) k) ≡ covers t os x y k = ap none_below (values_sample t os x y k) ∙ sym (covers_positive t s h ∙ all_accept_values t s) in
     ap₂ (λ (m : ℕ) (b : Bool). m + (if b then 2 ^ k else 0)) (mask_values t os x y h k) e
 
--- ---- within a distance
+-- ---- offsets
 
 -- each offset is at most m away, either way
 abbrev AllNear : ℕ → List (ℤ × ℤ) → Type 0
@@ -111,23 +106,7 @@ reach_small Four = lit≤ tt
 reach_small Eight = lit≤ tt
 reach_small Sixteen = lit≤ tt
 
--- a change over a way of at most d in each direction is within the spread
-change_within : (a b : Point) (x y : ℤ) (d : ℕ) → unsigned_abs x ≤ d → unsigned_abs y ≤ d → unsigned_abs (edge_change a b x y) ≤ (unsigned_abs (b.x -ℤ a.x) + unsigned_abs (a.y -ℤ b.y)) * d
-change_within a b x y d hx hy =
-    let p = abs-mul (b.x -ℤ a.x) y (unsigned_abs (b.x -ℤ a.x)) d (omega arith) hy in
-    let q = abs-mul (a.y -ℤ b.y) x (unsigned_abs (a.y -ℤ b.y)) d (omega arith) hx in
-    omega (arith, abs-add ((b.x -ℤ a.x) *ℤ y) ((a.y -ℤ b.y) *ℤ x) _ _ p q)
-
-bounded : (u z : ℤ) (n : ℕ) → unsigned_abs z ≤ n → ((u -ℤ pos n) ≤ℤ (u +ℤ z)) × ((u +ℤ z) ≤ℤ (u +ℤ pos n))
-bounded u z n h = (omega (arith, ints), omega (arith, ints))
-
--- of three numbers that don't go down none goes below 0
-record AreUp (m n : Numbers) : Type 0 where
-  ab : m.ab ≤ℤ n.ab
-  bc : m.bc ≤ℤ n.bc
-  ca : m.ca ≤ℤ n.ca
-
-not_below : (x y : ℤ) → x ≤ℤ y → not (int_lt x (pos 0)) ≡ true → not (int_lt y (pos 0)) ≡ true
+pub not_below : (x y : ℤ) → x ≤ℤ y → not (int_lt x (pos 0)) ≡ true → not (int_lt y (pos 0)) ≡ true
 not_below x y h e = go (int_lt x (pos 0)) (int_lt y (pos 0)) refl refl where
   go : (u v : Bool) → u ≡ int_lt x (pos 0) → v ≡ int_lt y (pos 0) → not (int_lt y (pos 0)) ≡ true
   go u false f g = rw (← g) refl
@@ -140,30 +119,22 @@ all_three u v w x y z f g h e =
     let b = both_true u v a.0 in
     rw (f b.0, g b.1, h a.1) refl
 
-up_none_below : (m n : Numbers) → AreUp m n → none_below m ≡ true → none_below n ≡ true
+pub up_none_below : (m n : Numbers) → AreUp m n → none_below m ≡ true → none_below n ≡ true
 up_none_below m n h e = all_three _ _ _ _ _ _ (not_below m.ab n.ab h.ab) (not_below m.bc n.bc h.bc) (not_below m.ca n.ca h.ca) e
 
 pub not_true : (b : Bool) → (b ≡ true → ⊥) → b ≡ false
 not_true true h = absurd (h refl)
 not_true false h = refl
 
-module _ (t : Triangle) (n : Numbers) (d : ℕ) (x y : ℤ) (hx : unsigned_abs x ≤ d) (hy : unsigned_abs y ≤ d) where
-  in_ab : ((n.ab -ℤ edge_spread t.a t.b d) ≤ℤ (n.ab +ℤ edge_change t.a t.b x y)) × ((n.ab +ℤ edge_change t.a t.b x y) ≤ℤ (n.ab +ℤ edge_spread t.a t.b d))
-  in_ab = bounded n.ab (edge_change t.a t.b x y) _ (change_within t.a t.b x y d hx hy)
+-- where some of the greater are below 0, so are some of the lesser
+pub below_down : (m n : Numbers) → AreUp m n → none_below n ≡ false → none_below m ≡ false
+below_down m n h e = not_true (none_below m) (λ k. true≢false (sym (up_none_below m n h k) ∙ e))
 
-  in_bc : ((n.bc -ℤ edge_spread t.b t.c d) ≤ℤ (n.bc +ℤ edge_change t.b t.c x y)) × ((n.bc +ℤ edge_change t.b t.c x y) ≤ℤ (n.bc +ℤ edge_spread t.b t.c d))
-  in_bc = bounded n.bc (edge_change t.b t.c x y) _ (change_within t.b t.c x y d hx hy)
+pub plus_up : (k m n : Numbers) → AreUp m n → AreUp (plus_all k m) (plus_all k n)
+plus_up k m n h = record { ab = omega (arith, ints, h.ab); bc = omega (arith, ints, h.bc); ca = omega (arith, ints, h.ca) }
 
-  in_ca : ((n.ca -ℤ edge_spread t.c t.a d) ≤ℤ (n.ca +ℤ edge_change t.c t.a x y)) × ((n.ca +ℤ edge_change t.c t.a x y) ≤ℤ (n.ca +ℤ edge_spread t.c t.a d))
-  in_ca = bounded n.ca (edge_change t.c t.a x y) _ (change_within t.c t.a x y d hx hy)
-
-  -- where an edge accepts nothing within the distance
-  pub none_near : none_below (plus_all n (spreads t d)) ≡ false → none_below (plus_all n (changes t x y)) ≡ false
-  none_near e = not_true (none_below (plus_all n (changes t x y))) (λ h. true≢false (sym (up_none_below (plus_all n (changes t x y)) (plus_all n (spreads t d)) (record { ab = in_ab.1; bc = in_bc.1; ca = in_ca.1 }) h) ∙ e))
-
-  -- where the three accept everything within it
-  pub all_near_accepted : none_below (minus_all n (spreads t d)) ≡ true → none_below (plus_all n (changes t x y)) ≡ true
-  all_near_accepted e = up_none_below (minus_all n (spreads t d)) (plus_all n (changes t x y)) (record { ab = in_ab.0; bc = in_bc.0; ca = in_ca.0 }) e
+pub up_plus : (k m n : Numbers) → AreUp m n → AreUp (plus_all m k) (plus_all n k)
+up_plus k m n h = record { ab = omega (arith, ints, h.ab); bc = omega (arith, ints, h.bc); ca = omega (arith, ints, h.ca) }
 
 -- ---- the masks of pixels that need no test
 
@@ -180,18 +151,64 @@ mask_all t os n (suc k) h =
 pub sixteenth : (z : ℤ) (m : ℕ) → unsigned_abs z ≤ m → unsigned_abs (pos 16 *ℤ z) ≤ 16 * m
 sixteenth z m h = abs-mul (pos 16) z 16 m (lit≤ tt) h
 
-module _ (t : Triangle) (p : Pattern) (n : Numbers) where
-  pub mask_outside : none_below (plus_all n (spreads t (16 * reach_of p))) ≡ false → mask_of_values t (offsets_of p) n ≡ 0
-  mask_outside e = mask_none t (offsets_of p) n (length (offsets_of p)) (λ j l.
-      let near = offset_near p j l in
-      let o : ℤ × ℤ = slice_index_or (offsets_of p) j (pos 0, pos 0) in
-      none_near t n (16 * reach_of p) (pos 16 *ℤ o.0) (pos 16 *ℤ o.1) (sixteenth o.0 (reach_of p) near.0) (sixteenth o.1 (reach_of p) near.1) e)
+-- a pixel with an edge that accepts none of its samples, and one whose samples all three accept
+module _ (t : Triangle) (os : List (ℤ × ℤ)) (n m : Numbers) where
+  pub mask_outside : ((k : ℕ) → k < length os → AreUp (sample_changes t os k) m) → none_below (plus_all n m) ≡ false → mask_of_values t os n ≡ 0
+  mask_outside h e = mask_none t os n (length os) (λ j l. below_down (at_sample t os n j) (plus_all n m) (plus_up n (sample_changes t os j) m (h j l)) e)
 
-  pub mask_inside : none_below (minus_all n (spreads t (16 * reach_of p))) ≡ true → mask_of_values t (offsets_of p) n ≡ 2 ^ length (offsets_of p) - 1
-  mask_inside e = mask_all t (offsets_of p) n (length (offsets_of p)) (λ j l.
-      let near = offset_near p j l in
-      let o : ℤ × ℤ = slice_index_or (offsets_of p) j (pos 0, pos 0) in
-      all_near_accepted t n (16 * reach_of p) (pos 16 *ℤ o.0) (pos 16 *ℤ o.1) (sixteenth o.0 (reach_of p) near.0) (sixteenth o.1 (reach_of p) near.1) e)
+  pub mask_inside : ((k : ℕ) → k < length os → AreUp m (sample_changes t os k)) → none_below (plus_all n m) ≡ true → mask_of_values t os n ≡ 2 ^ length os - 1
+  mask_inside h e = mask_all t os n (length os) (λ j l. up_none_below (plus_all n m) (at_sample t os n j) (plus_up n m (sample_changes t os j) (h j l)) e)
+
+-- ---- a tile whose first pixel is (x, y), and what its farthest pixels put to the values there
+
+pub values_in_tile : (t : Triangle) (x y i j : ℕ) → plus_all (values_at t (pixel_centre x y)) (changes t (pos (256 * i)) (pos (256 * j))) ≡ values_at t (pixel_centre (x + i) (y + j))
+values_in_tile t x y i j = values_stepped t (pixel_centre x y) (pixel_centre (x + i) (y + j)) (pos (256 * i)) (pos (256 * j)) (omega (arith, ints)) (omega (arith, ints))
+
+rises_one : (z : ℤ) (i m : ℕ) → i ≤ m → (z *ℤ pos i) ≤ℤ (rising z *ℤ pos m)
+rises_one (pos n) i m h = rw (rising_pos n) (let p = mul-le n i n m (omega arith) h in omega (arith, ints))
+rises_one (negsuc n) i m h = omega (arith, ints)
+
+falls_one : (z : ℤ) (i m : ℕ) → i ≤ m → (falling z *ℤ pos m) ≤ℤ (z *ℤ pos i)
+falls_one (pos n) i m h = rw (falling_pos n) (omega (arith, ints))
+falls_one (negsuc n) i m h = let p = mul-le (suc n) i (suc n) m (omega arith) h in omega (arith, ints)
+
+sum_up : (p q u v : ℤ) → p ≤ℤ u → q ≤ℤ v → (p +ℤ q) ≤ℤ (u +ℤ v)
+sum_up p q u v h k = omega (arith, ints)
+
+module _ (t : Triangle) (w h i j : ℕ) (hi : i ≤ w) (hj : j ≤ h) where
+  up_edge : (a b : Point) → edge_change a b (pos (256 * i)) (pos (256 * j)) ≤ℤ edge_rise a b w h
+  up_edge a b = sum_up _ _ _ _ (rises_one (b.x -ℤ a.x) (256 * j) (256 * h) (omega arith)) (rises_one (a.y -ℤ b.y) (256 * i) (256 * w) (omega arith))
+
+  down_edge : (a b : Point) → edge_fall a b w h ≤ℤ edge_change a b (pos (256 * i)) (pos (256 * j))
+  down_edge a b = sum_up _ _ _ _ (falls_one (b.x -ℤ a.x) (256 * j) (256 * h) (omega arith)) (falls_one (a.y -ℤ b.y) (256 * i) (256 * w) (omega arith))
+
+  pub up_rises : AreUp (changes t (pos (256 * i)) (pos (256 * j))) (rises t w h)
+  up_rises = record { ab = up_edge t.a t.b; bc = up_edge t.b t.c; ca = up_edge t.c t.a }
+
+  pub falls_up : AreUp (falls t w h) (changes t (pos (256 * i)) (pos (256 * j)))
+  falls_up = record { ab = down_edge t.a t.b; bc = down_edge t.b t.c; ca = down_edge t.c t.a }
+
+module _ (t : Triangle) (os : List (ℤ × ℤ)) (x y w h : ℕ) (m : Numbers) (positive : pos 0 <ℤ edge_function t.a t.b t.c) where
+  to_pixel : (i j : ℕ) → x ≤ i → y ≤ j → plus_all (values_at t (pixel_centre x y)) (changes t (pos (256 * (i - x))) (pos (256 * (j - y)))) ≡ values_at t (pixel_centre i j)
+  to_pixel i j xi yj = values_in_tile t x y (i - x) (j - y) ∙ ap₂ (λ (k l : ℕ). values_at t (pixel_centre k l)) (omega arith) (omega arith)
+
+  -- no pixel of the tile, where an edge accepts nothing in it
+  pub tile_outside : ((k : ℕ) → k < length os → AreUp (sample_changes t os k) m) → none_below (plus_all (plus_all (values_at t (pixel_centre x y)) (rises t w h)) m) ≡ false
+      → (i j : ℕ) → x ≤ i → i ≤ x + w → y ≤ j → j ≤ y + h → mask t os i j ≡ 0
+  tile_outside up e i j xi ix yj jy =
+      let first = values_at t (pixel_centre x y) in
+      let here = values_at t (pixel_centre i j) in
+      let u : AreUp here (plus_all first (rises t w h)) = subst (λ (n : Numbers). AreUp n (plus_all first (rises t w h))) (to_pixel i j xi yj) (plus_up first _ (rises t w h) (up_rises t w h (i - x) (j - y) (omega arith) (omega arith))) in
+      sym (mask_values t os i j positive (length os)) ∙ mask_outside t os here m up (below_down (plus_all here m) (plus_all (plus_all first (rises t w h)) m) (up_plus m here (plus_all first (rises t w h)) u) e)
+
+  -- all of it, where the three edges accept everything in it
+  pub tile_inside : ((k : ℕ) → k < length os → AreUp m (sample_changes t os k)) → none_below (plus_all (plus_all (values_at t (pixel_centre x y)) (falls t w h)) m) ≡ true
+      → (i j : ℕ) → x ≤ i → i ≤ x + w → y ≤ j → j ≤ y + h → mask t os i j ≡ 2 ^ length os - 1
+  tile_inside up e i j xi ix yj jy =
+      let first = values_at t (pixel_centre x y) in
+      let here = values_at t (pixel_centre i j) in
+      let u : AreUp (plus_all first (falls t w h)) here = subst (λ (n : Numbers). AreUp (plus_all first (falls t w h)) n) (to_pixel i j xi yj) (plus_up first (falls t w h) _ (falls_up t w h (i - x) (j - y) (omega arith) (omega arith))) in
+      sym (mask_values t os i j positive (length os)) ∙ mask_inside t os here m up (up_none_below (plus_all (plus_all first (falls t w h)) m) (plus_all here m) (up_plus m (plus_all first (falls t w h)) here u) e)
 
 -- ---- room for the values of the samples of a pixel
 
@@ -201,6 +218,9 @@ values_room r t s wide near h =
     let v = value_room r t.b t.c s wide near.1 near.2 h in
     let w = value_room r t.c t.a s wide near.2 near.0 h in
     (omega arith, omega arith, omega arith)
+
+pub values_small : (r : ℕ) (t : Triangle) (s : Point) → 2 ^ 22 ≤ r → AreWithin r t → IsWithin r s → AreAtMost (9 * (r * r)) (values_at t s)
+values_small r t s wide near h = (value_room r t.a t.b s wide near.0 near.1 h, value_room r t.b t.c s wide near.1 near.2 h, value_room r t.c t.a s wide near.2 near.0 h)
 
 pub centre_near : (r x y : ℕ) → 2 ^ 22 ≤ r → x ≤ 4200 → y ≤ 4200 → IsWithin r (pixel_centre x y)
 centre_near r x y wide hx hy = (omega (arith, ints), omega (arith, ints))
@@ -218,12 +238,44 @@ samples_fit r t p x y wide near hx hy = λ k l.
     subst (IsRoomFor r) (sym (values_sample t (offsets_of p) x y k))
     (values_room r t (sample_place o x y) wide near (place_near r x (pos 16 *ℤ o.0) wide hx (omega (arith, u, m)), place_near r y (pos 16 *ℤ o.1) wide hy (omega (arith, v, m))))
 
--- ---- a mask, sample by sample
+-- ---- the least and the greatest change to a sample
 
-pub values_mask-lt : (t : Triangle) (os : List (ℤ × ℤ)) (n : Numbers) (k : ℕ) → mask_of_values_below t os n k < 2 ^ k
-values_mask-lt t os n zero = omega arith
-values_mask-lt t os n (suc k) = omega (arith, values_mask-lt t os n k, pow-suc 2 k, if_lt (none_below (at_sample t os n k)) (2 ^ k) (2 ^ k + 1) (omega arith))
+pub up_trans : (m n k : Numbers) → AreUp m n → AreUp n k → AreUp m k
+up_trans m n k h i = record { ab = omega (arith, ints, h.ab, i.ab); bc = omega (arith, ints, h.bc, i.bc); ca = omega (arith, ints, h.ca, i.ca) }
 
-pub values_mask_more : (t : Triangle) (os : List (ℤ × ℤ)) (n : Numbers) (k m : ℕ) (b : Bool) → m ≡ mask_of_values_below t os n k → b ≡ none_below (at_sample t os n k)
-    → m + (if b then 2 ^ k else 0) ≡ mask_of_values_below t os n (k + 1)
-values_mask_more t os n k m b e f = rw add-one (rw (e, f) refl)
+up_same : (m n : Numbers) → m ≡ n → AreUp m n
+up_same m n e = subst (AreUp m) e (record { ab = omega (arith, ints); bc = omega (arith, ints); ca = omega (arith, ints) })
+
+pub sample_room : (r : ℕ) (t : Triangle) (p : Pattern) (k : ℕ) → 2 ^ 22 ≤ r → AreWithin r t → k < length (offsets_of p) → AreAtMost (r * r) (sample_changes t (offsets_of p) k)
+sample_room r t p k wide near l =
+    let n = offset_near p k l in
+    let m = reach_small p in
+    let o : ℤ × ℤ = slice_index_or (offsets_of p) k (pos 0, pos 0) in
+    let x : unsigned_abs (pos 16 *ℤ o.0) ≤ 2 ^ 20 = omega (arith, m, sixteenth o.0 (reach_of p) n.0) in
+    let y : unsigned_abs (pos 16 *ℤ o.1) ≤ 2 ^ 20 = omega (arith, m, sixteenth o.1 (reach_of p) n.1) in
+    (change_room r t.a t.b _ _ wide near.0 near.1 x y, change_room r t.b t.c _ _ wide near.1 near.2 x y, change_room r t.c t.a _ _ wide near.2 near.0 x y)
+
+module _ (r : ℕ) (t : Triangle) (os : List (ℤ × ℤ)) where
+  -- of one sample
+  pub one_between : (c : Numbers) → c ≡ sample_changes t os 0 → AreAtMost (r * r) c → AreBetween r t os 1 c c
+  one_between c e small = record {
+    low = λ j l. let z : j ≡ 0 = omega arith in subst (λ (k : ℕ). AreUp c (sample_changes t os k)) (sym z) (up_same c (sample_changes t os 0) e);
+    high = λ j l. let z : j ≡ 0 = omega arith in subst (λ (k : ℕ). AreUp (sample_changes t os k) c) (sym z) (up_same (sample_changes t os 0) c (sym e));
+    least_small = small;
+    greatest_small = small;
+  }
+
+  -- of one sample more
+  pub more_between : (k : ℕ) (m n c u v : Numbers) → AreBetween r t os k m n → c ≡ sample_changes t os k → AreUp u m → AreUp u c → AreUp n v → AreUp c v → AreAtMost (r * r) u → AreAtMost (r * r) v → AreBetween r t os (k + 1) u v
+  more_between k m n c u v is e um uc nv cv us vs = record {
+    low = λ j l. elim (cases_lt j k) as (λ _. AreUp u (sample_changes t os j)) [
+      | inl f ↦ up_trans u m (sample_changes t os j) um (is.low j f)
+      | inr f ↦ let z : k ≡ j = omega arith in subst (λ (i : ℕ). AreUp u (sample_changes t os i)) z (subst (AreUp u) e uc)
+    ];
+    high = λ j l. elim (cases_lt j k) as (λ _. AreUp (sample_changes t os j) v) [
+      | inl f ↦ up_trans (sample_changes t os j) n v (is.high j f) nv
+      | inr f ↦ let z : k ≡ j = omega arith in subst (λ (i : ℕ). AreUp (sample_changes t os i) v) z (subst (λ (d : Numbers). AreUp d v) e cv)
+    ];
+    least_small = us;
+    greatest_small = vs;
+  }

@@ -9,11 +9,14 @@ pub mod Linear
 pub mod Means
 pub mod Rooms
 pub mod Changes
+pub mod Accepted
 pub mod Blocks
 pub mod Pieces
 pub mod Beside
 pub mod Boxes
 pub mod Turned
+pub mod Outside
+pub mod Counts
 pub mod Ends
 pub mod Estimates
 pub mod Spread

@@ -1,11 +1,13 @@
--- What fits a width: the values of edges at places within its reach, their changes and their spreads.
-use Rattle.std.proofs.Common.{◌≡◌, ◌∙◌, ap, ap₂, to_z, of_z, w64, ℕ, ◌+◌, ◌*◌, ◌^◌, ◌<◌, ◌≤◌, ℤ, pos, ◌-ℤ◌, ◌*ℤ◌, unsigned_abs, arith, Bool, true, false, if◌then◌else◌, ◌||◌}
+-- What fits a width: the values of edges at places within its reach, their changes, rises and falls.
+use Rattle.std.proofs.Common.{◌≡◌, refl, sym, ◌<ℤ◌, ◌≤ℤ◌, ◌∙◌, ap, ap₂, to_z, of_z, w64, ℕ, ◌+◌, ◌*◌, ◌^◌, ◌<◌, ◌≤◌, ℤ, pos, negsuc, ◌+ℤ◌, ◌-ℤ◌, ◌*ℤ◌, unsigned_abs, arith, Bool, true, false, if◌then◌else◌, ◌||◌}
+use Rattle.std.specs.Prelude.{int_lt}
+use borrow.Author.Differences.{true_is_lt, false_is_lt}
 use Rattle.std.proofs.lemmas.Int.{ints}
 use Rattle.std.proofs.lemmas.Nat.{mul-le}
 use Rattle.abuf_raster.specs.declared.point.Point.{Point}
 use Rattle.abuf_raster.specs.Edge.{edge_function, is_left_edge, is_top_edge}
 use Rattle.abuf_raster.specs.Triangle.{Triangle, IsWithin, AreWithin}
-use Rattle.abuf_raster.specs.Values.{edge_value, edge_change, edge_spread, values_at, changes, spreads, plus_all, minus_all, IsRoomFor}
+use Rattle.abuf_raster.specs.Values.{Numbers, edge_value, edge_change, rising, falling, rises, falls, plus_all, AreAtMost, IsRoomFor}
 use Rattle.abuf_raster.proofs.Bounds.{abs-add, abs-sub, abs-mul, back64}
 
 -- a reach times itself is large
@@ -38,69 +40,84 @@ less_one_room r a b s z wide ha hb hs e =
     rw e l
 
 -- a change
-pub change_room : (r : ℕ) (a b : Point) (x y : ℤ) → 2 ^ 22 ≤ r → IsWithin r a → IsWithin r b → unsigned_abs x ≤ 1024 → unsigned_abs y ≤ 1024 → unsigned_abs (edge_change a b x y) ≤ r * r
+pub change_room : (r : ℕ) (a b : Point) (x y : ℤ) → 2 ^ 22 ≤ r → IsWithin r a → IsWithin r b → unsigned_abs x ≤ 2 ^ 20 → unsigned_abs y ≤ 2 ^ 20 → unsigned_abs (edge_change a b x y) ≤ r * r
 change_room r a b x y wide ha hb hx hy =
     let w = wide_square r wide in
-    let p = abs-mul (b.x -ℤ a.x) y (r + r) 1024 (abs-sub b.x a.x r r (omega (arith, hb.0)) (omega (arith, ha.0))) hy in
-    let q = abs-mul (a.y -ℤ b.y) x (r + r) 1024 (abs-sub a.y b.y r r (omega (arith, ha.1)) (omega (arith, hb.1))) hx in
-    omega (arith, w, abs-add ((b.x -ℤ a.x) *ℤ y) ((a.y -ℤ b.y) *ℤ x) ((r + r) * 1024) ((r + r) * 1024) p q)
-
-spread_room : (r : ℕ) (a b : Point) (d : ℕ) → 2 ^ 22 ≤ r → IsWithin r a → IsWithin r b → d ≤ 1024 → unsigned_abs (edge_spread a b d) ≤ r * r
-spread_room r a b d wide ha hb hd =
-    let w = wide_square r wide in
-    let p = abs-sub b.x a.x r r (omega (arith, hb.0)) (omega (arith, ha.0)) in
-    let q = abs-sub a.y b.y r r (omega (arith, ha.1)) (omega (arith, hb.1)) in
-    let m = mul-le (unsigned_abs (b.x -ℤ a.x) + unsigned_abs (a.y -ℤ b.y)) d (4 * r) 1024 (omega (arith, p, q)) hd in
-    omega (arith, w, m)
-
--- values at a place, with a spread added or taken away
-pub spread_fits : (r : ℕ) (t : Triangle) (s : Point) (d : ℕ) → 2 ^ 22 ≤ r → AreWithin r t → IsWithin r s → d ≤ 1024
-    → IsRoomFor r (plus_all (values_at t s) (spreads t d)) × IsRoomFor r (minus_all (values_at t s) (spreads t d))
-spread_fits r t s d wide near hs hd =
-    let u = value_room r t.a t.b s wide near.0 near.1 hs in
-    let v = value_room r t.b t.c s wide near.1 near.2 hs in
-    let w = value_room r t.c t.a s wide near.2 near.0 hs in
-    let x = spread_room r t.a t.b d wide near.0 near.1 hd in
-    let y = spread_room r t.b t.c d wide near.1 near.2 hd in
-    let z = spread_room r t.c t.a d wide near.2 near.0 hd in (
-      (omega (arith, abs-add (edge_value t.a t.b s) (edge_spread t.a t.b d) _ _ u x), omega (arith, abs-add (edge_value t.b t.c s) (edge_spread t.b t.c d) _ _ v y), omega (arith, abs-add (edge_value t.c t.a s) (edge_spread t.c t.a d) _ _ w z)),
-      (omega (arith, abs-sub (edge_value t.a t.b s) (edge_spread t.a t.b d) _ _ u x), omega (arith, abs-sub (edge_value t.b t.c s) (edge_spread t.b t.c d) _ _ v y), omega (arith, abs-sub (edge_value t.c t.a s) (edge_spread t.c t.a d) _ _ w z)),
-    )
-
--- values at a place, with a change added
-pub change_fits : (r : ℕ) (t : Triangle) (s : Point) (x y : ℤ) → 2 ^ 22 ≤ r → AreWithin r t → IsWithin r s → unsigned_abs x ≤ 1024 → unsigned_abs y ≤ 1024
-    → IsRoomFor r (plus_all (values_at t s) (changes t x y))
-change_fits r t s x y wide near hs hx hy =
-    let u = value_room r t.a t.b s wide near.0 near.1 hs in
-    let v = value_room r t.b t.c s wide near.1 near.2 hs in
-    let w = value_room r t.c t.a s wide near.2 near.0 hs in
-    let p = change_room r t.a t.b x y wide near.0 near.1 hx hy in
-    let q = change_room r t.b t.c x y wide near.1 near.2 hx hy in
-    let z = change_room r t.c t.a x y wide near.2 near.0 hx hy in
-    (omega (arith, abs-add (edge_value t.a t.b s) (edge_change t.a t.b x y) _ _ u p), omega (arith, abs-add (edge_value t.b t.c s) (edge_change t.b t.c x y) _ _ v q), omega (arith, abs-add (edge_value t.c t.a s) (edge_change t.c t.a x y) _ _ w z))
+    let p = abs-mul (b.x -ℤ a.x) y (r + r) 1048576 (abs-sub b.x a.x r r (omega (arith, hb.0)) (omega (arith, ha.0))) hy in
+    let q = abs-mul (a.y -ℤ b.y) x (r + r) 1048576 (abs-sub a.y b.y r r (omega (arith, ha.1)) (omega (arith, hb.1))) hx in
+    omega (arith, w, abs-add ((b.x -ℤ a.x) *ℤ y) ((a.y -ℤ b.y) *ℤ x) ((r + r) * 1048576) ((r + r) * 1048576) p q)
 
 -- a difference of two coordinates, as an i64
 pub clean_difference : (d x y : ℤ) → unsigned_abs x < 2 ^ 45 → unsigned_abs y < 2 ^ 45 → d ≡ to_z w64 (of_z w64 x) -ℤ to_z w64 (of_z w64 y) → d ≡ x -ℤ y
 clean_difference d x y hx hy e = omega (arith, ints)
 
 -- its product with a distance
-pub clean_product : (n d x y z : ℤ) → unsigned_abs x < 2 ^ 45 → unsigned_abs y < 2 ^ 45 → unsigned_abs z ≤ 1024 → d ≡ to_z w64 (of_z w64 x) -ℤ to_z w64 (of_z w64 y)
+pub clean_product : (n d x y z : ℤ) → unsigned_abs x < 2 ^ 45 → unsigned_abs y < 2 ^ 45 → unsigned_abs z ≤ 2 ^ 20 → d ≡ to_z w64 (of_z w64 x) -ℤ to_z w64 (of_z w64 y)
     → n ≡ to_z w64 (of_z w64 d) *ℤ to_z w64 (of_z w64 z) → n ≡ (x -ℤ y) *ℤ z
 clean_product n d x y z hx hy hz e f =
     let c = clean_difference d x y hx hy e in
     let b : to_z w64 (of_z w64 d) ≡ x -ℤ y = omega (arith, ints, c) in
     f ∙ ap₂ (λ (u v : ℤ). u *ℤ v) b (back64 z (omega arith))
 
--- and a spread
-pub clean_spread : (n s d e ax ay bx by : ℤ) (k : ℕ) → unsigned_abs ax < 2 ^ 45 → unsigned_abs ay < 2 ^ 45 → unsigned_abs bx < 2 ^ 45 → unsigned_abs by < 2 ^ 45 → k ≤ 1024
-    → d ≡ to_z w64 (of_z w64 bx) -ℤ to_z w64 (of_z w64 ax) → e ≡ to_z w64 (of_z w64 ay) -ℤ to_z w64 (of_z w64 by)
-    → s ≡ pos (unsigned_abs (to_z w64 (of_z w64 d)) + unsigned_abs (to_z w64 (of_z w64 e))) → n ≡ to_z w64 (of_z w64 s) *ℤ to_z w64 k
-    → n ≡ pos (unsigned_abs (bx -ℤ ax) + unsigned_abs (ay -ℤ by)) *ℤ pos k
-clean_spread n s d e ax ay bx by k hax hay hbx hby hk fd fe fs fn =
-    let bd : to_z w64 (of_z w64 d) ≡ bx -ℤ ax = ap (λ (z : ℤ). to_z w64 (of_z w64 z)) (clean_difference d bx ax hbx hax fd) ∙ back64 (bx -ℤ ax) (omega (arith, abs-sub bx ax (2 ^ 45) (2 ^ 45) (omega arith) (omega arith))) in
-    let be : to_z w64 (of_z w64 e) ≡ ay -ℤ by = ap (λ (z : ℤ). to_z w64 (of_z w64 z)) (clean_difference e ay by hay hby fe) ∙ back64 (ay -ℤ by) (omega (arith, abs-sub ay by (2 ^ 45) (2 ^ 45) (omega arith) (omega arith))) in
-    let u : s ≡ pos (unsigned_abs (bx -ℤ ax) + unsigned_abs (ay -ℤ by)) = fs ∙ ap₂ (λ (x y : ℤ). pos (unsigned_abs x + unsigned_abs y)) bd be in
-    let few : unsigned_abs (bx -ℤ ax) + unsigned_abs (ay -ℤ by) < 2 ^ 63 = omega (arith, abs-sub bx ax (2 ^ 45) (2 ^ 45) (omega arith) (omega arith), abs-sub ay by (2 ^ 45) (2 ^ 45) (omega arith) (omega arith)) in
-    let v : to_z w64 (of_z w64 s) ≡ pos (unsigned_abs (bx -ℤ ax) + unsigned_abs (ay -ℤ by)) = ap (λ (z : ℤ). to_z w64 (of_z w64 z)) u ∙ back64 (pos (unsigned_abs (bx -ℤ ax) + unsigned_abs (ay -ℤ by))) few in
-    let w : to_z w64 k ≡ pos k = omega (arith, ints) in
-    fn ∙ ap₂ (λ (x y : ℤ). x *ℤ y) v w
+-- an order, as the code tests it
+pub lt_true : (a b : ℤ) → a <ℤ b → int_lt a b ≡ true
+lt_true a b h = sym (true_is_lt a b (omega (arith, ints)))
+
+pub lt_false : (a b : ℤ) → b ≤ℤ a → int_lt a b ≡ false
+lt_false a b h = sym (false_is_lt a b (omega (arith, ints)))
+
+-- the parts of slopes
+pub rising_pos : (n : ℕ) → rising (pos n) ≡ pos n
+rising_pos n = rw (lt_false (pos n) (pos 0) (omega (arith, ints))) refl
+
+pub falling_pos : (n : ℕ) → falling (pos n) ≡ pos 0
+falling_pos n = rw (lt_false (pos n) (pos 0) (omega (arith, ints))) refl
+
+-- they are no steeper than the slope
+pub rising_small : (z : ℤ) → unsigned_abs (rising z) ≤ unsigned_abs z
+rising_small (pos n) = rw (rising_pos n) (omega arith)
+rising_small (negsuc n) = omega arith
+
+pub falling_small : (z : ℤ) → unsigned_abs (falling z) ≤ unsigned_abs z
+falling_small (pos n) = rw (falling_pos n) (omega arith)
+falling_small (negsuc n) = omega arith
+
+-- what the parts of both slopes make of a way within a tile
+module _ (part : ℤ → ℤ) (small : (z : ℤ) → unsigned_abs (part z) ≤ unsigned_abs z) where
+  pub part_room : (r : ℕ) (a b : Point) (w h : ℕ) → 2 ^ 22 ≤ r → IsWithin r a → IsWithin r b → w ≤ 8 → h ≤ 8 → unsigned_abs (part (b.x -ℤ a.x) *ℤ pos (256 * h) +ℤ part (a.y -ℤ b.y) *ℤ pos (256 * w)) ≤ r * r
+  part_room r a b w h wide ha hb hw hh =
+      let s = wide_square r wide in
+      let p = abs-mul (part (b.x -ℤ a.x)) (pos (256 * h)) (r + r) 2048 (omega (arith, small (b.x -ℤ a.x), abs-sub b.x a.x r r (omega (arith, hb.0)) (omega (arith, ha.0)))) (omega arith) in
+      let q = abs-mul (part (a.y -ℤ b.y)) (pos (256 * w)) (r + r) 2048 (omega (arith, small (a.y -ℤ b.y), abs-sub a.y b.y r r (omega (arith, ha.1)) (omega (arith, hb.1)))) (omega arith) in
+      omega (arith, s, abs-add (part (b.x -ℤ a.x) *ℤ pos (256 * h)) (part (a.y -ℤ b.y) *ℤ pos (256 * w)) ((r + r) * 2048) ((r + r) * 2048) p q)
+
+  -- as an i64
+  pub clean_part : (n f x y : ℤ) (k : ℕ) → unsigned_abs x < 2 ^ 45 → unsigned_abs y < 2 ^ 45 → k ≤ 2048 → f ≡ part (to_z w64 (of_z w64 x) -ℤ to_z w64 (of_z w64 y))
+      → n ≡ to_z w64 (of_z w64 f) *ℤ to_z w64 k → n ≡ part (x -ℤ y) *ℤ pos k
+  clean_part n f x y k hx hy hk g h =
+      let c : to_z w64 (of_z w64 x) -ℤ to_z w64 (of_z w64 y) ≡ x -ℤ y = omega (arith, ints) in
+      let i : f ≡ part (x -ℤ y) = g ∙ ap part c in
+      let near = abs-sub x y (2 ^ 45) (2 ^ 45) (omega arith) (omega arith) in
+      let j : to_z w64 (of_z w64 f) ≡ part (x -ℤ y) = ap (λ (z : ℤ). to_z w64 (of_z w64 z)) i ∙ back64 (part (x -ℤ y)) (omega (arith, small (x -ℤ y), near)) in
+      let w : to_z w64 k ≡ pos k = omega (arith, ints) in
+      h ∙ ap₂ (λ (x y : ℤ). x *ℤ y) j w
+
+-- values at a place, with at most a square of the reach put to each, once and twice
+pub more_fits : (r : ℕ) (n m : Numbers) → AreAtMost (9 * (r * r)) n → AreAtMost (r * r) m → IsRoomFor r (plus_all n m)
+more_fits r n m h k =
+    (omega (arith, abs-add n.ab m.ab _ _ h.0 k.0), omega (arith, abs-add n.bc m.bc _ _ h.1 k.1), omega (arith, abs-add n.ca m.ca _ _ h.2 k.2))
+
+pub most_fits : (r : ℕ) (n m k : Numbers) → AreAtMost (9 * (r * r)) n → AreAtMost (r * r) m → AreAtMost (r * r) k → IsRoomFor r (plus_all (plus_all n m) k)
+most_fits r n m k h i j = (both n.ab m.ab k.ab h.0 i.0 j.0, both n.bc m.bc k.bc h.1 i.1 j.1, both n.ca m.ca k.ca h.2 i.2 j.2) where
+  both : (x y z : ℤ) → unsigned_abs x ≤ 9 * (r * r) → unsigned_abs y ≤ r * r → unsigned_abs z ≤ r * r → unsigned_abs ((x +ℤ y) +ℤ z) ≤ 14 * (r * r)
+  both x y z p q s = omega (arith, abs-add (x +ℤ y) z _ _ (abs-add x y _ _ p q) s)
+
+pub rises_room : (r : ℕ) (t : Triangle) (w h : ℕ) → 2 ^ 22 ≤ r → AreWithin r t → w ≤ 8 → h ≤ 8 → AreAtMost (r * r) (rises t w h)
+rises_room r t w h wide near hw hh =
+    let f = part_room rising rising_small r in
+    (f t.a t.b w h wide near.0 near.1 hw hh, f t.b t.c w h wide near.1 near.2 hw hh, f t.c t.a w h wide near.2 near.0 hw hh)
+
+pub falls_room : (r : ℕ) (t : Triangle) (w h : ℕ) → 2 ^ 22 ≤ r → AreWithin r t → w ≤ 8 → h ≤ 8 → AreAtMost (r * r) (falls t w h)
+falls_room r t w h wide near hw hh =
+    let f = part_room falling falling_small r in
+    (f t.a t.b w h wide near.0 near.1 hw hh, f t.b t.c w h wide near.1 near.2 hw hh, f t.c t.a w h wide near.2 near.0 hw hh)

@@ -18,7 +18,7 @@ use Rattle.abuf_raster.proofs.Boxes.{hits_rows}
 covers_turned : (t : Triangle) (s : Point) → has_area t ≡ true → covers_sample (positive_order t) s ≡ covers_sample t s
 covers_turned t s h = covers_positive (positive_order t) s (positive_area t h) ∙ sym (covers_is t s h)
 
-mask_turned : (t : Triangle) (os : List (ℤ × ℤ)) (x y k : ℕ) → has_area t ≡ true → mask_below (positive_order t) os x y k ≡ mask_below t os x y k
+pub mask_turned : (t : Triangle) (os : List (ℤ × ℤ)) (x y k : ℕ) → has_area t ≡ true → mask_below (positive_order t) os x y k ≡ mask_below t os x y k
 mask_turned t os x y zero h = refl
 mask_turned t os x y (suc k) h =
     ap₂ (λ (m : ℕ) (b : Bool). m + (if b then 2 ^ k else 0)) (mask_turned t os x y k h) (covers_turned t (sample_place (slice_index_or os k (pos 0, pos 0)) x y) h)

@@ -10,6 +10,8 @@ pub mod Region
 pub mod Hits
 pub mod Values
 pub mod TrioNumbers
+pub mod Setup
 pub mod Walk
 pub mod TilesLeft
+pub mod BoundingBox
 pub mod Neighbours

@@ -1,6 +1,6 @@
 -- The numbers that a walk steps: edge functions from which the top-left rule is taken off, so that an edge accepts a sample
 -- exactly where its number is not below 0.
-use Rattle.std.specs.Prelude.{ℕ, zero, suc, ◌+◌, ◌*◌, ◌^◌, Bool, ◌&&◌, ◌||◌, not, if◌then◌else◌, ℤ, pos, ◌+ℤ◌, ◌-ℤ◌, ◌*ℤ◌, int_lt, unsigned_abs, List, length, slice_index_or, ◌≤◌, ◌<◌}
+use Rattle.std.specs.Prelude.{ℕ, zero, suc, ◌+◌, ◌*◌, ◌^◌, Bool, ◌&&◌, ◌||◌, not, if◌then◌else◌, ℤ, pos, ◌+ℤ◌, ◌-ℤ◌, ◌*ℤ◌, int_lt, unsigned_abs, List, length, slice_index_or, ◌≤◌, ◌<◌, ◌≤ℤ◌}
 use Rattle.abuf_raster.specs.declared.point.Point.{Point}
 use Rattle.abuf_raster.specs.Edge.{edge_function, is_left_edge, is_top_edge}
 use Rattle.abuf_raster.specs.Triangle.{Triangle}
@@ -13,9 +13,19 @@ edge_value a b s = edge_function a b s -ℤ (if is_left_edge a b || is_top_edge 
 abbrev pub edge_change : Point → Point → ℤ → ℤ → ℤ
 edge_change a b x y = (b.x -ℤ a.x) *ℤ y +ℤ (a.y -ℤ b.y) *ℤ x
 
--- How much it changes at most over a way of `distance` or less in each direction.
-abbrev pub edge_spread : Point → Point → ℕ → ℤ
-edge_spread a b distance = pos (unsigned_abs (b.x -ℤ a.x) + unsigned_abs (a.y -ℤ b.y)) *ℤ pos distance
+-- A slope where it rises, and where it falls; else 0.
+abbrev pub rising : ℤ → ℤ
+rising z = if int_lt z (pos 0) then pos 0 else z
+
+abbrev pub falling : ℤ → ℤ
+falling z = if int_lt z (pos 0) then z else pos 0
+
+-- How much it rises at most, and falls at most, over a way of at most w pixels to the right and h downwards.
+abbrev pub edge_rise : Point → Point → ℕ → ℕ → ℤ
+edge_rise a b w h = rising (b.x -ℤ a.x) *ℤ pos (256 * h) +ℤ rising (a.y -ℤ b.y) *ℤ pos (256 * w)
+
+abbrev pub edge_fall : Point → Point → ℕ → ℕ → ℤ
+edge_fall a b w h = falling (b.x -ℤ a.x) *ℤ pos (256 * h) +ℤ falling (a.y -ℤ b.y) *ℤ pos (256 * w)
 
 -- The numbers of the three edges.
 pub record Numbers : Type 0 where
@@ -23,34 +33,50 @@ pub record Numbers : Type 0 where
   pub bc : ℤ
   pub ca : ℤ
 
--- The three numbers at a place, their changes, and their spreads.
+-- The three numbers at a place, their changes, and how far they rise and fall.
 abbrev pub values_at : Triangle → Point → Numbers
 values_at t s = record { ab = edge_value t.a t.b s; bc = edge_value t.b t.c s; ca = edge_value t.c t.a s }
 
 abbrev pub changes : Triangle → ℤ → ℤ → Numbers
 changes t x y = record { ab = edge_change t.a t.b x y; bc = edge_change t.b t.c x y; ca = edge_change t.c t.a x y }
 
-abbrev pub spreads : Triangle → ℕ → Numbers
-spreads t d = record { ab = edge_spread t.a t.b d; bc = edge_spread t.b t.c d; ca = edge_spread t.c t.a d }
+abbrev pub rises : Triangle → ℕ → ℕ → Numbers
+rises t w h = record { ab = edge_rise t.a t.b w h; bc = edge_rise t.b t.c w h; ca = edge_rise t.c t.a w h }
+
+abbrev pub falls : Triangle → ℕ → ℕ → Numbers
+falls t w h = record { ab = edge_fall t.a t.b w h; bc = edge_fall t.b t.c w h; ca = edge_fall t.c t.a w h }
 
 abbrev pub plus_all : Numbers → Numbers → Numbers
 plus_all m n = record { ab = m.ab +ℤ n.ab; bc = m.bc +ℤ n.bc; ca = m.ca +ℤ n.ca }
-
-abbrev pub minus_all : Numbers → Numbers → Numbers
-minus_all m n = record { ab = m.ab -ℤ n.ab; bc = m.bc -ℤ n.bc; ca = m.ca -ℤ n.ca }
 
 -- None of the three is below 0.
 abbrev pub none_below : Numbers → Bool
 none_below n = not (int_lt n.ab (pos 0)) && not (int_lt n.bc (pos 0)) && not (int_lt n.ca (pos 0))
 
--- Each is within a bound either way.
+-- Each is at most this far from 0.
+abbrev pub AreAtMost : ℕ → Numbers → Type 0
+AreAtMost most n = (unsigned_abs n.ab ≤ most) × (unsigned_abs n.bc ≤ most) × (unsigned_abs n.ca ≤ most)
+
+-- A width has room for them.
 abbrev pub IsRoomFor : ℕ → Numbers → Type 0
-IsRoomFor reach n = (unsigned_abs n.ab ≤ 14 * (reach * reach)) × (unsigned_abs n.bc ≤ 14 * (reach * reach)) × (unsigned_abs n.ca ≤ 14 * (reach * reach))
+IsRoomFor reach n = AreAtMost (14 * (reach * reach)) n
+
+-- None of three numbers is above that of the others.
+pub record AreUp (m n : Numbers) : Type 0 where
+  pub ab : m.ab ≤ℤ n.ab
+  pub bc : m.bc ≤ℤ n.bc
+  pub ca : m.ca ≤ℤ n.ca
+
+-- How the number of one edge, and those of the three, change from a pixel's centre to its sample k.
+abbrev pub sample_change : Point → Point → List (ℤ × ℤ) → ℕ → ℤ
+sample_change a b offsets k = let o : ℤ × ℤ = slice_index_or offsets k (pos 0, pos 0) in edge_change a b (pos 16 *ℤ o.0) (pos 16 *ℤ o.1)
+
+abbrev pub sample_changes : Triangle → List (ℤ × ℤ) → ℕ → Numbers
+sample_changes t offsets k = let o : ℤ × ℤ = slice_index_or offsets k (pos 0, pos 0) in changes t (pos 16 *ℤ o.0) (pos 16 *ℤ o.1)
 
 -- The numbers at sample k of a pixel with these numbers at its centre.
 abbrev pub at_sample : Triangle → List (ℤ × ℤ) → Numbers → ℕ → Numbers
-at_sample t offsets n k =
-    let o : ℤ × ℤ = slice_index_or offsets k (pos 0, pos 0) in plus_all n (changes t (pos 16 *ℤ o.0) (pos 16 *ℤ o.1))
+at_sample t offsets n k = plus_all n (sample_changes t offsets k)
 
 -- The mask of that pixel.
 abbrev pub mask_of_values_below : Triangle → List (ℤ × ℤ) → Numbers → ℕ → ℕ
@@ -63,3 +89,12 @@ mask_of_values t offsets n = mask_of_values_below t offsets n (length offsets)
 -- The numbers at each sample are within bounds.
 abbrev pub FitsSamples : ℕ → Triangle → List (ℤ × ℤ) → Numbers → Type 0
 FitsSamples reach t offsets n = (k : ℕ) → k < length offsets → IsRoomFor reach (at_sample t offsets n k)
+
+-- The sum of 2^k over the samples k below a number that one edge accepts, of a pixel with this number at its centre.
+abbrev pub accepted_below : Point → Point → List (ℤ × ℤ) → ℤ → ℕ → ℕ
+accepted_below a b offsets n zero = 0
+accepted_below a b offsets n (suc k) = accepted_below a b offsets n k + (if not (int_lt (n +ℤ sample_change a b offsets k) (pos 0)) then 2 ^ k else 0)
+
+-- The number of one edge at each sample is within bounds.
+abbrev pub EdgeFits : ℕ → Point → Point → List (ℤ × ℤ) → ℤ → Type 0
+EdgeFits reach a b offsets n = (k : ℕ) → k < length offsets → unsigned_abs (n +ℤ sample_change a b offsets k) ≤ 14 * (reach * reach)

@@ -12,6 +12,7 @@
 //! Positions are in 1/256 pixel; x grows to the right, and y grows downwards. No call takes memory.
 #![tactic(auto)]
 
+mod bounding_box;
 mod coverage;
 mod depth;
 mod edge;
@@ -22,6 +23,7 @@ mod plane;
 mod point;
 mod reciprocal;
 mod region;
+mod setup;
 mod stepping;
 #[cfg(test)]
 mod tests;
@@ -29,6 +31,7 @@ mod tile;
 mod tile_hits;
 mod tiles;
 mod triangle;
+mod upper_bound;
 mod walk;
 mod width;
 
@@ -41,4 +44,5 @@ pub use point::Point;
 pub use region::{Hit, Region};
 pub use tile_hits::TileHits;
 pub use triangle::ScreenTri;
+pub use upper_bound::most_hits;
 pub use walk::TileWalk;

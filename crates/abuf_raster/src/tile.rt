@@ -1,24 +1,25 @@
 // The hits of a triangle in a tile of at most 8 by 8 pixels.
-ghost use Rattle.std.specs.Prelude.{◌≡◌, if◌then◌else◌, ◌+◌, ◌*◌, ◌^◌, ◌<◌, ◌≤◌, pos, ◌*ℤ◌, ◌<ℤ◌, unsigned_abs, length, take, ◌++◌};
+ghost use Rattle.std.specs.Prelude.{◌≡◌, ℕ, if◌then◌else◌, ◌+◌, ◌*◌, ◌^◌, ◌<◌, ◌≤◌, pos, ◌<ℤ◌, ◌≤ℤ◌, ◌+ℤ◌, length, take, ◌++◌};
 ghost use Rattle.abuf_raster.specs.Edge.{edge_function};
 ghost use Rattle.abuf_raster.specs.Triangle.{AreWithin};
-ghost use Rattle.abuf_raster.specs.Samples.{offsets_of, reach_of, pixel_centre};
-ghost use Rattle.abuf_raster.specs.Values.{values_at, changes, spreads, plus_all, minus_all, IsRoomFor, FitsSamples, mask_of_values, mask_of_values_below};
+ghost use Rattle.abuf_raster.specs.Samples.{offsets_of, pixel_centre};
+ghost use Rattle.abuf_raster.specs.Values.{values_at, AreAtMost, FitsSamples, mask_of_values, accepted_below, sample_change};
 ghost use Rattle.abuf_raster.specs.TrioNumbers.{numbers_of};
-ghost use Rattle.abuf_raster.specs.Walk.{row_hits, block_hits, hit_of, found, full_row, full_hits, tile_middle, IsBlock};
+ghost use Rattle.abuf_raster.specs.Walk.{row_hits, block_hits, hit_of, found, full_row, full_hits, IsTile};
+ghost use Rattle.abuf_raster.specs.Setup.{AreExtremes, IsSetup, IsEdge};
 
-use crate::coverage::sample_place;
 use crate::fragment::Fragment;
 use crate::pattern::Pattern;
 use crate::point::Point;
 use crate::region::Hit;
-use crate::stepping::{Trio, changes, spreads, values_at};
+use crate::setup::{Extremes, Setup, all_extremes, change_to_sample};
+use crate::stepping::{Trio, changes};
 use crate::triangle::ScreenTri;
 use crate::width::Width;
 
-/// A block of at most 8 by 8 pixels.
+/// A tile of at most 8 by 8 pixels.
 #[derive(Clone, Copy)]
-pub(crate) struct Block {
+pub(crate) struct Tile {
     pub(crate) x: u32,
     pub(crate) y: u32,
     pub(crate) w: u32,
@@ -27,50 +28,26 @@ pub(crate) struct Block {
 
 /// The pixels of a row from pixel (x, y) on, at most 8.
 #[derive(Clone, Copy)]
-struct Span {
-    x: u32,
-    y: u32,
-    w: u32,
+pub(crate) struct Span {
+    pub(crate) x: u32,
+    pub(crate) y: u32,
+    pub(crate) w: u32,
 }
 
-/// The number of a primitive, and the pattern that it is sampled in.
+/// An edge of a triangle in positive order, from a to b, and its value at the centre of a pixel.
 #[derive(Clone, Copy)]
-struct Primitive {
+pub(crate) struct Edge<V> {
+    a: Point,
+    b: Point,
+    value: V,
+}
+
+/// The number of a primitive, the pattern that it is sampled in, and its extremes there.
+#[derive(Clone, Copy)]
+struct Primitive<V> {
     number: u32,
     pattern: Pattern,
-}
-
-/// The middle of the centres of the 8 by 8 pixels from pixel (x, y) on.
-fn middle(x: u32, y: u32) -> Point
-    requires x_small { x < 4096 }
-    requires y_small { y < 4096 }
-    ensures { result ≡ tile_middle x y }
-{
-    Point {
-        x: (256 * x + 1024) as i64,
-        y: (256 * y + 1024) as i64,
-    }
-}
-
-/// A distance of so many sixteenths of a pixel.
-#[inline(always)]
-fn sixteenths(offset: i32) -> i64
-    requires { unsigned_abs offset ≤ 8 }
-    ensures value { result ≡ pos 16 *ℤ offset }
-    ensures small { unsigned_abs result ≤ 128 }
-{
-    16 * offset as i64
-}
-
-/// How the values change from a pixel's centre to the sample with this offset.
-#[inline(always)]
-fn changes_to_sample<V: Width>(t: &ScreenTri, offset: (i32, i32)) -> Trio<V>
-    requires wide { 2 ^ 22 ≤ V.reach }
-    requires near { AreWithin V.reach t.now }
-    requires small { (unsigned_abs offset.0 ≤ 8) × (unsigned_abs offset.1 ≤ 8) }
-    ensures { numbers_of V.number result ≡ changes t.now (pos 16 *ℤ offset.0) (pos 16 *ℤ offset.1) }
-{
-    changes::<V>(t, sixteenths(offset.0), sixteenths(offset.1))
+    samples: Extremes<V>,
 }
 
 /// Bit k, where it is set.
@@ -82,72 +59,80 @@ fn bit(set: bool, k: u32) -> u16
     (set as u16) << k
 }
 
-/// The mask of a pixel with these values at its centre, from sample `from` on and up to sample `to`, put to that of the
-/// samples before.
+/// The samples that the edge accepts, from sample `from` on and up to sample `to`, put to those before.
 #[inline(always)]
-fn more_samples<V: Width>(
-    t: &ScreenTri,
-    pattern: Pattern,
-    at: Trio<V>,
-    from: u32,
-    to: u32,
-    before: u16,
-) -> u16
+fn more_samples<V: Width>(edge: Edge<V>, pattern: Pattern, from: u32, to: u32, before: u16) -> u16
     requires wide { 2 ^ 22 ≤ V.reach }
-    requires near { AreWithin V.reach t.now }
-    requires fits { FitsSamples V.reach t.now (offsets_of pattern) (numbers_of V.number at) }
+    requires edge { IsEdge V.number V.reach (offsets_of pattern) edge }
     requires order { from ≤ to }
     requires end { to ≤ length (offsets_of pattern) }
-    requires before { before ≡ mask_of_values_below t.now (offsets_of pattern) (numbers_of V.number at) from }
-    ensures { result ≡ mask_of_values_below t.now (offsets_of pattern) (numbers_of V.number at) to }
+    requires before { before ≡ accepted_below edge.a edge.b (offsets_of pattern) (V.number edge.value) from }
+    ensures { result ≡ accepted_below edge.a edge.b (offsets_of pattern) (V.number edge.value) to }
 {
     let mut mask = before;
     for k in from..to {
-        let covered = at
-            .plus(changes_to_sample::<V>(t, pattern.offset(k)))
-            .none_below();
-        mask += bit(covered, k);
+        let change = change_to_sample::<V>(edge.a, edge.b, pattern, k);
+        mask += bit(!edge.value.plus(change).is_below_zero(), k);
     }
     mask
 }
 
-/// The mask of a pixel with these values at its centre, sample by sample.
+/// The samples that the edge accepts, each tested, or all where the least of its values isn't below 0.
 #[inline(always)]
-fn tested_mask<V: Width>(t: &ScreenTri, pattern: Pattern, at: Trio<V>) -> u16
+fn accepted<V: Width>(edge: Edge<V>, pattern: Pattern, least: V) -> u16
     requires wide { 2 ^ 22 ≤ V.reach }
-    requires near { AreWithin V.reach t.now }
-    requires fits { FitsSamples V.reach t.now (offsets_of pattern) (numbers_of V.number at) }
-    ensures { result ≡ mask_of_values t.now (offsets_of pattern) (numbers_of V.number at) }
+    requires edge { IsEdge V.number V.reach (offsets_of pattern) edge }
+    requires least { (k : ℕ) → k < length (offsets_of pattern) → V.number least ≤ℤ (V.number edge.value +ℤ sample_change edge.a edge.b (offsets_of pattern) k) }
+    ensures { result ≡ accepted_below edge.a edge.b (offsets_of pattern) (V.number edge.value) (length (offsets_of pattern)) }
 {
     let size = pattern.size();
-    if size > 8 {
+    if !least.is_below_zero() {
+        pattern.full_mask()
+    } else if size > 8 {
         // Two short loops are unrolled where a long one is not.
-        let half = more_samples(t, pattern, at, 0, 8, 0);
-        more_samples(t, pattern, at, 8, size, half)
+        let half = more_samples(edge, pattern, 0, 8, 0);
+        more_samples(edge, pattern, 8, size, half)
     } else {
-        more_samples(t, pattern, at, 0, size, 0)
+        more_samples(edge, pattern, 0, size, 0)
     }
 }
 
-/// The mask of a pixel with these values at its centre: 0 where an edge accepts nothing in the pixel, all samples where
-/// the three edges accept everything in it.
+/// The mask of a pixel with these values at its centre: 0 where an edge accepts none of its samples, all where the three
+/// edges accept all. Else the samples are tested by the edges that cross them, mostly one.
 #[inline(always)]
-fn pixel_mask<V: Width>(t: &ScreenTri, pattern: Pattern, margin: Trio<V>, at: Trio<V>) -> u16
+fn pixel_mask<V: Width>(t: &ScreenTri, pattern: Pattern, samples: Extremes<V>, at: Trio<V>) -> u16
     requires wide { 2 ^ 22 ≤ V.reach }
     requires near { AreWithin V.reach t.now }
+    requires samples { AreExtremes V.number V.reach t.now (offsets_of pattern) (length (offsets_of pattern)) samples }
     requires fits { FitsSamples V.reach t.now (offsets_of pattern) (numbers_of V.number at) }
-    requires more { IsRoomFor V.reach (plus_all (numbers_of V.number at) (numbers_of V.number margin)) }
-    requires less { IsRoomFor V.reach (minus_all (numbers_of V.number at) (numbers_of V.number margin)) }
-    requires margin { numbers_of V.number margin ≡ spreads t.now (16 * reach_of pattern) }
+    requires room { AreAtMost (9 * (V.reach * V.reach)) (numbers_of V.number at) }
     ensures { result ≡ mask_of_values t.now (offsets_of pattern) (numbers_of V.number at) }
 {
-    if !at.plus(margin).none_below() {
-        0
-    } else if at.minus(margin).none_below() {
-        pattern.full_mask()
-    } else {
-        tested_mask(t, pattern, at)
+    if !at.plus(samples.greatest).none_below() {
+        return 0;
     }
+    let least = at.plus(samples.least);
+    if least.none_below() {
+        return pattern.full_mask();
+    }
+    let ab = Edge {
+        a: t.a,
+        b: t.b,
+        value: at.ab,
+    };
+    let bc = Edge {
+        a: t.b,
+        b: t.c,
+        value: at.bc,
+    };
+    let ca = Edge {
+        a: t.c,
+        b: t.a,
+        value: at.ca,
+    };
+    accepted(ab, pattern, least.ab)
+        & accepted(bc, pattern, least.bc)
+        & accepted(ca, pattern, least.ca)
 }
 
 /// A hit, or none where the mask is 0, put at place `count` of the hits.
@@ -169,7 +154,7 @@ fn put(hits: &mut [Hit; 64], count: usize, prim: u32, x: u32, y: u32, mask: u16)
 #[inline(always)]
 fn row<V: Width>(
     t: &ScreenTri,
-    primitive: Primitive,
+    primitive: Primitive<V>,
     span: Span,
     start: Trio<V>,
     hits: &mut [Hit; 64],
@@ -178,6 +163,7 @@ fn row<V: Width>(
     requires wide { 2 ^ 22 ≤ V.reach }
     requires near { AreWithin V.reach t.now }
     requires positive { pos 0 <ℤ edge_function t.now.a t.now.b t.now.c }
+    requires samples { AreExtremes V.number V.reach t.now (offsets_of primitive.pattern) (length (offsets_of primitive.pattern)) primitive.samples }
     requires start { numbers_of V.number start ≡ values_at t.now (pixel_centre span.x span.y) }
     requires x_small { span.x + span.w ≤ 4096 }
     requires y_small { span.y < 4096 }
@@ -186,45 +172,42 @@ fn row<V: Width>(
     ensures hits { take result hits.new ≡ take count hits.old ++ row_hits t.now primitive.number (offsets_of primitive.pattern) span.x span.w span.y }
 {
     let right = changes::<V>(t, 256, 0);
-    let margin = spreads::<V>(t, 16 * primitive.pattern.reach());
     let mut at = start;
     let mut count = count;
     for column in 0..span.w {
-        let mask = pixel_mask(t, primitive.pattern, margin, at);
+        let mask = pixel_mask(t, primitive.pattern, primitive.samples, at);
         count = put(hits, count, primitive.number, span.x + column, span.y, mask);
         at = at.plus(right);
     }
     count
 }
 
-/// The hits in a block of at most 8 by 8 pixels, each pixel tested.
+/// The hits in a tile whose first pixel has these values at its centre, each pixel tested.
 #[inline(always)]
-fn tested_block<V: Width>(
+fn tested_tile<V: Width>(
     t: &ScreenTri,
-    prim: u32,
-    pattern: Pattern,
-    block: Block,
+    primitive: Primitive<V>,
+    tile: Tile,
+    start: Trio<V>,
     hits: &mut [Hit; 64],
 ) -> usize
     requires wide { 2 ^ 22 ≤ V.reach }
     requires near { AreWithin V.reach t.now }
     requires positive { pos 0 <ℤ edge_function t.now.a t.now.b t.now.c }
-    requires block { IsBlock block }
+    requires samples { AreExtremes V.number V.reach t.now (offsets_of primitive.pattern) (length (offsets_of primitive.pattern)) primitive.samples }
+    requires tile { IsTile tile }
+    requires start { numbers_of V.number start ≡ values_at t.now (pixel_centre tile.x tile.y) }
     ensures room { result ≤ 64 }
-    ensures hits { take result hits.new ≡ block_hits t.now prim (offsets_of pattern) block.x block.w block.y block.h }
+    ensures hits { take result hits.new ≡ block_hits t.now primitive.number (offsets_of primitive.pattern) tile.x tile.w tile.y tile.h }
 {
-    let primitive = Primitive {
-        number: prim,
-        pattern,
-    };
     let down = changes::<V>(t, 0, 256);
-    let mut at = values_at::<V>(t, sample_place((0, 0), block.x, block.y));
+    let mut at = start;
     let mut count = 0;
-    for line in 0..block.h {
+    for line in 0..tile.h {
         let span = Span {
-            x: block.x,
-            y: block.y + line,
-            w: block.w,
+            x: tile.x,
+            y: tile.y + line,
+            w: tile.w,
         };
         count = row(t, primitive, span, at, hits, count);
         at = at.plus(down);
@@ -248,57 +231,110 @@ fn full_row(prim: u32, mask: u16, span: Span, hits: &mut [Hit; 64], count: usize
     count
 }
 
-/// The hits in a block of at most 8 by 8 pixels, which all have one mask.
+/// The hits in a tile whose pixels all have one mask.
 #[inline(never)]
-fn full_block(prim: u32, mask: u16, block: Block, hits: &mut [Hit; 64]) -> usize
-    requires block { IsBlock block }
+fn full_tile(prim: u32, mask: u16, tile: Tile, hits: &mut [Hit; 64]) -> usize
+    requires tile { IsTile tile }
     requires some { 0 < mask }
     ensures room { result ≤ 64 }
-    ensures hits { take result hits.new ≡ full_hits prim mask block.x block.w block.y block.h }
+    ensures hits { take result hits.new ≡ full_hits prim mask tile.x tile.w tile.y tile.h }
 {
     let mut count = 0;
-    for line in 0..block.h {
+    for line in 0..tile.h {
         let span = Span {
-            x: block.x,
-            y: block.y + line,
-            w: block.w,
+            x: tile.x,
+            y: tile.y + line,
+            w: tile.w,
         };
         count = full_row(prim, mask, span, hits, count);
     }
     count
 }
 
-/// The hits of a triangle in positive order in a block of at most 8 by 8 pixels: none where an edge accepts nothing in it,
-/// every pixel with all samples where the three edges accept everything in it.
+/// The hits of a triangle in positive order in a tile: none where an edge accepts no sample in it, every pixel with all
+/// samples where the three edges accept all.
 #[inline(never)]
-pub(crate) fn block_by<V: Width>(
+pub(crate) fn tile_by<V: Width>(
     t: &ScreenTri,
+    setup: &Setup<V>,
     prim: u32,
     pattern: Pattern,
-    block: Block,
+    tile: Tile,
     hits: &mut [Hit; 64],
 ) -> usize
     requires wide { 2 ^ 22 ≤ V.reach }
     requires near { AreWithin V.reach t.now }
     requires positive { pos 0 <ℤ edge_function t.now.a t.now.b t.now.c }
-    requires block { IsBlock block }
+    requires setup { IsSetup V.number V.reach t.now (offsets_of pattern) setup.now }
+    requires tile { IsTile tile }
     ensures room { result ≤ 64 }
-    ensures hits { take result hits.new ≡ block_hits t.now prim (offsets_of pattern) block.x block.w block.y block.h }
+    ensures hits { take result hits.new ≡ block_hits t.now prim (offsets_of pattern) tile.x tile.w tile.y tile.h }
 {
-    let middle = values_at::<V>(t, middle(block.x, block.y));
-    let spread = spreads::<V>(t, 896 + 16 * pattern.reach());
-    if !middle.plus(spread).none_below() {
+    let start = setup.values_at(t, tile.x, tile.y);
+    if setup.rejects(t, start, tile) {
         return 0;
     }
-    if middle.minus(spread).none_below() {
-        return full_block(prim, pattern.full_mask(), block, hits);
+    if setup.accepts(t, start, tile) {
+        return full_tile(prim, pattern.full_mask(), tile, hits);
     }
-    // A body for each pattern, so that its offsets are constants there.
+    let samples = setup.samples;
+    let number = prim;
+    // A body for each pattern, so that its offsets are constants there. A sample at the centre has no extremes.
     match pattern {
-        Pattern::One => tested_block::<V>(t, prim, Pattern::One, block, hits),
-        Pattern::Two => tested_block::<V>(t, prim, Pattern::Two, block, hits),
-        Pattern::Four => tested_block::<V>(t, prim, Pattern::Four, block, hits),
-        Pattern::Eight => tested_block::<V>(t, prim, Pattern::Eight, block, hits),
-        Pattern::Sixteen => tested_block::<V>(t, prim, Pattern::Sixteen, block, hits),
+        Pattern::One => tested_tile(
+            t,
+            Primitive {
+                number,
+                pattern: Pattern::One,
+                samples: all_extremes(t, Pattern::One),
+            },
+            tile,
+            start,
+            hits,
+        ),
+        Pattern::Two => tested_tile(
+            t,
+            Primitive {
+                number,
+                pattern: Pattern::Two,
+                samples,
+            },
+            tile,
+            start,
+            hits,
+        ),
+        Pattern::Four => tested_tile(
+            t,
+            Primitive {
+                number,
+                pattern: Pattern::Four,
+                samples,
+            },
+            tile,
+            start,
+            hits,
+        ),
+        Pattern::Eight => tested_tile(
+            t,
+            Primitive {
+                number,
+                pattern: Pattern::Eight,
+                samples,
+            },
+            tile,
+            start,
+            hits,
+        ),
+        Pattern::Sixteen => tested_tile(
+            t,
+            Primitive {
+                number,
+                pattern: Pattern::Sixteen,
+                samples,
+            },
+            tile,
+            start,
+            hits,
+        ),
     }
 }

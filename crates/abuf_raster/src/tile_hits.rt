@@ -52,7 +52,7 @@ impl TileHits {
         ensures long { length hits.new ≡ 64 }
     {
         while !self.tiles.is_done() {
-            let count = self.tiles.next_block(hits);
+            let count = self.tiles.next_tile(hits);
             if count > 0 {
                 return Some(count);
             }

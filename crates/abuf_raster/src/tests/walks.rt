@@ -2,7 +2,7 @@
 ghost use Rattle.std.specs.Prelude.{◌<◌};
 ghost use Rattle.abuf_raster.specs.Region.{IsRegion};
 
-use crate::{Fragment, Hit, Pattern, Region, ScreenTri, TileHits, TileWalk, mask_at};
+use crate::{Fragment, Hit, Pattern, Region, ScreenTri, TileHits, TileWalk, mask_at, most_hits};
 use std::test::Fail;
 
 const FOUR_BY_FOUR: Region = Region {
@@ -132,6 +132,22 @@ fn a_walk_over_a_part_of_a_vast_triangle(rt: HostRuntime) -> Result<(), Fail> {
     for pattern in PATTERNS {
         assert!(rt; gives_the_masks(&vast, ODD, pattern));
     }
+    Ok(())
+}
+
+// A triangle of 6 pixels in a box of 16, the region that a larger one holds, and one of no area.
+#[test]
+fn no_fewer_than_the_hits(rt: HostRuntime) -> Result<(), Fail> {
+    let t = ScreenTri::new([0, 1024, 0], [0, 0, 1024], [0; 3]).ok_or("t")?;
+    let most = most_hits(&t, ODD, Pattern::One);
+    assert!(rt; most <= 2, "of the 16 pixels 2 are in the region");
+    let most = most_hits(&t, FOUR_BY_FOUR, Pattern::Eight);
+    assert!(rt; 10 <= most && most <= 16);
+    let around = ScreenTri::new([-90000, 90000, 0], [-50000, -50000, 90000], [0; 3]);
+    let around = around.ok_or("around")?;
+    assert_eq!(rt; most_hits(&around, ODD, Pattern::One), 999);
+    let line = ScreenTri::new([0, 5000, 10000], [0, 2500, 5000], [0; 3]).ok_or("line")?;
+    assert_eq!(rt; most_hits(&line, ODD, Pattern::Sixteen), 0);
     Ok(())
 }
 

@@ -1,12 +1,11 @@
 use Rattle.std.proofs.Common.{◌≡◌, ◌+◌, ◌*◌, ◌++◌, List, ℕ, length, take, arith, ap, ap₂, sym, ◌∙◌, append_assoc, append-nil, subst}
 use Rattle.abuf_raster.specs.declared.region.Hit.{Hit}
-use Rattle.abuf_raster.specs.Samples.{offsets_of, pixel_centre, reach_of}
+use Rattle.abuf_raster.specs.Samples.{offsets_of, pixel_centre}
 use Rattle.abuf_raster.specs.Coverage.{mask}
-use Rattle.abuf_raster.specs.Values.{Numbers, values_at, plus_all, minus_all, spreads, IsRoomFor, FitsSamples, mask_of_values}
+use Rattle.abuf_raster.specs.Values.{Numbers, values_at, plus_all, AreAtMost, IsRoomFor, FitsSamples, mask_of_values}
 use Rattle.abuf_raster.specs.TrioNumbers.{numbers_of}
 use Rattle.abuf_raster.specs.Walk.{row_hits, hit_of, found}
-use Rattle.abuf_raster.proofs.Rooms.{spread_fits}
-use Rattle.abuf_raster.proofs.Changes.{values_right, mask_values, values_room, centre_near, samples_fit, reach_small}
+use Rattle.abuf_raster.proofs.Changes.{values_right, mask_values, values_room, values_small, centre_near, samples_fit}
 use Rattle.abuf_raster.proofs.Blocks.{row_more}
 use Rattle.abuf_raster.proofs.tile.row.Goals as goal
 
@@ -22,17 +21,10 @@ pixel_mask-mask-requires-clause-fits g c =
     subst (FitsSamples g.V.Width.reach c.args.t.now (offsets_of c.args.primitive.pattern)) (sym c.loop-column.invariant.at)
     (samples_fit g.V.Width.reach c.args.t.now c.args.primitive.pattern (c.args.span.x + c.loop-column.column) c.args.span.y c.requires.wide c.requires.near (omega arith) (omega arith))
 
-pub pixel_mask-mask-requires-clause-more : goal.pixel_mask-mask-requires-clause-more
-pixel_mask-mask-requires-clause-more g c =
-    let e : plus_all (numbers_of g.V.Width.number c.loop-column.at) (numbers_of g.V.Width.number c.spreads-margin.result) ≡ plus_all (values_at c.args.t.now (pixel_centre (c.args.span.x + c.loop-column.column) c.args.span.y)) (spreads c.args.t.now (16 * reach_of c.args.primitive.pattern)) =
-    ap₂ plus_all c.loop-column.invariant.at (c.spreads-margin.ensures ∙ ap (λ (r : ℕ). spreads c.args.t.now (16 * r)) c.reach.ensures) in
-    subst (IsRoomFor g.V.Width.reach) (sym e) (spread_fits g.V.Width.reach c.args.t.now (pixel_centre (c.args.span.x + c.loop-column.column) c.args.span.y) (16 * reach_of c.args.primitive.pattern) c.requires.wide c.requires.near (centre_near g.V.Width.reach (c.args.span.x + c.loop-column.column) c.args.span.y c.requires.wide (omega arith) (omega arith)) (omega (arith, reach_small c.args.primitive.pattern))).0
-
-pub pixel_mask-mask-requires-clause-less : goal.pixel_mask-mask-requires-clause-less
-pixel_mask-mask-requires-clause-less g c =
-    let e : minus_all (numbers_of g.V.Width.number c.loop-column.at) (numbers_of g.V.Width.number c.spreads-margin.result) ≡ minus_all (values_at c.args.t.now (pixel_centre (c.args.span.x + c.loop-column.column) c.args.span.y)) (spreads c.args.t.now (16 * reach_of c.args.primitive.pattern)) =
-    ap₂ minus_all c.loop-column.invariant.at (c.spreads-margin.ensures ∙ ap (λ (r : ℕ). spreads c.args.t.now (16 * r)) c.reach.ensures) in
-    subst (IsRoomFor g.V.Width.reach) (sym e) (spread_fits g.V.Width.reach c.args.t.now (pixel_centre (c.args.span.x + c.loop-column.column) c.args.span.y) (16 * reach_of c.args.primitive.pattern) c.requires.wide c.requires.near (centre_near g.V.Width.reach (c.args.span.x + c.loop-column.column) c.args.span.y c.requires.wide (omega arith) (omega arith)) (omega (arith, reach_small c.args.primitive.pattern))).1
+pub pixel_mask-mask-requires-clause-room : goal.pixel_mask-mask-requires-clause-room
+pixel_mask-mask-requires-clause-room g c =
+    subst (AreAtMost (9 * (g.V.Width.reach * g.V.Width.reach))) (sym c.loop-column.invariant.at)
+    (values_small g.V.Width.reach c.args.t.now (pixel_centre (c.args.span.x + c.loop-column.column) c.args.span.y) c.requires.wide c.requires.near (centre_near g.V.Width.reach (c.args.span.x + c.loop-column.column) c.args.span.y c.requires.wide (omega arith) (omega arith)))
 
 pub plus-at-requires : goal.plus-at-requires
 plus-at-requires g c =

@@ -18,7 +18,7 @@ returns-then-is_done-clause-steps c =
 pub loop-self-preserved : goal.loop-self-preserved
 loop-self-preserved c =
     let w = c.loop-self.self-inside in
-    let n = c.next_block-self-inside in
+    let n = c.next_tile-self-inside in
     let none : drop w.at (take w.count w.hits) ++ hits_left w.tiles ≡ hits_left w.tiles =
     ap (λ (xs : List Hit). xs ++ hits_left w.tiles) (none_behind w.hits w.at w.count c.loop-self-test.true) in
     record {

@@ -1,0 +1,40 @@
+-- What a setup keeps of a triangle in positive order.
+use Rattle.std.specs.Prelude.{◌≡◌, ℕ, ◌-◌, ◌*◌, ◌^◌, ◌<◌, List, length, ℤ}
+use Rattle.abuf_raster.specs.declared.setup.Extremes.{Extremes}
+use Rattle.abuf_raster.specs.declared.setup.Setup.{Setup}
+use Rattle.abuf_raster.specs.Triangle.{Triangle, IsWithin}
+use Rattle.abuf_raster.specs.declared.tile.Edge.{Edge}
+use Rattle.abuf_raster.specs.declared.tile.Tile.{Tile}
+use Rattle.abuf_raster.specs.Samples.{pixel_centre}
+use Rattle.abuf_raster.specs.Values.{Numbers, values_at, rises, falls, plus_all, sample_changes, AreUp, AreAtMost, EdgeFits}
+use Rattle.abuf_raster.specs.TrioNumbers.{numbers_of}
+
+-- The changes to the samples below a number lie between two bounds, which fit a width of this reach.
+pub record AreBetween (reach : ℕ) (t : Triangle) (offsets : List (ℤ × ℤ)) (count : ℕ) (least greatest : Numbers) : Type 0 where
+  pub low : (k : ℕ) → k < count → AreUp least (sample_changes t offsets k)
+  pub high : (k : ℕ) → k < count → AreUp (sample_changes t offsets k) greatest
+  pub least_small : AreAtMost (reach * reach) least
+  pub greatest_small : AreAtMost (reach * reach) greatest
+
+abbrev pub AreExtremes : {V : Type 0} → (V → ℤ) → ℕ → Triangle → List (ℤ × ℤ) → ℕ → Extremes V → Type 0
+AreExtremes number reach t offsets count e = AreBetween reach t offsets count (numbers_of number e.least) (numbers_of number e.greatest)
+
+-- It has the values at the centre of pixel (0, 0), and bounds of the changes to all samples.
+pub record IsSetup {V : Type 0} (number : V → ℤ) (reach : ℕ) (t : Triangle) (offsets : List (ℤ × ℤ)) (s : Setup V) : Type 0 where
+  pub start : numbers_of number s.start ≡ values_at t (pixel_centre 0 0)
+  pub samples : AreExtremes number reach t offsets (length offsets) s.samples
+
+-- What an edge with a value keeps to.
+pub record IsEdge {V : Type 0} (number : V → ℤ) (reach : ℕ) (offsets : List (ℤ × ℤ)) (e : Edge V) : Type 0 where
+  pub a_near : IsWithin reach e.a
+  pub b_near : IsWithin reach e.b
+  pub a_small : IsWithin (2 ^ 45) e.a
+  pub b_small : IsWithin (2 ^ 45) e.b
+  pub fits : EdgeFits reach e.a e.b offsets (number e.value)
+
+-- The greatest and the least numbers in a tile, from those at its first pixel and the extremes in a pixel.
+abbrev pub highest : Triangle → Numbers → Tile → Numbers → Numbers
+highest t n tile greatest = plus_all (plus_all n (rises t (tile.w - 1) (tile.h - 1))) greatest
+
+abbrev pub lowest : Triangle → Numbers → Tile → Numbers → Numbers
+lowest t n tile least = plus_all (plus_all n (falls t (tile.w - 1) (tile.h - 1))) least

@@ -1,0 +1,140 @@
+// The box of pixels around a triangle.
+ghost use Rattle.std.specs.Prelude.{◌≡◌, ℕ, ◌+◌, ◌*◌, ◌^◌, ◌<◌, ◌≤◌, pos, ◌+ℤ◌, ◌-ℤ◌, ◌≤ℤ◌, ◌<ℤ◌, unsigned_abs, max, IsTrue, ◌↔◌, ◌⊎◌};
+ghost use Rattle.abuf_raster.specs.Region.{IsRegion};
+ghost use Rattle.abuf_raster.specs.Samples.{offsets_of};
+ghost use Rattle.abuf_raster.specs.BoundingBox.{IsBefore, IsBehind, IsBoxOf};
+
+use crate::pattern::Pattern;
+use crate::region::Region;
+use crate::triangle::ScreenTri;
+
+/// The pixels from column `left` to the one before column `right`, in the rows from `top` to the one before `bottom`.
+#[derive(Clone, Copy)]
+pub(crate) struct BoundingBox {
+    pub(crate) left: u32,
+    pub(crate) right: u32,
+    pub(crate) top: u32,
+    pub(crate) bottom: u32,
+}
+
+/// The number of the pixel that holds this coordinate, held from `start` to `end`.
+fn pixel_of(z: i64, start: u32, end: u32) -> u32
+    requires z_small { unsigned_abs z < 2 ^ 46 }
+    requires order { start ≤ end }
+    requires end_small { end ≤ 4096 }
+    ensures low { start ≤ result }
+    ensures high { result ≤ end }
+    ensures before { (p : ℕ) → start ≤ p → p < result → pos (256 * p + 256) ≤ℤ z }
+    ensures behind { (p : ℕ) → result ≤ p → p < end → z <ℤ pos (256 * p + 256) }
+{
+    if z < 256 * start as i64 {
+        start
+    } else if z < 256 * end as i64 {
+        (z / 256) as u32
+    } else {
+        end
+    }
+}
+
+/// The least of three coordinates.
+fn least(x: i64, y: i64, z: i64) -> i64
+    ensures x { result ≤ℤ x }
+    ensures y { result ≤ℤ y }
+    ensures z { result ≤ℤ z }
+    ensures bound { unsigned_abs result ≤ max (unsigned_abs x) (max (unsigned_abs y) (unsigned_abs z)) }
+{
+    let least = if y < x { y } else { x };
+    if z < least { z } else { least }
+}
+
+/// The greatest of three coordinates.
+fn greatest(x: i64, y: i64, z: i64) -> i64
+    ensures x { x ≤ℤ result }
+    ensures y { y ≤ℤ result }
+    ensures z { z ≤ℤ result }
+    ensures bound { unsigned_abs result ≤ max (unsigned_abs x) (max (unsigned_abs y) (unsigned_abs z)) }
+{
+    let greatest = if x < y { y } else { x };
+    if greatest < z { z } else { greatest }
+}
+
+/// The coordinate from which the pixel is told that begins with a margin before it.
+fn lowered(z: i64, margin: u32) -> i64
+    requires z_small { unsigned_abs z < 2 ^ 45 }
+    requires margin_small { margin ≤ 128 }
+    ensures value { result ≡ z +ℤ pos 127 -ℤ pos margin }
+    ensures small { unsigned_abs result < 2 ^ 46 }
+{
+    z + 127 - margin as i64
+}
+
+/// The same, for a margin behind it.
+fn raised(z: i64, margin: u32) -> i64
+    requires z_small { unsigned_abs z < 2 ^ 45 }
+    requires margin_small { margin ≤ 128 }
+    ensures value { result ≡ z +ℤ pos 128 +ℤ pos margin }
+    ensures small { unsigned_abs result < 2 ^ 46 }
+{
+    z + 128 + margin as i64
+}
+
+/// The first pixel from `start` on, along one direction, that is not before a triangle with these coordinates.
+fn first_pixel(x: i64, y: i64, z: i64, margin: u32, start: u32, end: u32) -> u32
+    requires x_small { unsigned_abs x < 2 ^ 45 }
+    requires y_small { unsigned_abs y < 2 ^ 45 }
+    requires z_small { unsigned_abs z < 2 ^ 45 }
+    requires margin_small { margin ≤ 128 }
+    requires order { start ≤ end }
+    requires end_small { end ≤ 4096 }
+    ensures low { start ≤ result }
+    ensures high { result ≤ end }
+    ensures before { (p : ℕ) → start ≤ p → p < result → IsBefore p margin x × IsBefore p margin y × IsBefore p margin z }
+{
+    pixel_of(lowered(least(x, y, z), margin), start, end)
+}
+
+/// The first pixel from `start` on, along one direction, that is behind a triangle with these coordinates.
+fn end_pixel(x: i64, y: i64, z: i64, margin: u32, start: u32, end: u32) -> u32
+    requires x_small { unsigned_abs x < 2 ^ 45 }
+    requires y_small { unsigned_abs y < 2 ^ 45 }
+    requires z_small { unsigned_abs z < 2 ^ 45 }
+    requires margin_small { margin ≤ 128 }
+    requires order { start ≤ end }
+    requires end_small { end ≤ 4096 }
+    ensures low { start ≤ result }
+    ensures high { result ≤ end }
+    ensures behind { (p : ℕ) → result ≤ p → p < end → IsBehind p margin x × IsBehind p margin y × IsBehind p margin z }
+{
+    pixel_of(raised(greatest(x, y, z), margin), start, end)
+}
+
+impl BoundingBox {
+    /// The box around a triangle within the region: outside of it the triangle covers no sample of the region.
+    #[inline(always)]
+    pub(crate) fn of(t: &ScreenTri, region: Region, pattern: Pattern) -> BoundingBox
+        requires { IsRegion region }
+        ensures { IsBoxOf t.now (offsets_of pattern) region result }
+    {
+        let margin = 16 * pattern.reach();
+        let end_x = region.x0 + region.w;
+        let end_y = region.y0 + region.h;
+        let left = first_pixel(t.a.x, t.b.x, t.c.x, margin, region.x0, end_x);
+        let right = end_pixel(t.a.x, t.b.x, t.c.x, margin, region.x0, end_x);
+        let top = first_pixel(t.a.y, t.b.y, t.c.y, margin, region.y0, end_y);
+        let bottom = end_pixel(t.a.y, t.b.y, t.c.y, margin, region.y0, end_y);
+        BoundingBox {
+            left,
+            right: right.max(left),
+            top,
+            bottom: bottom.max(top),
+        }
+    }
+
+    /// It has no pixel.
+    #[inline(always)]
+    pub(crate) fn is_empty(self) -> bool
+        ensures { IsTrue result ↔ ((self.left ≡ self.right) ⊎ (self.top ≡ self.bottom)) }
+    {
+        self.left == self.right || self.top == self.bottom
+    }
+}

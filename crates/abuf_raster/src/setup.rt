@@ -1,0 +1,182 @@
+// What is computed once for a triangle, before its tiles are visited.
+ghost use Rattle.std.specs.Prelude.{◌≡◌, ◌*◌, ◌^◌, ◌<◌, ◌≤◌, pos, ◌*ℤ◌, unsigned_abs, length, not};
+ghost use Rattle.abuf_raster.specs.Triangle.{IsWithin, AreWithin};
+ghost use Rattle.abuf_raster.specs.Samples.{offsets_of, pixel_centre};
+ghost use Rattle.abuf_raster.specs.Values.{values_at, none_below, sample_change, sample_changes, AreAtMost};
+ghost use Rattle.abuf_raster.specs.TrioNumbers.{numbers_of};
+ghost use Rattle.abuf_raster.specs.Setup.{AreExtremes, IsSetup, highest, lowest};
+ghost use Rattle.abuf_raster.specs.Walk.{IsTile};
+
+use crate::coverage::sample_place;
+use crate::pattern::Pattern;
+use crate::point::Point;
+use crate::stepping::{Trio, change_of_edge, changes, falls, rises, values_at};
+use crate::tile::Tile;
+use crate::triangle::ScreenTri;
+use crate::width::Width;
+
+/// For each edge, the least and the greatest change of its value from a pixel's centre to a sample of the pixel.
+#[derive(Clone, Copy)]
+pub(crate) struct Extremes<V> {
+    pub(crate) least: Trio<V>,
+    pub(crate) greatest: Trio<V>,
+}
+
+/// The values of the edges of a triangle in positive order at the centre of pixel (0, 0), and their extremes.
+#[derive(Clone, Copy)]
+pub(crate) struct Setup<V> {
+    pub(crate) start: Trio<V>,
+    pub(crate) samples: Extremes<V>,
+}
+
+/// A distance of so many sixteenths of a pixel.
+#[inline(always)]
+fn sixteenths(offset: i32) -> i64
+    requires { unsigned_abs offset ≤ 8 }
+    ensures value { result ≡ pos 16 *ℤ offset }
+    ensures small { unsigned_abs result ≤ 128 }
+{
+    16 * offset as i64
+}
+
+/// How the value of an edge changes from a pixel's centre to sample k.
+#[inline(always)]
+pub(crate) fn change_to_sample<V: Width>(a: Point, b: Point, pattern: Pattern, k: u32) -> V
+    requires wide { 2 ^ 22 ≤ V.reach }
+    requires a_near { IsWithin V.reach a }
+    requires b_near { IsWithin V.reach b }
+    requires a_small { IsWithin (2 ^ 45) a }
+    requires b_small { IsWithin (2 ^ 45) b }
+    requires sample { k < length (offsets_of pattern) }
+    ensures { V.number result ≡ sample_change a b (offsets_of pattern) k }
+{
+    let offset = pattern.offset(k);
+    change_of_edge::<V>(a, b, sixteenths(offset.0), sixteenths(offset.1))
+}
+
+/// How the values of the three edges change.
+#[inline(always)]
+fn changes_to_sample<V: Width>(t: &ScreenTri, pattern: Pattern, k: u32) -> Trio<V>
+    requires wide { 2 ^ 22 ≤ V.reach }
+    requires near { AreWithin V.reach t.now }
+    requires sample { k < length (offsets_of pattern) }
+    ensures { numbers_of V.number result ≡ sample_changes t.now (offsets_of pattern) k }
+{
+    Trio {
+        ab: change_to_sample::<V>(t.a, t.b, pattern, k),
+        bc: change_to_sample::<V>(t.b, t.c, pattern, k),
+        ca: change_to_sample::<V>(t.c, t.a, pattern, k),
+    }
+}
+
+/// The extremes over the samples up to sample `to`, from those up to sample `from`.
+#[inline(always)]
+fn more_extremes<V: Width>(
+    t: &ScreenTri,
+    pattern: Pattern,
+    from: u32,
+    to: u32,
+    before: Extremes<V>,
+) -> Extremes<V>
+    requires wide { 2 ^ 22 ≤ V.reach }
+    requires near { AreWithin V.reach t.now }
+    requires order { from ≤ to }
+    requires end { to ≤ length (offsets_of pattern) }
+    requires before { AreExtremes V.number V.reach t.now (offsets_of pattern) from before }
+    ensures { AreExtremes V.number V.reach t.now (offsets_of pattern) to result }
+{
+    let mut extremes = before;
+    for k in from..to {
+        let change = changes_to_sample::<V>(t, pattern, k);
+        extremes = Extremes {
+            least: extremes.least.lower(change),
+            greatest: extremes.greatest.higher(change),
+        };
+    }
+    extremes
+}
+
+/// The extremes over all samples.
+#[inline(always)]
+pub(crate) fn all_extremes<V: Width>(t: &ScreenTri, pattern: Pattern) -> Extremes<V>
+    requires wide { 2 ^ 22 ≤ V.reach }
+    requires near { AreWithin V.reach t.now }
+    ensures { AreExtremes V.number V.reach t.now (offsets_of pattern) (length (offsets_of pattern)) result }
+{
+    let first = changes_to_sample::<V>(t, pattern, 0);
+    let first = Extremes {
+        least: first,
+        greatest: first,
+    };
+    let size = pattern.size();
+    if size > 8 {
+        // Two short loops are unrolled where a long one is not.
+        let half = more_extremes(t, pattern, 1, 8, first);
+        more_extremes(t, pattern, 8, size, half)
+    } else {
+        more_extremes(t, pattern, 1, size, first)
+    }
+}
+
+impl<V: Width> Setup<V> {
+    pub(crate) fn new(t: &ScreenTri, pattern: Pattern) -> Setup<V>
+        requires wide { 2 ^ 22 ≤ V.reach }
+        requires near { AreWithin V.reach t.now }
+        ensures { IsSetup V.number V.reach t.now (offsets_of pattern) result }
+    {
+        // A body for each pattern, so that its offsets are constants there.
+        let samples = match pattern {
+            Pattern::One => all_extremes::<V>(t, Pattern::One),
+            Pattern::Two => all_extremes::<V>(t, Pattern::Two),
+            Pattern::Four => all_extremes::<V>(t, Pattern::Four),
+            Pattern::Eight => all_extremes::<V>(t, Pattern::Eight),
+            Pattern::Sixteen => all_extremes::<V>(t, Pattern::Sixteen),
+        };
+        Setup {
+            start: values_at::<V>(t, sample_place((0, 0), 0, 0)),
+            samples,
+        }
+    }
+
+    /// The values at the centre of pixel (x, y).
+    #[inline(always)]
+    pub(crate) fn values_at(&self, t: &ScreenTri, x: u32, y: u32) -> Trio<V>
+        requires wide { 2 ^ 22 ≤ V.reach }
+        requires near { AreWithin V.reach t.now }
+        requires start { numbers_of V.number self.now.start ≡ values_at t.now (pixel_centre 0 0) }
+        requires x_small { x < 4096 }
+        requires y_small { y < 4096 }
+        ensures { numbers_of V.number result ≡ values_at t.now (pixel_centre x y) }
+    {
+        self.start
+            .plus(changes::<V>(t, (256 * x) as i64, (256 * y) as i64))
+    }
+
+    /// An edge accepts no sample of the tile, whose first pixel has these values at its centre.
+    #[inline(always)]
+    pub(crate) fn rejects(&self, t: &ScreenTri, start: Trio<V>, tile: Tile) -> bool
+        requires wide { 2 ^ 22 ≤ V.reach }
+        requires near { AreWithin V.reach t.now }
+        requires start { AreAtMost (9 * (V.reach * V.reach)) (numbers_of V.number start) }
+        requires samples { AreAtMost (V.reach * V.reach) (numbers_of V.number self.now.samples.greatest) }
+        requires tile { IsTile tile }
+        ensures { result ≡ not (none_below (highest t.now (numbers_of V.number start) tile (numbers_of V.number self.now.samples.greatest))) }
+    {
+        let highest = start.plus(rises(t, tile.w - 1, tile.h - 1));
+        !highest.plus(self.samples.greatest).none_below()
+    }
+
+    /// The three edges accept all samples of the tile.
+    #[inline(always)]
+    pub(crate) fn accepts(&self, t: &ScreenTri, start: Trio<V>, tile: Tile) -> bool
+        requires wide { 2 ^ 22 ≤ V.reach }
+        requires near { AreWithin V.reach t.now }
+        requires start { AreAtMost (9 * (V.reach * V.reach)) (numbers_of V.number start) }
+        requires samples { AreAtMost (V.reach * V.reach) (numbers_of V.number self.now.samples.least) }
+        requires tile { IsTile tile }
+        ensures { result ≡ none_below (lowest t.now (numbers_of V.number start) tile (numbers_of V.number self.now.samples.least)) }
+    {
+        let lowest = start.plus(falls(t, tile.w - 1, tile.h - 1));
+        lowest.plus(self.samples.least).none_below()
+    }
+}
