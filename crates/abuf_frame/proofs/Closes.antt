@@ -1,9 +1,8 @@
 -- The closed frame.
-use Rattle.std.proofs.lemmas.Bool.Decides.{nat_tests}
-use Rattle.std.proofs.Common.{min, ◌≡◌, ◌≢◌, ℕ, zero, suc, ◌+◌, ◌-◌, ◌*◌, ◌<◌, ◌≤◌, List, [], ◌∷◌, ◌++◌, length, get_or, sym, refl, ap, ◌∙◌, subst, arith, slice_index, slice_index_or, IsPermutation, Bool, cond, eq-eqb, ne_eqb, append_assoc, append-nil, inl, inr, ◌⊎◌}
+use Rattle.std.proofs.Common.{◌≡◌, ◌≢◌, ℕ, zero, suc, ◌+◌, ◌-◌, ◌<◌, ◌≤◌, List, [], ◌∷◌, ◌++◌, length, get_or, sym, refl, ap, ◌∙◌, subst, arith, slice_index, slice_index_or, IsPermutation, Bool, cond, eq-eqb, ne_eqb, append_assoc, append-nil, inl, inr, ◌⊎◌}
 use mathlib.Core.Option.{some, some-injective, some-ne-none}
 use lib.ListN.{get_elem?}
-use Rattle.atomic_table.specs.Table.{State, Seen}
+use Rattle.atomic_table.specs.Table.{Final, State, Seen}
 use Rattle.abuf_frame.specs.declared.view.View.{View}
 use Rattle.abuf_frame.specs.declared.view.Size.{Size}
 use Rattle.std.proofs.Common.{map}
@@ -16,8 +15,7 @@ use Rattle.abuf_frame.specs.Views.{IsSettled, IsWhole, lost}
 use Rattle.abuf_frame.specs.Words.{Sized, head_word, next_word, payload_word}
 use Rattle.abuf_frame.specs.Pass.{AllInRange}
 use Rattle.abuf_frame.proofs.Claims.{all_below}
-use Rattle.abuf_frame.proofs.Ends.{closed_list, count_mine, none_lost, settled_pairs, short_chain, threaded, under_counter, under_threaded, walk_chain, walk_is}
-use Rattle.abuf_frame.proofs.Counting.{Under}
+use Rattle.abuf_frame.proofs.Ends.{closed_list, count_mine, none_lost, settled_pairs, threaded, walk_chain}
 use Rattle.abuf_frame.specs.Draws.{pairs, payloads_at}
 
 pub got : (l : List ℕ) (i a : ℕ) → get_elem? l i ≡ some a → a ≡ get_or l i 0
@@ -35,60 +33,37 @@ pub lists_length : (words : List ℕ) (pixels nodes first count : ℕ) → lengt
 lists_length words pixels nodes first zero = refl
 lists_length words pixels nodes first (suc count) = ap suc (lists_length words pixels nodes (first + 1) count)
 
-pub below_min : (n a b : ℕ) → n < a → n < b → n < min a b
-below_min n a b l m = grind (arith, nat_tests)
-
-under_both : (a b m : ℕ) → ((n : ℕ) → n < a → n < b → n < m) → (ns : List ℕ) → Under a ns → Under b ns → Under m ns
-under_both a b m h [] u v = tt
-under_both a b m h (n ∷ ns) u v = (h n u.0 v.0, under_both a b m h ns u.1 v.1)
-
--- a copy of the words of the nodes below `used`
-module _ (words copy : List ℕ) (pixels nodes used : ℕ) (same : (i : ℕ) → i < 1 + pixels + 2 * used → slice_index copy i ≡ slice_index words i) where
-  threaded_copy : (ns : List ℕ) (here : ℕ) → Threaded words pixels nodes here ns → Under used ns → Threaded copy pixels nodes here ns
-  threaded_copy [] here t u = t
-  threaded_copy (n ∷ ns) here t u = let l = u.0 in (t.0, t.1, subst (λ (m : ℕ). Threaded copy pixels nodes m ns) (sym (same (next_word pixels n) (omega arith))) (threaded_copy ns (slice_index words (next_word pixels n)) t.2 u.1))
-
-  payloads_copy : (ns : List ℕ) → Under used ns → map (λ n. slice_index copy (payload_word pixels n)) ns ≡ map (λ n. slice_index words (payload_word pixels n)) ns
-  payloads_copy [] u = refl
-  payloads_copy (n ∷ ns) u = let l = u.0 in let a = same (payload_word pixels n) (omega arith) in let b = payloads_copy ns u.1 in λ i. a i ∷ b i
-
 abbrev St : Type 0
 St = State (Unit {0}) View
 
+-- what a closed frame promises, of the words that lie under it and the view of the pass that closed it
+abbrev pub Good : Size → View → List ℕ → Type 0
+Good k v ws = Kept ws k.pixels k.nodes × ((p : ℕ) → p < k.pixels → IsPermutation (slice_index_or (lists_from ws k.pixels k.nodes 0 k.pixels) p []) (payloads_at p (pairs v.entries))) × (length v.entries ≤ k.nodes → lost v.entries ≡ 0)
+    × AllSeen (lists_from ws k.pixels k.nodes 0 k.pixels) v.walks
+
 module _ (k : Size) (id : ℕ) (v : View) (whole : IsWhole v) (settled : IsSettled v) (sized : Sized k.pixels k.nodes) (sound : AllInRange k.pixels k.nodes v.entries) where
-  abbrev pub Good : List ℕ → Type 0
-  Good ws = Kept ws k.pixels k.nodes × ((p : ℕ) → p < k.pixels → IsPermutation (slice_index_or (lists_from ws k.pixels k.nodes 0 k.pixels) p []) (payloads_at p (pairs v.entries))) × (length v.entries ≤ k.nodes → lost v.entries ≡ 0)
-      × AllSeen (lists_from ws k.pixels k.nodes 0 k.pixels) v.walks
+  -- the words of the last state of a frame that a whole, settled pass closes
+  module _ (s : St) (h : Seen (Lawful k) id v s) where
+    list_is : (p : ℕ) → p < k.pixels → slice_index_or (lists_from s.words k.pixels k.nodes 0 k.pixels) p [] ≡ payloads_from s.words k.pixels k.nodes (slice_index s.words (head_word p))
+    list_is p on = let zero_is : 0 + p ≡ p = omega arith in
+        lists_at s.words k.pixels k.nodes 0 k.pixels p on ∙ ap (λ (i : ℕ). payloads_from s.words k.pixels k.nodes (slice_index s.words (head_word i))) zero_is
 
-  module _ (s : St) (h : Seen (Lawful k) id v s) (copy : List ℕ) (used : ℕ) (wide : length copy ≡ 1 + k.pixels + 2 * k.nodes) (all : (n : ℕ) → n < length v.entries → n < k.nodes → n < used)
-      (same : (i : ℕ) → i < 1 + k.pixels + 2 * used → slice_index copy i ≡ slice_index s.words i) where
-    under_used : (p : ℕ) → p < k.pixels → Under used (h.0.chain p)
-    under_used p on = let c = count_mine k s h.0 id v h.1 whole in under_both (slice_index s.words 0) k.nodes used (λ n a b. all n (omega arith) b) (h.0.chain p) (under_counter k s h.0 id v h.1 whole settled p on)
-        (under_threaded s.words k.pixels k.nodes (h.0.chain p) (slice_index s.words (head_word p)) (threaded k s h.0 id v h.1 whole settled p on))
-
-    head_copy : (p : ℕ) → p < k.pixels → slice_index copy (head_word p) ≡ slice_index s.words (head_word p)
-    head_copy p on = same (head_word p) (omega arith)
-
-    thread_copy : (p : ℕ) → p < k.pixels → Threaded copy k.pixels k.nodes (slice_index s.words (head_word p)) (h.0.chain p)
-    thread_copy p on = threaded_copy s.words copy k.pixels k.nodes used same (h.0.chain p) (slice_index s.words (head_word p)) (threaded k s h.0 id v h.1 whole settled p on) (under_used p on)
-
-    list_copy : (p : ℕ) → p < k.pixels → slice_index_or (lists_from copy k.pixels k.nodes 0 k.pixels) p [] ≡ payloads_from s.words k.pixels k.nodes (slice_index s.words (head_word p))
-    list_copy p on = let zero_is : 0 + p ≡ p = omega arith in let c : List ℕ = h.0.chain p in let short = short_chain k s h.0 id v h.1 whole settled p on in let at : ℕ = slice_index s.words (head_word p) in
-        lists_at copy k.pixels k.nodes 0 k.pixels p on ∙ (ap (λ (i : ℕ). payloads_from copy k.pixels k.nodes (slice_index copy (head_word i))) zero_is ∙ (ap (payloads_from copy k.pixels k.nodes) (head_copy p on)
-        ∙ (walk_is copy k.pixels k.nodes c at k.nodes (thread_copy p on) short ∙ (payloads_copy s.words copy k.pixels k.nodes used same c (under_used p on) ∙ sym (walk_is s.words k.pixels k.nodes c at k.nodes (threaded k s h.0 id v h.1 whole settled p on) short)))))
-
-    seen : (ws : List Walk) → AreWalks h.0.stage h.0.chain k.pixels ws → AllSeen (lists_from copy k.pixels k.nodes 0 k.pixels) ws
+    seen : (ws : List Walk) → AreWalks h.0.stage h.0.chain k.pixels ws → AllSeen (lists_from s.words k.pixels k.nodes 0 k.pixels) ws
     seen [] a = tt
-    seen (w ∷ ws) a = ((λ z. subst (IsSuffix (map payload_at w.passed)) (sym (list_copy w.pixel a.0.on ∙ walk_chain k s h.0 id v h.1 whole settled w.pixel a.0.on)) (seen_end k s h.0 w a.0 z)), seen ws a.1)
+    seen (w ∷ ws) a = ((λ z. subst (IsSuffix (map payload_at w.passed)) (sym (list_is w.pixel a.0.on ∙ walk_chain k s h.0 id v h.1 whole settled w.pixel a.0.on)) (seen_end k s h.0 w a.0 z)), seen ws a.1)
 
-    pub closes : Good copy
-    closes = (
-      record { sized = sized; wide = wide; chain = h.0.chain; threaded = λ p on. subst (λ (m : ℕ). Threaded copy k.pixels k.nodes m (h.0.chain p)) (sym (head_copy p on)) (thread_copy p on) },
-      (λ p on. subst (λ (l : List ℕ). IsPermutation l (payloads_at p (pairs v.entries))) (sym (list_copy p on))
+    of_state : Good k v s.words
+    of_state = (
+      record { sized = sized; wide = h.0.wide; chain = h.0.chain; threaded = λ p on. threaded k s h.0 id v h.1 whole settled p on },
+      (λ p on. subst (λ (l : List ℕ). IsPermutation l (payloads_at p (pairs v.entries))) (sym (list_is p on))
           (subst (IsPermutation (payloads_from s.words k.pixels k.nodes (slice_index s.words (head_word p)))) (settled_pairs p v.entries settled) (closed_list k s h.0 id v h.1 whole settled p on))),
       (λ l. let c = count_mine k s h.0 id v h.1 whole in none_lost k.pixels k.nodes (slice_index s.words 0) v.entries sound (all_below k s h.0 id v h.1) (omega arith)),
       seen v.walks (h.0.walked id v h.1),
     )
+
+  -- the words of the closed table are those of such a state
+  pub closes : (words : List ℕ) (slots : List (Unit {0})) → Final (Seen (Lawful k) id v) words slots → Good k v words
+  closes words slots f = subst (Good k v) f.2 (of_state f.0 f.1)
 
 module _ (words : List ℕ) (pixels nodes : ℕ) where
   pub record Next (here : ℕ) : Type 0 where

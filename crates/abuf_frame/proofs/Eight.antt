@@ -62,9 +62,9 @@ module _ (words : List ℕ) (pixels nodes : ℕ) where
     pub sum : done ++ payloads_from words pixels most at ≡ all
 
   -- the word at which a walk stands refers to a node of the frame, or is 0
-  pub refers : (at : ℕ) (rest : List ℕ) → length words ≡ 1 + pixels + 2 * nodes → Threaded words pixels nodes at rest → Refers words pixels at
-  refers at [] wide t = let e : at ≡ 0 = t in omega arith
-  refers at (n ∷ ns) wide t = let e = t.0 in let l = t.1 in omega arith
+  pub refers : (at : ℕ) (rest : List ℕ) → nodes ≤ 8388608 → length words ≡ 1 + pixels + 2 * nodes → Threaded words pixels nodes at rest → Refers words pixels at
+  refers at [] few wide t = let e : at ≡ 0 = t in (omega arith, omega arith)
+  refers at (n ∷ ns) few wide t = let e = t.0 in let l = t.1 in (omega arith, omega arith)
 
   -- each walk, from the head of its pixel or at the end
   pub begins : Kept words pixels nodes → (p most at : ℕ) (done : List ℕ) → most ≡ nodes → at ≡ head_or_end words pixels p → done ≡ [] → Walks most at done (slice_index_or (lists_from words pixels nodes 0 pixels) p [])

@@ -11,3 +11,6 @@ pub mod Looks
 pub mod Along
 pub mod Draws
 pub mod Eight
+pub mod Crosses
+pub mod Wrapping
+pub mod Blanks

@@ -11,9 +11,8 @@ pub record Shape : Type 0 where
   pub nodes : ℕ
 
 -- what ties the fields of a frame
-pub record Fits (table : TableId) (key : Size) (pixels nodes spare : ℕ) : Type 0 where
+pub record Fits (table : TableId) (key : Size) (pixels nodes : ℕ) : Type 0 where
   pub sized : Sized pixels nodes
   pub words : table.words ≡ 1 + pixels + 2 * nodes
   pub slots : table.slots ≡ 0
   pub key_is : key ≡ record { pixels = pixels; nodes = nodes }
-  pub spare_is : spare ≡ 1 + pixels + 2 * nodes

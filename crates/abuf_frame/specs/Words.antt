@@ -26,3 +26,7 @@ abbrev pub IsBlank : ℕ → ℕ → List ℕ → Type 0
 IsBlank pixels nodes words = (length words ≡ 1 + pixels + 2 * nodes) × ((i : ℕ) → i < 1 + pixels → slice_index words i ≡ 0)
     × ((n : ℕ) → n < nodes → slice_index words (next_word pixels n) ≡ mark)
     × ((n : ℕ) → n < nodes → slice_index words (payload_word pixels n) ≡ 0)
+
+-- the words of so many nodes at the start
+abbrev pub AreBlank : ℕ → List ℕ → Type 0
+AreBlank count words = (length words ≡ 2 * count) × ((n : ℕ) → n < count → slice_index words (2 * n) ≡ 0) × ((n : ℕ) → n < count → slice_index words (2 * n + 1) ≡ mark)

@@ -1,12 +1,12 @@
 // A frame that is drawn.
 ghost use Rattle.std.specs.Prelude.{◌≡◌, ℕ, ◌+◌, ◌*◌, ◌<◌, ◌≤◌, ◌^◌, IfOk, IfSome, IfNone, IsPermutation, length, slice_index, slice_index_or, []};
-ghost use Rattle.std.specs.Mem.Slots.{slots_items, slots_len, slots_filled, IsFull};
 ghost use Rattle.abuf_frame.specs.Closing.{AllSeen, list_at};
 ghost use Rattle.abuf_frame.specs.Draws.{pairs, payloads_at};
 ghost use Rattle.abuf_frame.specs.Views.{IsSettled, IsWhole, lost};
 
 use crate::frame::Frame;
 use crate::pass::Pass;
+use crate::still::Still;
 use abuf_num::{List, NoMemory};
 use std::alloc::Global;
 use std::marker::Model;
@@ -14,9 +14,12 @@ use std::marker::Model;
 /// A frame that is drawn: its lists don't change any more. A `&Closed` may be shared between threads.
 #[derive(Drop)]
 pub struct Closed {
-    pub(crate) words: Vec<u64>,
+    pub(crate) words: Still,
     pub(crate) pixels: u32,
-    pub(crate) nodes: u32,
+    // How many nodes the words have, which is the most that a walk can pass.
+    pub(crate) table_nodes: u32,
+    // How many the pool has: `full` compares with these.
+    nodes: u32,
     fragments: u64,
 }
 
@@ -25,9 +28,9 @@ impl Model for Closed {
 
     ghost Value = { Ended };
 
-    ghost view = { λ c. record { lists = lists_from c.words.items c.pixels c.nodes 0 c.pixels; pixels = c.pixels; nodes = c.nodes; fragments = c.fragments } };
+    ghost view = { λ c. record { lists = lists_from c.words c.pixels c.table_nodes 0 c.pixels; pixels = c.pixels; nodes = c.nodes; fragments = c.fragments } };
 
-    ghost invariant = { λ c. Kept c.words.items c.pixels c.nodes };
+    ghost invariant = { λ c. Kept c.words c.pixels c.table_nodes };
 }
 
 /// More fragments were drawn than the frame has nodes, so some were lost.
@@ -38,21 +41,9 @@ pub struct Full {
     pub nodes: u32,
 }
 
-// Copies the first words of a closed table.
-fn copy_words(closed: &atomic_table::Closed<(), Global>, words: &mut Vec<u64>, count: usize)
-    requires table { IsFull closed.now.words × (slots_len closed.now.words ≡ length words.old.items) }
-    requires count { count ≤ length words.old.items }
-    ensures length { length words.new.items ≡ length words.old.items }
-    ensures same { (i : ℕ) → i < count → slice_index words.new.items i ≡ slice_index (slots_items closed.now.words) i }
-{
-    for i in 0..count {
-        words[i] = closed.word(i);
-    }
-}
-
 impl Frame {
-    /// Ends the drawing. The pass has to be whole, so that every other was joined into it, and settled. The cost grows with
-    /// the pixels and with the nodes that were claimed, not with those of the frame.
+    /// Ends the drawing. The pass has to be whole, so that every other was joined into it, and settled. It takes
+    /// constant time: the words stay where they are.
     pub fn close(self, pass: Pass) -> Closed
         requires frame { pass.frame ≡ self }
         requires whole { IsWhole pass.view }
@@ -65,7 +56,6 @@ impl Frame {
     {
         let Frame {
             table,
-            spare: mut words,
             pixels,
             nodes,
         } = self;
@@ -77,13 +67,10 @@ impl Frame {
             pixels: _,
             nodes: _,
         } = pass;
-        let closed = table.close_with(place);
-        let used = fragments.min(nodes as u64) as usize;
-        copy_words(&closed, &mut words, 1 + pixels as usize + 2 * used);
-        closed.free();
         Closed {
-            words,
+            words: Still::new(table.close_with(place)),
             pixels,
+            table_nodes: nodes,
             nodes,
             fragments,
         }
@@ -121,6 +108,17 @@ impl Closed {
         }
     }
 
+    /// The closed frame of a pool of more nodes into which the same entries were drawn. A node that was never claimed is in no
+    /// list, so a frame needn't be made with more nodes than can be claimed.
+    pub fn in_larger_pool(self, nodes: u32) -> Closed
+        requires not_full { self.fragments ≤ self.nodes }
+        requires more { (self.nodes ≤ nodes) × (nodes ≤ 8388608) }
+        ensures same { (result.lists ≡ self.lists) × (result.pixels ≡ self.pixels) × (result.fragments ≡ self.fragments) }
+        ensures nodes { result.nodes ≡ nodes }
+    {
+        Closed { nodes, ..self }
+    }
+
     /// The payloads of the pixel's fragments, in the order of the walk from its head: the entry that was swapped in last
     /// stands first, whatever the order of the links. The cost grows with the list.
     pub fn list(&self, alloc: Global, pixel: u32) -> Result<List<u64>, NoMemory>
@@ -140,14 +138,14 @@ impl Closed {
     {
         items.clear();
         let payloads = 1 + self.pixels as usize;
-        let mut at = self.words[1 + pixel as usize];
-        for _ in 0..self.nodes {
+        let mut at = self.words.word(1 + pixel as usize);
+        for _ in 0..self.table_nodes {
             if at == 0 {
                 break;
             }
             let node = payloads + 2 * (at - 1) as usize;
-            items.push(self.words[node])?;
-            at = self.words[node + 1];
+            items.push(self.words.word(node))?;
+            at = self.words.word(node + 1);
         }
         Ok(())
     }

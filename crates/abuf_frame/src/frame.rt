@@ -1,7 +1,7 @@
 // The frame and its start.
 ghost use Rattle.std.specs.Prelude.{◌≡◌, ℕ, ◌+◌, ◌*◌, ◌<◌, ◌≤◌, [], ◌∷◌, ◌++◌, IfOk, OnOk, length, slice_index};
 ghost use Rattle.abuf_frame.specs.Views.{whole_view};
-ghost use Rattle.abuf_frame.specs.Words.{IsBlank, Sized, mark, next_word};
+ghost use Rattle.abuf_frame.specs.Words.{AreBlank, IsBlank, Sized};
 
 use crate::pass::Pass;
 use crate::rule::Lists;
@@ -18,50 +18,52 @@ pub const WHOLE: u64 = 1 << 60;
 /// between threads.
 pub struct Frame {
     pub(crate) table: Table<(), View, Size, Lists, Global>,
-    // As many words again, for the closed frame, so that closing takes no memory.
-    pub(crate) spare: Vec<u64>,
     pub(crate) pixels: u32,
     pub(crate) nodes: u32,
 }
 
 impl Model for Frame {
-    ghost use Rattle.std.specs.Prelude.{length};
     ghost use Rattle.abuf_frame.specs.Frame.{Fits, Shape};
 
     ghost Value = { Shape };
 
     ghost view = { λ f. record { table = f.table.shared.table_id; pixels = f.pixels; nodes = f.nodes } };
 
-    ghost invariant = { λ f. Fits f.table.shared.table_id f.table.shared.key f.pixels f.nodes (length f.spare.items) };
+    ghost invariant = { λ f. Fits f.table.shared.table_id f.table.shared.key f.pixels f.nodes };
 }
 
-// One node more: nothing in its payload, and the mark as its next.
-#[inline(always)]
-fn push_node(words: &mut Vec<u64>) -> Result<(), NoMemory>
-    ensures { OnOk result (words.new.items ≡ words.old.items ++ 0 ∷ mark ∷ []) }
+// 64 nodes as they are at the start.
+fn blank_row() -> [u64; 128]
+    ensures { AreBlank 64 result }
 {
-    words.push(0)?;
-    words.push(u64::MAX)?;
-    Ok(())
+    let mut row = [0; 128];
+    for n in 0..64 {
+        row[2 * n + 1] = u64::MAX;
+    }
+    row
 }
 
-// The words at the start. Each is written once, since a pool takes tens of megabytes.
+// The words at the start. Each is written once, since a pool takes tens of megabytes, and by wide stores, a row of nodes at a time.
 fn blank_words(alloc: Global, pixels: u32, nodes: u32) -> Result<Vec<u64>, NoMemory>
     requires { Sized pixels nodes }
     ensures { IfOk result (λ v. IsBlank pixels nodes v.items) }
 {
     let payloads = 1 + pixels as usize;
-    let mut words = Vec::with_capacity(alloc, payloads + 2 * nodes as usize)?;
+    let nodes = nodes as usize;
+    let mut words = Vec::with_capacity(alloc, payloads + 2 * nodes)?;
     words.resize(payloads, 0)?;
-    for _ in 0..nodes {
-        push_node(&mut words)?;
+    let row = blank_row();
+    for _ in 0..nodes / 64 {
+        words.extend_from_slice(&row)?;
     }
+    words.extend_from_slice(&row[..2 * (nodes % 64)])?;
     Ok(words)
 }
 
 impl Frame {
     /// A frame of 1 to 4194304 pixels, whose lists are empty, and of 1 to 8388608 nodes, with its whole pass, which has no
-    /// entries. It takes two blocks of 8 bytes a pixel and 16 a node; no call on the frame or a pass takes memory after it.
+    /// entries. It keeps one block of 8 bytes a pixel and 16 a node, and takes a second one while it lays out the first; no call on
+    /// the frame or a pass takes memory after it.
     pub fn start(alloc: Global, pixels: u32, nodes: u32) -> Result<(Frame, Pass), NoMemory>
         requires { Sized pixels nodes }
         ensures { IfOk result (λ r. (r.0.pixels ≡ pixels) × (r.0.nodes ≡ nodes) × (r.1.frame ≡ r.0) × (r.1.view ≡ whole_view)) }
@@ -71,7 +73,6 @@ impl Frame {
         let (table, place) = Table::of_words(alloc, words.as_slice(), &size)?;
         let frame = Frame {
             table,
-            spare: words,
             pixels,
             nodes,
         };

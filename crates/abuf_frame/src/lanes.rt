@@ -4,10 +4,11 @@ ghost use Rattle.abuf_frame.specs.Closing.{list_at};
 ghost use Rattle.abuf_frame.specs.Lanes.{Advances, AllAdvance, Refers, head_or_end};
 
 use crate::closed::Closed;
+use crate::still::Still;
 use abuf_num::NoMemory;
 
 // Where the walks along the lists of the eight pixels from this one on begin.
-fn heads(words: &[u64], pixels: u32, pixel: u32) -> [u64; 8]
+fn heads(words: &Still, pixels: u32, pixel: u32) -> [u64; 8]
     requires { pixels < length words.now }
     ensures length { length result ≡ 8 }
     ensures heads { (k : ℕ) → k < 8 → slice_index result k ≡ head_or_end words.now pixels (pixel + k) }
@@ -16,7 +17,7 @@ fn heads(words: &[u64], pixels: u32, pixel: u32) -> [u64; 8]
     for k in 0..8 {
         let there = pixel as usize + k;
         if there < pixels as usize {
-            at[k] = words[1 + there];
+            at[k] = words.word(1 + there);
         }
     }
     at
@@ -42,7 +43,7 @@ fn all_ended(at: &[u64; 8]) -> bool
 
 // Passes the node to which the word refers, if it isn't 0: puts its payload last in the list, and answers its next.
 #[inline(always)]
-fn advance(words: &[u64], pixels: u32, at: u64, list: &mut Vec<u64>) -> Result<u64, NoMemory>
+fn advance(words: &Still, pixels: u32, at: u64, list: &mut Vec<u64>) -> Result<u64, NoMemory>
     requires { Refers words.now pixels at }
     ensures { IfOk result (λ next. Advances words.now pixels at next list.old.items list.new.items) }
 {
@@ -50,14 +51,14 @@ fn advance(words: &[u64], pixels: u32, at: u64, list: &mut Vec<u64>) -> Result<u
         return Ok(0);
     }
     let node = 1 + pixels as usize + 2 * (at - 1) as usize;
-    list.push(words[node])?;
-    Ok(words[node + 1])
+    list.push(words.word(node))?;
+    Ok(words.word(node + 1))
 }
 
 // The same in each lane. No lane's loads wait for those of another.
 #[inline(always)]
 fn advance_all(
-    words: &[u64],
+    words: &Still,
     pixels: u32,
     at: &mut [u64; 8],
     lists: &mut [Vec<u64>; 8],
@@ -82,10 +83,10 @@ impl Closed {
         ensures length { length lists.new ≡ 8 }
         ensures lists { IfOk result (λ _. (k : ℕ) → k < 8 → slice_index_or (map vec_items lists.new) k [] ≡ list_at self.now (pixel + k)) }
     {
-        let words = self.words.as_slice();
+        let words = &self.words;
         let mut at = heads(words, self.pixels, pixel);
         clear_all(lists);
-        for _ in 0..self.nodes {
+        for _ in 0..self.table_nodes {
             if all_ended(&at) {
                 break;
             }

@@ -4,7 +4,7 @@ ghost use Rattle.std.specs.Prelude.{◌≡◌};
 use crate::{Frame, Full, Look};
 use std::array;
 use std::test::Fail;
-use std::thread::join_mut;
+use std::thread::{join_mut, map_indices};
 
 // One step of one of two passes on one pixel: a capital letter is the first pass's claim, fill, swap or link with payload 7, a
 // small one the second's with payload 9.
@@ -275,5 +275,27 @@ fn eight_lists_at_once(rt: HostRuntime) -> Result<(), Fail> {
     assert!(rt; lists[1].as_slice() == [94, 93, 92, 91].as_slice());
     assert!(rt; lists[2].as_slice().is_empty() && lists[3].as_slice().is_empty());
     assert!(rt; lists[7].as_slice().is_empty());
+    Ok(())
+}
+
+#[test]
+fn a_list_on_each_of_two_threads(rt: HostRuntime) -> Result<(), Fail> {
+    let alloc = rt.alloc();
+    let (frame, mut pass) = Frame::start(alloc, 2, 70)?;
+    pass.insert_all(&frame, &[(0, 5), (1, 6), (0, 7)]);
+    let closed = frame.close(pass);
+    let lists = map_indices(&rt, alloc, 2, &|pixel| closed.list(alloc, pixel as u32))?;
+    assert!(rt; lists.len() == 2);
+    Ok(())
+}
+
+#[test]
+fn a_larger_pool(rt: HostRuntime) -> Result<(), Fail> {
+    let alloc = rt.alloc();
+    let (frame, mut pass) = Frame::start(alloc, 1, 2)?;
+    pass.insert_all(&frame, &[(0, 5), (0, 6)]);
+    let closed = frame.close(pass).in_larger_pool(8388608);
+    assert!(rt; closed.fragments() == 2 && closed.full().is_none());
+    assert!(rt; closed.list(alloc, 0)?.as_slice() == [6, 5].as_slice());
     Ok(())
 }
