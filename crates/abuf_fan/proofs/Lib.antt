@@ -4,3 +4,4 @@ pub mod Numbers
 pub mod Taken
 pub mod Serving
 pub mod Halves
+mod Counted

@@ -8,6 +8,8 @@
 //! No two turns of a desk get the same number. Once all are joined, the numbers drawn are those from 0 on, each once, and one
 //! of them is beyond the parts, so each part was drawn by exactly one worker. No worker knows what another drew before that.
 //!
+//! `most_fragments` tells beforehand how many fragments there are at most, so that a frame needn't have more nodes than that.
+//!
 //! That the workers run at the same time is not promised.
 #![tactic(auto)]
 
@@ -16,6 +18,7 @@ mod drawing;
 mod gate;
 #[cfg(test)]
 mod meet;
+mod most;
 mod part;
 mod rule;
 #[cfg(test)]
@@ -24,3 +27,4 @@ mod tests;
 pub use desk::{Desk, Turn};
 pub use drawing::draw_all;
 pub use gate::{Gate, OpenGate};
+pub use most::most_fragments;

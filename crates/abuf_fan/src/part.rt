@@ -5,7 +5,7 @@ ghost use Rattle.abuf_raster.specs.Region.{IsRegion};
 ghost use Rattle.abuf_raster.specs.Hits.{all_fragments};
 ghost use Rattle.abuf_frame.specs.Draws.{Draws};
 
-use abuf_draw::draw;
+use abuf_draw::Brush;
 use abuf_frame::{Frame, Pass};
 use abuf_raster::{Pattern, Region, ScreenTri};
 
@@ -37,9 +37,10 @@ pub(crate) fn draw_part(
     ensures draws { Draws (all_fragments tris.now first (offsets_of pattern) region) pass.old.view pass.new.view }
     ensures few { pass.old.view.credit ≤ pass.new.view.credit + length tris.now * (region.w * region.h) }
 {
+    let mut brush = Brush::new(region, pattern);
     let mut prim = first;
     for t in tris {
-        draw(frame, pass, t, prim, region, pattern);
+        brush.draw(frame, pass, t, prim);
         prim += 1;
     }
 }

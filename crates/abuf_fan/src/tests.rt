@@ -3,7 +3,7 @@ ghost use Rattle.std.specs.Prelude.{◌≡◌, ◌≤◌};
 ghost use Rattle.abuf_frame.specs.Views.{endowment, loose};
 
 use crate::meet::Meet;
-use crate::{Desk, Gate, OpenGate, draw_all};
+use crate::{Desk, Gate, OpenGate, draw_all, most_fragments};
 use abuf_draw::draw;
 use abuf_frame::{Frame, Pass};
 use abuf_raster::{Pattern, Region, ScreenTri};
@@ -73,6 +73,20 @@ fn two_drawers(rt: HostRuntime) -> Result<(), Fail> {
         let list = closed.list(alloc, pixel)?;
         assert!(rt; list.as_slice().len() == 1);
     }
+    Ok(())
+}
+
+/// Both halves of the square lie in its 16 pixels, and have 10 and 6 of them.
+#[test]
+fn no_fewer_than_the_fragments(rt: HostRuntime) -> Result<(), Fail> {
+    let Some((upper, lower)) = halves() else {
+        panic!(rt; "no triangle")
+    };
+    for threads in 1..4 {
+        let most = most_fragments(&rt, &[upper, lower], SQUARE, Pattern::One, threads);
+        assert!(rt; 16 <= most && most <= 32, "by {threads} threads");
+    }
+    assert!(rt; most_fragments(&rt, &[], SQUARE, Pattern::Eight, 64) == 0);
     Ok(())
 }
 
@@ -188,5 +202,45 @@ fn a_desk_of_two_parts_and_one_of_none(rt: HostRuntime) -> Result<(), Fail> {
     assert!(rt; third.is_none() && fourth.is_none());
     let (empty, mut turn) = Desk::start(alloc, 0)?;
     assert!(rt; empty.take(&mut turn).is_none());
+    Ok(())
+}
+
+/// Also with memory refused at any one place: only a call that has what it needs draws, and the other leaves the pass as it was.
+#[test]
+fn refused_memory_draws_nothing(rt: HostRuntime) -> Result<(), Fail> {
+    let alloc = rt.alloc();
+    let Some((upper, lower)) = halves() else {
+        panic!(rt; "no triangle")
+    };
+    let tris = [upper, lower];
+    let (frame, mut pass) = Frame::start(alloc, 16, 32)?;
+    let first = draw_all(
+        &rt,
+        alloc,
+        &frame,
+        &mut pass,
+        &tris,
+        SQUARE,
+        Pattern::One,
+        3,
+        &OpenGate,
+    )
+    .is_ok();
+    let second = draw_all(
+        &rt,
+        alloc,
+        &frame,
+        &mut pass,
+        &tris,
+        SQUARE,
+        Pattern::One,
+        1,
+        &OpenGate,
+    )
+    .is_ok();
+    let closed = frame.close(pass);
+    let drawn = if first && second { 32 } else { 16 };
+    assert!(rt; first || second);
+    assert!(rt; closed.fragments() == drawn && closed.full().is_none());
     Ok(())
 }

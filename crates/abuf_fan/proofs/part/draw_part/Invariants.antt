@@ -6,11 +6,12 @@ use Rattle.abuf_fan.proofs.part.draw_part.Given as goal
 
 abbrev pub invariant-loop-t : goal.invariant-loop-t
 invariant-loop-t l = record {
+  brush : (l.brush.region ≡ l.fn.region) × (l.brush.pattern ≡ l.fn.pattern);
   same : l.pass.frame ≡ l.fn.pass.frame;
   number : l.prim ≡ l.first + l.t-index;
-  room : length (drop l.t-index l.tris) * (l.region.w * l.region.h) ≤ l.pass.view.credit;
-  few : l.fn.pass.view.credit + length (drop l.t-index l.tris) * (l.region.w * l.region.h) ≤ l.pass.view.credit + length l.tris * (l.region.w * l.region.h);
+  room : length (drop l.t-index l.tris) * (l.fn.region.w * l.fn.region.h) ≤ l.pass.view.credit;
+  few : l.fn.pass.view.credit + length (drop l.t-index l.tris) * (l.fn.region.w * l.fn.region.h) ≤ l.pass.view.credit + length l.tris * (l.fn.region.w * l.fn.region.h);
   out : List (ℕ × ℕ);
   drawn : Draws out l.fn.pass.view l.pass.view;
-  left : out ++ all_fragments (drop l.t-index l.tris) l.prim (offsets_of l.pattern) l.region ≡ all_fragments l.tris l.first (offsets_of l.pattern) l.region;
+  left : out ++ all_fragments (drop l.t-index l.tris) l.prim (offsets_of l.fn.pattern) l.fn.region ≡ all_fragments l.tris l.first (offsets_of l.fn.pattern) l.fn.region;
 }

@@ -2,14 +2,14 @@ use Rattle.std.proofs.Common.{◌≡◌, length, map, All}
 use Rattle.abuf_raster.specs.Samples.{offsets_of}
 use Rattle.abuf_raster.specs.Hits.{IsHitIn, fragments, placed}
 use Rattle.abuf_draw.proofs.Drawing.{Midway}
-use Rattle.abuf_draw.proofs.triangle.draw.Given as goal
+use Rattle.abuf_draw.proofs.brush.Brush.draw.Given as goal
 
 abbrev pub invariant-loop-count : goal.invariant-loop-count
 invariant-loop-count l = record {
   same : l.pass.frame ≡ l.fn.pass.frame;
-  long : length l.hits ≡ 64;
-  within : All (IsHitIn l.region) l.tiles;
-  midway : Midway (fragments l.t l.prim (offsets_of l.fn.pattern) l.region) (map (placed l.region) l.tiles) l.fn.pass.view l.pass.view;
+  brush : (l.self.region ≡ l.fn.self.region) × (l.self.pattern ≡ l.fn.self.pattern);
+  within : All (IsHitIn l.fn.self.region) l.tiles;
+  midway : Midway (fragments l.t l.prim (offsets_of l.fn.self.pattern) l.fn.self.region) (map (placed l.fn.self.region) l.tiles) l.fn.pass.view l.pass.view;
 }
 
 abbrev pub decreases-loop-count : goal.decreases-loop-count

@@ -1,0 +1,59 @@
+// How many fragments triangles have at most.
+ghost use Rattle.std.specs.Prelude.{ℕ, ◌+◌, ◌*◌, ◌<◌, ◌≤◌, length};
+ghost use Rattle.abuf_raster.specs.Samples.{offsets_of};
+ghost use Rattle.abuf_raster.specs.Region.{IsRegion};
+ghost use Rattle.abuf_raster.specs.Hits.{all_fragments};
+ghost use denote.Param.Send.{IsSync};
+
+use abuf_raster::{Pattern, Region, ScreenTri, most_hits};
+use std::thread::{Threads, join};
+
+/// The sum of what each of the triangles has at most.
+fn sum_of(tris: &[ScreenTri], region: Region, pattern: Pattern) -> u64
+    requires region { IsRegion region }
+    requires few { length tris.now ≤ 2097152 }
+    ensures bound { (first : ℕ) → length (all_fragments tris.now first (offsets_of pattern) region) ≤ result }
+    ensures small { result ≤ length tris.now * 4194304 }
+{
+    let mut sum = 0;
+    for t in tris {
+        sum += u64::from(most_hits(t, region, pattern));
+    }
+    sum
+}
+
+/// At least as many as the triangles have fragments in the region, whatever number the first of them has: the sum of what each
+/// has at most, found on 1 to 64 threads. A frame of so many nodes loses none, so one of more would only take memory, and time
+/// to clear it. The call takes no memory.
+pub fn most_fragments<R: Threads + Sync>(
+    rt: &R,
+    tris: &[ScreenTri],
+    region: Region,
+    pattern: Pattern,
+    threads: u32,
+) -> u64
+    requires region { IsRegion region }
+    requires few { length tris.now ≤ 2097152 }
+    requires threads { (1 ≤ threads) × (threads ≤ 64) }
+    ensures bound { (first : ℕ) → length (all_fragments tris.now first (offsets_of pattern) region) ≤ result }
+    ensures small { result ≤ length tris.now * 4194304 }
+{
+    if threads == 1 {
+        return sum_of(tris, region, pattern);
+    }
+    let left = threads / 2;
+    let right = threads - left;
+    let (front, back) = tris.split_at(tris.len() * left as usize / threads as usize);
+    let (before, behind) = join(
+        rt,
+        move || -> u64
+            requires { IsSync R.row × IsRegion region × (length front.now ≤ 2097152) × (1 ≤ left) × (left ≤ 64) }
+            ensures { ((first : ℕ) → length (all_fragments front.entry.now first (offsets_of pattern) region) ≤ result) × (result ≤ length front.entry.now * 4194304) }
+        { most_fragments(rt, front, region, pattern, left) },
+        move || -> u64
+            requires { IsSync R.row × IsRegion region × (length back.now ≤ 2097152) × (1 ≤ right) × (right ≤ 64) }
+            ensures { ((first : ℕ) → length (all_fragments back.entry.now first (offsets_of pattern) region) ≤ result) × (result ≤ length back.entry.now * 4194304) }
+        { most_fragments(rt, back, region, pattern, right) },
+    );
+    before + behind
+}
