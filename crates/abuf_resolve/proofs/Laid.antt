@@ -1,7 +1,8 @@
 -- Paints laid over one another in the order of a pixel's words.
-use Rattle.std.proofs.Common.{◌≡◌, ℕ, ◌/◌, ◌^◌, ◌≤◌, Bool, true, false, cond, if◌then◌else◌, ltb, All, List, [], ◌∷◌, map, length, ℤ, refl, ap, ◌∙◌, sym, subst, arith}
+use Rattle.std.proofs.Common.{◌≡◌, ℕ, ◌/◌, ◌^◌, ◌<◌, ◌≤◌, Bool, true, false, cond, if◌then◌else◌, ltb, All, List, [], ◌∷◌, map, length, ℤ, refl, ap, ap₂, ◌∙◌, sym, subst, arith}
 use Rattle.std.specs.List.{filter, fold}
 use Rattle.std.specs.List.Sorted.{IsNonDecreasing}
+use Rattle.std.proofs.lemmas.List.{length-map}
 use Rattle.std.proofs.lemmas.List.Sorted.{IsNonDecreasingBy-short, IsPermutation-refl}
 use Rattle.std.proofs.lemmas.List.Elements.{All-head, All-tail, All-filter}
 use Rattle.abuf_num.specs.declared.plain.Paint.{Paint}
@@ -10,8 +11,11 @@ use Rattle.abuf_raster.specs.Packing.{unpacked}
 use Rattle.abuf_resolve.specs.Colour.{paint_at}
 use Rattle.abuf_resolve.specs.Order.{in_order}
 use Rattle.abuf_resolve.specs.Over.{laid_over}
-use Rattle.abuf_resolve.specs.Words.{has_sample, sample_of, sample_word, sample_words, with_fragment, folded, prim_of, IsFragmentAt}
+use Rattle.abuf_resolve.specs.Words.{has_sample, pixel_sum, sample_of, sample_word, sample_words, with_fragment, folded, prim_of, IsFragmentAt}
+use Rattle.abuf_resolve.specs.Sums.{summed}
 use Rattle.abuf_resolve.proofs.Lists.{sorted_is}
+use Rattle.abuf_resolve.proofs.Orders.{Alike-filter, Alike-map, in_order_same}
+use Rattle.abuf_resolve.proofs.Totals.{summed_same}
 
 -- Samples that each fragment has or hasn't alike have one colour.
 pub shared_fold : (paints : List Paint) (j k : ℕ) (u words : List ℕ) → All (λ word. has_sample j word ≡ has_sample k word) words → fold (with_fragment paints j) u words ≡ fold (with_fragment paints k) u words
@@ -64,3 +68,37 @@ few_ascend os tris x y k (w ∷ []) l = go (has_sample k w) where
   go true = IsNonDecreasingBy-short (λ x. x) (sample_word os tris x y k w ∷ []) (omega arith)
   go false = IsNonDecreasingBy-short (λ x. x) [] (omega arith)
 few_ascend os tris x y k (v ∷ w ∷ words) l = absurd (omega arith)
+
+-- Where a sample has at most one fragment, its words stand in order.
+pub apart_ascend : (os : List (ℤ × ℤ)) (tris : List Triangle) (x y k : ℕ) (words : List ℕ) → length (filter (has_sample k) words) ≤ 1 → IsNonDecreasing (sample_words os tris x y k words)
+apart_ascend os tris x y k words l =
+    IsNonDecreasingBy-short (λ x. x) (sample_words os tris x y k words) (omega (arith, l, length-map (filter (has_sample k) words) (sample_word os tris x y k)))
+
+-- The sums of words that stand in the order of each sample.
+pub sums_in_order : (os : List (ℤ × ℤ)) (tris : List Triangle) → length tris ≤ 2 ^ 24 → (x y : ℕ) (paints : List Paint) (u words : List ℕ) → All (IsFragmentAt os tris x y) words
+    → ((k : ℕ) → k < length os → IsNonDecreasing (sample_words os tris x y k words))
+    → summed (λ k. fold (with_fragment paints k) u words) (length os) ≡ pixel_sum os u tris paints x y words
+sums_in_order os tris few x y paints u words all ascend =
+    summed_same (λ k. fold (with_fragment paints k) u words) (sample_of os u tris paints x y words) (length os)
+    (λ k l. laid_in_order os tris few x y k paints u words all (ascend k l))
+
+-- Two words give the same sums, whichever is the first.
+pub sums_turned : (os : List (ℤ × ℤ)) (tris : List Triangle) (x y : ℕ) (paints : List Paint) (u : List ℕ) (v w : ℕ) → pixel_sum os u tris paints x y (v ∷ w ∷ []) ≡ pixel_sum os u tris paints x y (w ∷ v ∷ [])
+sums_turned os tris x y paints u v w =
+    summed_same (sample_of os u tris paints x y (v ∷ w ∷ [])) (sample_of os u tris paints x y (w ∷ v ∷ [])) (length os)
+    (λ k l. ap (folded u paints) (in_order_same (sample_words os tris x y k (v ∷ w ∷ [])) (sample_words os tris x y k (w ∷ v ∷ []))
+    (Alike-map (sample_word os tris x y k) (filter (has_sample k) (v ∷ w ∷ [])) (filter (has_sample k) (w ∷ v ∷ []))
+    (Alike-filter (has_sample k) (v ∷ w ∷ []) (w ∷ v ∷ []) (record { times = λ p. omega arith })))))
+
+-- What one fragment is laid over, where the sample may have it.
+pub one_colour : (paints : List Paint) (k : ℕ) (u : List ℕ) (w : ℕ) (a : Bool) → has_sample k w ≡ a
+    → fold (with_fragment paints k) u (w ∷ []) ≡ (if a then laid_over u (paint_at paints (unpacked w).prim) else u)
+one_colour paints k u w a e = ap (λ (b : Bool). if b then laid_over u (paint_at paints (unpacked w).prim) else u) e
+
+-- The same of two.
+pub two_colours : (paints : List Paint) (k : ℕ) (u : List ℕ) (v w : ℕ) (a b : Bool) → has_sample k v ≡ a → has_sample k w ≡ b
+    → fold (with_fragment paints k) u (v ∷ w ∷ [])
+    ≡ (if b then laid_over (if a then laid_over u (paint_at paints (unpacked v).prim) else u) (paint_at paints (unpacked w).prim) else (if a then laid_over u (paint_at paints (unpacked v).prim) else u))
+two_colours paints k u v w a b e f =
+    ap₂ (λ (c d : Bool).
+    if d then laid_over (if c then laid_over u (paint_at paints (unpacked v).prim) else u) (paint_at paints (unpacked w).prim) else (if c then laid_over u (paint_at paints (unpacked v).prim) else u)) e f

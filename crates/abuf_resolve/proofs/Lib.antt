@@ -6,11 +6,13 @@ pub mod Lists
 pub mod Rounds
 pub mod Greatest
 pub mod Parts
+pub mod Blocks
 pub mod Joined
 pub mod Totals
 pub mod Fits
 pub mod Present
 pub mod Covered
+pub mod Seen
 pub mod Laid
 pub mod Ranks
-pub mod Pairs
+pub mod Sets

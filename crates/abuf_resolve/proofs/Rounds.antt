@@ -1,7 +1,7 @@
 -- Pixels shared among workers in blocks of 64, block after block in turn.
 use Rattle.std.proofs.Common.{◌≡◌, ℕ, ◌+◌, ◌-◌, ◌*◌, ◌/◌, ◌%◌, ◌<◌, ◌⊎◌, inl, inr, min, ap, ap₂, ◌∙◌, sym, mul-le-mul_left, arith}
 use Rattle.std.proofs.lemmas.Bool.{cases_order}
-use Rattle.std.proofs.lemmas.Nat.{div-add-mod', mod_below}
+use Rattle.std.proofs.lemmas.Nat.{div-add-mod', div-mul-add, mod-mul-add, mod_below}
 use Rattle.abuf_resolve.specs.Shares.{place_at, count_of, worker_of, index_of}
 
 -- The worker who has a pixel has it at its place.
@@ -54,3 +54,22 @@ eight_beside t w i h =
 -- The first of them is so far before.
 pub eight_first : (t w i : ℕ) → place_at t w i - i % 8 + i % 8 ≡ place_at t w i
 eight_first t w i = omega arith
+
+-- A block's pixels have one worker,
+pub block_worker : (t block j : ℕ) → j < 64 → worker_of t (64 * block + j) ≡ block % t
+block_worker t block j l = let e : (64 * block + j) / 64 ≡ block = omega arith in ap (λ (b : ℕ). b % t) e
+
+-- who has them side by side.
+pub block_index : (t block j : ℕ) → j < 64 → index_of t (64 * block + j) ≡ block / t * 64 + j
+block_index t block j l =
+    let e : (64 * block + j) / 64 ≡ block = omega arith in
+    let m : (64 * block + j) % 64 ≡ j = omega arith in
+    ap₂ (λ (b k : ℕ). b / t * 64 + k) e m
+
+-- So one of them comes right after the other.
+pub beside : (t w i : ℕ) → 0 < (i + 1) % 8 → place_at t w (i + 1) ≡ place_at t w i + 1
+beside t w i h = omega (arith, eight_beside t w i h, eight_first t w i, eight_first t w (i + 1))
+
+-- The row and the column of a place.
+pub row_column : (q w r p : ℕ) → p ≡ q * w + r → r < w → (p / w ≡ q) × (p % w ≡ r)
+row_column q w r p e l = rw e (div-mul-add q w r l, mod-mul-add q w r l)

@@ -1,9 +1,10 @@
 -- What a worker has of its pixels.
-use Rattle.std.specs.Prelude.{◌≡◌, ℕ, ◌+◌, ◌*◌, ◌<◌, List, [], length, map, get_or, slice_index_or, Result, IfOk}
+use Rattle.std.specs.Prelude.{◌≡◌, ℕ, ◌+◌, ◌-◌, ◌*◌, ◌/◌, ◌%◌, ◌<◌, min, List, [], length, map, get_or, slice_index_or, Result, IfOk}
 use Rattle.std.specs.List.{range_with_len, All}
 use Rattle.abuf_frame.specs.Closing.{Ended, list_at}
 use Rattle.abuf_raster.specs.declared.region.Region.{Region}
 use Rattle.abuf_raster.specs.Samples.{offsets_of}
+use Rattle.abuf_resolve.specs.declared.runs.Offset.{Offset}
 use Rattle.abuf_resolve.specs.declared.runs.Resolved.{Resolved}
 use Rattle.abuf_resolve.specs.declared.scene.Scene.{Scene}
 use Rattle.abuf_num.specs.declared.list.NoMemory.{NoMemory}
@@ -15,6 +16,11 @@ use Rattle.abuf_resolve.specs.Sums.{IsSmall}
 -- The lists are those of the eight pixels from this one on.
 abbrev pub HoldEight : Ended → ℕ → List (List ℕ) → Type 0
 HoldEight frame from lists = (k : ℕ) → k < 8 → slice_index_or lists k [] ≡ list_at frame (from + k)
+
+-- So far does the pixel at this place lie from the corner of a region of this width.
+pub record IsOffset (width place : ℕ) (offset : Offset) : Type 0 where
+  pub column : offset.column ≡ place % width
+  pub row : offset.row ≡ place / width
 
 -- The sums of the pixels at these places, and the greatest of the lengths of their lists.
 pub record IsPart (scene : Scene) (r : Region) (lists : List (List ℕ)) (places : List ℕ) (part : Resolved) : Type 0 where
@@ -40,6 +46,11 @@ sum_of_place parts p =
 -- The sums of all pixels, by ascending place.
 abbrev pub joined : List (List PixelSum) → ℕ → List PixelSum
 joined parts pixels = map (sum_of_place parts) (range_with_len 0 pixels)
+
+-- The sums of the pixels of a block of 64, or of what is left for the last block.
+pub record AreOfBlock (parts : List (List PixelSum)) (pixels block : ℕ) (sums : List PixelSum) : Type 0 where
+  pub size : length sums ≡ min (pixels - 64 * block) 64
+  pub each : (j : ℕ) (d : PixelSum) → j < length sums → slice_index_or sums j d ≡ sum_of_place parts (64 * block + j)
 
 -- Each worker has its part, or was refused memory.
 abbrev pub AreParts : Scene → Region → List (List ℕ) → List (Result Resolved NoMemory) → Type 0

@@ -1,5 +1,5 @@
 -- The words of a pixel's fragments, and the colours that they give.
-use Rattle.std.specs.Prelude.{◌≡◌, ℕ, zero, suc, ◌+◌, ◌*◌, ◌/◌, ◌%◌, ◌<◌, ◌^◌, ◌==◌, Bool, true, not, if◌then◌else◌, nat_lt, ℤ, List, [], map, length, slice_index_or, IsPermutation}
+use Rattle.std.specs.Prelude.{◌≡◌, ℕ, ◌+◌, ◌*◌, ◌/◌, ◌%◌, ◌<◌, ◌^◌, ◌==◌, Bool, true, not, if◌then◌else◌, nat_lt, ℤ, List, [], map, length, slice_index_or, Contains, IsPermutation}
 use Rattle.std.specs.Int.{bit_at}
 use Rattle.std.specs.List.{filter, range_with_len, All}
 use Rattle.abuf_num.specs.declared.plain.Paint.{Paint}
@@ -53,15 +53,17 @@ hides paints word = (paint_of paints word).alpha == 65535
 abbrev pub reaches : ℕ → ℕ → Bool
 reaches least word = not (nat_lt word least)
 
+-- The words that may be seen among all words of a sample: those from the least on are the same in both lists. The least is 0,
+-- or it is one of all words, and hides what lies under it.
+pub record AreSeen (paints : List Paint) (all seen : List ℕ) (least : ℕ) : Type 0 where
+  pub same : filter (reaches least) seen ≡ filter (reaches least) all
+  pub there : 0 < least → Contains all least
+  pub hiding : 0 < least → hides paints least ≡ true
+
 -- ---- the words of one pixel
 -- The fragment of this word has sample k.
 abbrev pub has_sample : ℕ → ℕ → Bool
 has_sample k word = bit_at (unpacked word).mask k == 1
-
--- How many of the samples 0 to n - 1 it has.
-abbrev pub count_of : ℕ → ℕ → ℕ
-count_of word zero = 0
-count_of word (suc n) = count_of word n + (if has_sample n word then 1 else 0)
 
 -- The fragment of this word, in sample k of pixel (x, y).
 abbrev pub sample_word : List (ℤ × ℤ) → List Triangle → ℕ → ℕ → ℕ → ℕ → ℕ

@@ -53,7 +53,7 @@ pub fn sample_colour(sorted: &[u64], paints: &[Paint], background: [u16; 3]) -> 
 }
 
 /// The paints of all words, laid over the colour in order.
-fn lay_all(under: [u16; 3], words: &[u64], paints: &[Paint]) -> [u16; 3]
+pub(crate) fn lay_all(under: [u16; 3], words: &[u64], paints: &[Paint]) -> [u16; 3]
     requires words { All (IsDepthWord (length paints.now)) words.now }
     ensures { result ≡ folded under paints.now words.now }
 {

@@ -2,13 +2,15 @@
 ghost use Rattle.std.specs.Prelude.{◌≡◌, ◌<◌, ◌≤◌, true, nat_lt, length, IfOk};
 ghost use Rattle.std.specs.List.{All};
 ghost use Rattle.std.specs.List.Sorted.{IsNonDecreasing};
+ghost use Rattle.abuf_raster.specs.Packing.{unpacked};
 ghost use Rattle.abuf_raster.specs.Samples.{offsets_of};
 ghost use Rattle.abuf_resolve.specs.Order.{in_order};
-ghost use Rattle.abuf_resolve.specs.Words.{sample_word, sample_words, has_sample, IsDepthWord, IsFragmentAt};
+ghost use Rattle.abuf_resolve.specs.Scene.{IsFragmentOf};
+ghost use Rattle.abuf_resolve.specs.Words.{sample_word, sample_words, has_sample, AreSeen, IsDepthWord, IsFragmentAt};
 
-use crate::order::put_in_order;
+use crate::order::{push_seen, put_in_order};
 use crate::planes::Planes;
-use crate::scene::Pixel;
+use crate::scene::{Pixel, Scene};
 use abuf_num::NoMemory;
 use abuf_raster::Pattern;
 
@@ -20,8 +22,16 @@ pub(crate) fn has_sample(word: u64, k: u32) -> bool
     (word & 0xffff) >> k & 1 == 1
 }
 
+/// The samples of the word's fragment, as a mask.
+pub(crate) fn samples_of(word: u64) -> u32
+    ensures { result ≡ (unpacked word).mask }
+{
+    (word & 0xffff) as u32
+}
+
 impl<'a> Planes<'a> {
     /// The fragment of this word in sample k, which it has, as a word: its depth key there times 2^24, plus its primitive number.
+    #[inline(always)]
     pub(crate) fn sample_word(&self, word: u64, at: Pixel, pattern: Pattern, k: u32) -> u64
         requires few { length self.now ≤ 2097152 }
         requires sample { k < length (offsets_of pattern) }
@@ -81,5 +91,33 @@ impl<'a> Planes<'a> {
         self.gather(keys, list, at, pattern, k)?;
         put_in_order(keys);
         Ok(())
+    }
+}
+
+impl<'a, 'b> Scene<'a, 'b> {
+    /// The fragments that have sample k and may be seen there, as words of that sample, in the order of the list, with the least
+    /// that is seen: what an opaque one hides, which stands before it in the list, isn't even kept.
+    pub(crate) fn gather_seen(
+        &self,
+        keys: &mut Vec<u64>,
+        list: &[u64],
+        at: Pixel,
+        k: u32,
+    ) -> Result<u64, NoMemory>
+        requires sample { k < length (offsets_of self.now.pattern) }
+        requires words { All (IsFragmentOf self.now at) list.now }
+        ensures seen { IfOk result (λ least. AreSeen self.now.paints.now (sample_words (offsets_of self.now.pattern) self.now.planes at.x at.y k list.now) keys.new.items least) }
+        ensures fits { IfOk result (λ _. All (IsDepthWord (length self.now.paints.now)) keys.new.items) }
+    {
+        keys.clear();
+        let mut least = 0;
+        for word in list {
+            if has_sample(*word, k) {
+                let key = self.planes.sample_word(*word, at, self.pattern, k);
+                let next = push_seen(keys, least, key, self.paints)?;
+                least = next;
+            }
+        }
+        Ok(least)
     }
 }

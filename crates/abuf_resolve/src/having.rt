@@ -1,10 +1,10 @@
 // What a list of fragments has of one sample.
-ghost use Rattle.std.specs.Prelude.{◌≡◌, ◌<◌};
+ghost use Rattle.std.specs.Prelude.{◌≡◌, ℕ, ◌<◌, ◌≤◌, true, length};
 ghost use Rattle.std.specs.List.{filter};
 ghost use Rattle.abuf_resolve.specs.Having.{Has, with_one};
 ghost use Rattle.abuf_resolve.specs.Words.{has_sample};
 
-use crate::fragments::has_sample;
+use crate::fragments::{has_sample, samples_of};
 
 /// None of the words has the sample, this one alone, or more than one.
 #[derive(Clone, Copy)]
@@ -42,11 +42,13 @@ impl Having {
     }
 }
 
-/// No two of the words have a sample in common. It decides which way is taken, and both are right.
-pub(crate) fn are_apart(words: &[u64]) -> bool {
+/// No two of the words have a sample in common.
+pub(crate) fn are_apart(words: &[u64]) -> bool
+    ensures { result ≡ true → (k : ℕ) → k < 16 → length (filter (has_sample k) words.now) ≤ 1 }
+{
     let mut seen = 0;
     for word in words {
-        let mask = *word & 0xffff;
+        let mask = samples_of(*word);
         if seen & mask != 0 {
             return false;
         }

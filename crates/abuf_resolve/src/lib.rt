@@ -24,6 +24,7 @@ mod planes;
 mod runs;
 mod scene;
 mod shares;
+mod tally;
 #[cfg(test)]
 mod tests;
 mod threads;

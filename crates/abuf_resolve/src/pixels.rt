@@ -1,17 +1,19 @@
 // The sums of one pixel.
-ghost use Rattle.std.specs.Prelude.{◌≡◌, ◌+◌, ◌-◌, ◌*◌, ◌∷◌, [], ◌<◌, ◌≤◌, true, length, IfOk};
+ghost use Rattle.std.specs.Prelude.{◌≡◌, ℕ, ◌∷◌, [], ◌<◌, true, length, IfOk};
 ghost use Rattle.std.specs.List.{All};
 ghost use Rattle.abuf_raster.specs.Samples.{offsets_of};
 ghost use Rattle.abuf_resolve.specs.Scene.{colour_at, laid_at, sum_at, IsFragmentOf, AscendIn};
-ghost use Rattle.abuf_resolve.specs.Sums.{plus, sums_of_two, summed, IsSmall};
-ghost use Rattle.abuf_resolve.specs.Words.{count_of, has_sample, with_fragment, IsPainted};
+ghost use Rattle.abuf_resolve.specs.Sums.{plus, summed, IsSmall};
+ghost use Rattle.abuf_resolve.specs.Tally.{in_set};
+ghost use Rattle.abuf_resolve.specs.Words.{has_sample, with_fragment, IsPainted};
 
 use crate::bounded::Bounded;
-use crate::fold::{laid_over, sample_colour};
-use crate::fragments::has_sample;
+use crate::fold::{laid_over, lay_all};
+use crate::fragments::{has_sample, samples_of};
 use crate::having::{Having, are_apart};
-use crate::order::order_seen;
+use crate::order::order_from;
 use crate::scene::{Pixel, Scene};
+use crate::tally::Tally;
 use abuf_num::{NoMemory, Paint, PixelSum};
 use std::alloc::Global;
 
@@ -54,47 +56,6 @@ fn plus(sum: PixelSum, colour: [u16; 3]) -> PixelSum
     }
 }
 
-/// How many of so many samples the fragment has.
-fn count_of(word: u64, samples: u32) -> u32
-    requires { samples ≤ 16 }
-    ensures value { result ≡ count_of word samples }
-    ensures within { result ≤ samples }
-{
-    let mut count = 0;
-    for k in 0..samples {
-        if has_sample(word, k) {
-            count += 1;
-        }
-    }
-    count
-}
-
-/// The sum of a channel over so many samples, of which `count` have the one value and the others the other.
-fn channel_of_two(count: u32, above: u16, samples: u32, under: u16) -> u32
-    requires within { count ≤ samples }
-    requires few { samples ≤ 16 }
-    ensures value { result ≡ count * above + (samples - count) * under }
-    ensures small { result ≤ 65535 * samples }
-{
-    count * u32::from(above) + (samples - count) * u32::from(under)
-}
-
-/// The sums over so many samples, of which `count` have the one colour and the others the other.
-fn sums_of_two(count: u32, above: [u16; 3], samples: u32, under: [u16; 3]) -> PixelSum
-    requires within { count ≤ samples }
-    requires few { samples ≤ 16 }
-    ensures value { result ≡ sums_of_two count above samples under }
-    ensures small { IsSmall samples result }
-{
-    PixelSum {
-        channels: [
-            channel_of_two(count, above[0], samples, under[0]),
-            channel_of_two(count, above[1], samples, under[1]),
-            channel_of_two(count, above[2], samples, under[2]),
-        ],
-    }
-}
-
 /// The colour with the paint of the word's fragment laid over it, where that has sample k.
 fn with_fragment(under: [u16; 3], word: u64, paints: &[Paint], k: u32) -> [u16; 3]
     requires sample { k < 16 }
@@ -108,25 +69,31 @@ fn with_fragment(under: [u16; 3], word: u64, paints: &[Paint], k: u32) -> [u16; 
     }
 }
 
-/// The fragments have both samples or none of the two.
-fn has_both(word: u64, j: u32, k: u32) -> bool
-    requires { (j < 16) × (k < 16) }
-    ensures { result ≡ true → has_sample j word ≡ has_sample k word }
+/// Those of a set of samples that the fragment has, if it has sample k; else those that it hasn't.
+fn alike(set: u32, word: u64, k: u32) -> u32
+    requires { k < 16 }
+    ensures same { (j : ℕ) → j < 32 → in_set result j ≡ true → (in_set set j ≡ true) × (has_sample j word ≡ has_sample k word) }
+    ensures itself { in_set set k ≡ true → in_set result k ≡ true }
 {
-    has_sample(word, j) == has_sample(word, k)
+    if has_sample(word, k) {
+        set & samples_of(word)
+    } else {
+        set & !samples_of(word)
+    }
 }
 
-/// Each of the fragments has both samples or none of the two.
-fn is_shared(words: &[u64], j: u32, k: u32) -> bool
-    requires { (j < 16) × (k < 16) }
-    ensures { result ≡ true → All (λ word. has_sample j word ≡ has_sample k word) words.now }
+/// Those of a set of samples that have the same fragments as sample k.
+fn all_alike(set: u32, words: &[u64], k: u32) -> u32
+    requires { k < 16 }
+    ensures same { (j : ℕ) → j < 32 → in_set result j ≡ true → All (λ word. has_sample j word ≡ has_sample k word) words.now }
+    ensures itself { in_set set k ≡ true → in_set result k ≡ true }
 {
+    let mut same = set;
     for word in words {
-        if !has_both(*word, j, k) {
-            return false;
-        }
+        let less = alike(same, *word, k);
+        same = less;
     }
-    true
+    same
 }
 
 impl<'a, 'b> Scene<'a, 'b> {
@@ -144,35 +111,39 @@ impl<'a, 'b> Scene<'a, 'b> {
         colour
     }
 
-    /// The same, where the colour of the sample before is known.
-    fn laid_after(&self, before: [u16; 3], words: &[u64], k: u32) -> [u16; 3]
-        requires sample { k < 16 }
-        requires words { All (IsPainted self.now.paints.now) words.now }
-        requires before { 0 < k → before ≡ laid_at self.now words.now (k - 1) }
-        ensures { result ≡ laid_at self.now words.now k }
-    {
-        if k > 0 && is_shared(words, k - 1, k) {
-            before
-        } else {
-            self.laid(words, k)
-        }
-    }
-
-    /// The sums over the samples, from words that stand in the order of each.
+    /// The sums over the samples, from words that stand in the order of each. Samples with the same fragments have one colour, so
+    /// it is worked out once.
     fn laid_sums(&self, words: &[u64]) -> PixelSum
         requires { All (IsPainted self.now.paints.now) words.now }
         ensures value { result ≡ summed (laid_at self.now words.now) (length (offsets_of self.now.pattern)) }
         ensures small { IsSmall (length (offsets_of self.now.pattern)) result }
     {
-        let mut sum = NOTHING;
-        let mut colour = self.background;
-        for k in 0..self.pattern.size() {
-            let here = self.laid_after(colour, words, k);
-            colour = here;
-            let more = plus(sum, colour);
-            sum = more;
+        let mut tally = Tally::new(self.pattern.size());
+        while tally.rest != 0 {
+            let k = tally.rest.trailing_zeros();
+            let same = all_alike(tally.rest, words, k);
+            let more = tally.with(same, self.laid(words, k));
+            tally = more;
         }
-        sum
+        tally.all()
+    }
+
+    /// The same of two fragments, of which the upper one isn't below the other in any sample.
+    fn laid_pair(&self, lower: u64, upper: u64) -> PixelSum
+        requires lower { IsPainted self.now.paints.now lower }
+        requires upper { IsPainted self.now.paints.now upper }
+        ensures value { result ≡ summed (laid_at self.now (lower ∷ upper ∷ [])) (length (offsets_of self.now.pattern)) }
+        ensures small { IsSmall (length (offsets_of self.now.pattern)) result }
+    {
+        let beneath = laid_over(self.background, self.paints[(lower >> 16) as usize]);
+        let paint = self.paints[(upper >> 16) as usize];
+        let of_lower = samples_of(lower);
+        let of_upper = samples_of(upper);
+        Tally::new(self.pattern.size())
+            .with(of_lower & of_upper, laid_over(beneath, paint))
+            .with(of_upper, laid_over(self.background, paint))
+            .with(of_lower, beneath)
+            .all_with(self.background)
     }
 
     /// A pixel's sums, from words that stand in the order of each sample.
@@ -192,8 +163,9 @@ impl<'a, 'b> Scene<'a, 'b> {
         ensures small { IsSmall (length (offsets_of self.now.pattern)) result }
     {
         let above = laid_over(self.background, self.paints[(word >> 16) as usize]);
-        let samples = self.pattern.size();
-        sums_of_two(count_of(word, samples), above, samples, self.background)
+        Tally::new(self.pattern.size())
+            .with(samples_of(word), above)
+            .all_with(self.background)
     }
 
     /// The sums of a pixel without fragments.
@@ -201,10 +173,27 @@ impl<'a, 'b> Scene<'a, 'b> {
         ensures value { result ≡ sum_at self.now at [] }
         ensures small { IsSmall (length (offsets_of self.now.pattern)) result }
     {
-        sums_of_two(0, self.background, self.pattern.size(), self.background)
+        Tally::new(self.pattern.size()).all_with(self.background)
     }
 
-    /// The colour of sample k of a pixel, from its words in any order.
+    /// The colour of sample k of a pixel, from its words in any order, by their keys there.
+    fn colour_by_keys(
+        &self,
+        keys: &mut Vec<u64>,
+        list: &[u64],
+        at: Pixel,
+        k: u32,
+    ) -> Result<[u16; 3], NoMemory>
+        requires sample { k < length (offsets_of self.now.pattern) }
+        requires words { All (IsFragmentOf self.now at) list.now }
+        ensures { IfOk result (λ c. c ≡ colour_at self.now at list.now k) }
+    {
+        let least = self.gather_seen(keys, list, at, k)?;
+        order_from(keys, least);
+        Ok(lay_all(self.background, keys, self.paints))
+    }
+
+    /// The same, where the keys aren't asked for if the sample has one fragment or none.
     fn colour_at(
         &self,
         keys: &mut Vec<u64>,
@@ -217,15 +206,28 @@ impl<'a, 'b> Scene<'a, 'b> {
         ensures { IfOk result (λ c. c ≡ colour_at self.now at list.now k) }
     {
         match Having::of(list, k) {
-            Having::Nothing => return Ok(self.background),
+            Having::Nothing => Ok(self.background),
             Having::One(word) => {
-                return Ok(laid_over(self.background, self.paints[(word >> 16) as usize]));
+                Ok(laid_over(self.background, self.paints[(word >> 16) as usize]))
             }
-            Having::More => {}
+            Having::More => self.colour_by_keys(keys, list, at, k),
         }
-        self.planes.gather(keys, list, at, self.pattern, k)?;
-        order_seen(keys, self.paints);
-        Ok(sample_colour(keys, self.paints, self.background))
+    }
+
+    /// The sums of a pixel of one sample, from its words in any order.
+    fn sums_of_sample(
+        &self,
+        keys: &mut Vec<u64>,
+        list: &[u64],
+        at: Pixel,
+    ) -> Result<PixelSum, NoMemory>
+        requires one { length (offsets_of self.now.pattern) ≡ 1 }
+        requires words { All (IsFragmentOf self.now at) list.now }
+        ensures value { IfOk result (λ sum. sum ≡ sum_at self.now at list.now) }
+        ensures small { IfOk result (λ sum. IsSmall (length (offsets_of self.now.pattern)) sum) }
+    {
+        let colour = self.colour_by_keys(keys, list, at, 0)?;
+        Ok(plus(NOTHING, colour))
     }
 
     /// A pixel's sums, with the fragments put in order in each sample by itself.
@@ -248,7 +250,59 @@ impl<'a, 'b> Scene<'a, 'b> {
         Ok(sum)
     }
 
-    /// A pixel's sums over the samples, from its list. Keys are worked out only where their bounds don't tell the order.
+    /// The sums of a pixel with two fragments.
+    fn sums_of_two(
+        &self,
+        keys: &mut Vec<u64>,
+        first: u64,
+        second: u64,
+        at: Pixel,
+    ) -> Result<PixelSum, NoMemory>
+        requires first { IsFragmentOf self.now at first }
+        requires second { IsFragmentOf self.now at second }
+        ensures value { IfOk result (λ sum. sum ≡ sum_at self.now at (first ∷ second ∷ [])) }
+        ensures small { IfOk result (λ sum. IsSmall (length (offsets_of self.now.pattern)) sum) }
+    {
+        let words = [first, second];
+        if are_apart(&words) {
+            return Ok(self.laid_pair(first, second));
+        }
+        let first = self.bounded(first, at);
+        let second = self.bounded(second, at);
+        if self.stay_in_order(&[first, second], at) {
+            Ok(self.laid_pair(first.word, second.word))
+        } else if self.stay_in_order(&[second, first], at) {
+            Ok(self.laid_pair(second.word, first.word))
+        } else {
+            self.sums_by_sample(keys, &words, at)
+        }
+    }
+
+    /// The sums of a pixel with more fragments, from its list. Keys are worked out only where their bounds don't tell the order.
+    fn sums_of_many(
+        &self,
+        buffers: &mut Buffers,
+        list: &[u64],
+        at: Pixel,
+    ) -> Result<PixelSum, NoMemory>
+        requires { All (IsFragmentOf self.now at) list.now }
+        ensures value { IfOk result (λ sum. sum ≡ sum_at self.now at list.now) }
+        ensures small { IfOk result (λ sum. IsSmall (length (offsets_of self.now.pattern)) sum) }
+    {
+        if self.pattern.size() == 1 {
+            return self.sums_of_sample(&mut buffers.keys, list, at);
+        }
+        if are_apart(list) {
+            return Ok(self.sums_in_order(list, at));
+        }
+        if self.put_in_order(&mut buffers.words, &mut buffers.fragments, list, at)? {
+            Ok(self.sums_in_order(&buffers.words, at))
+        } else {
+            self.sums_by_sample(&mut buffers.keys, &buffers.words, at)
+        }
+    }
+
+    /// A pixel's sums over the samples, from its list.
     pub(crate) fn pixel_sum(
         &self,
         buffers: &mut Buffers,
@@ -260,17 +314,10 @@ impl<'a, 'b> Scene<'a, 'b> {
         ensures small { IfOk result (λ sum. IsSmall (length (offsets_of self.now.pattern)) sum) }
     {
         match list {
-            [] => return Ok(self.sums_of_none(at)),
-            [word] => return Ok(self.sums_of_one(*word, at)),
-            _ => {}
-        }
-        if self.pattern.size() == 1 || are_apart(list) {
-            return self.sums_by_sample(&mut buffers.keys, list, at);
-        }
-        if self.put_in_order(&mut buffers.words, &mut buffers.fragments, list, at)? {
-            Ok(self.sums_in_order(&buffers.words, at))
-        } else {
-            self.sums_by_sample(&mut buffers.keys, &buffers.words, at)
+            [] => Ok(self.sums_of_none(at)),
+            [word] => Ok(self.sums_of_one(*word, at)),
+            [first, second] => self.sums_of_two(&mut buffers.keys, *first, *second, at),
+            _ => self.sums_of_many(buffers, list, at),
         }
     }
 }

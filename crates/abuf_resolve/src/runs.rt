@@ -4,7 +4,7 @@ ghost use Rattle.std.specs.List.{All};
 ghost use Rattle.abuf_raster.specs.Region.{IsRegion};
 ghost use Rattle.abuf_raster.specs.Samples.{offsets_of};
 ghost use Rattle.abuf_resolve.specs.Laws.{x_at, y_at};
-ghost use Rattle.abuf_resolve.specs.Parts.{HoldEight, IsPart};
+ghost use Rattle.abuf_resolve.specs.Parts.{HoldEight, IsOffset, IsPart};
 ghost use Rattle.abuf_resolve.specs.Scene.{sum_of_list};
 ghost use Rattle.abuf_resolve.specs.Shares.{places_of};
 ghost use Rattle.abuf_resolve.specs.Sums.{IsSmall};
@@ -58,6 +58,39 @@ fn hold_eight(
     Ok(())
 }
 
+/// How far a pixel lies from the corner of its region.
+#[derive(Clone, Copy)]
+pub(crate) struct Offset {
+    pub(crate) column: u32,
+    pub(crate) row: u32,
+}
+
+/// The offset of the pixel at this place of a region of this width. It follows the last one, but where it is the first of eight:
+/// so few pixels take a division.
+#[inline(always)]
+fn offset_at(width: u32, place: u32, i: u32, last: Offset) -> Offset
+    requires width { 0 < width }
+    requires last { 0 < i % 8 → (0 < place) × IsOffset width (place - 1) last }
+    ensures { IsOffset width place result }
+{
+    if i % 8 == 0 {
+        return Offset {
+            column: place % width,
+            row: place / width,
+        };
+    }
+    if last.column + 1 < width {
+        return Offset {
+            column: last.column + 1,
+            row: last.row,
+        };
+    }
+    Offset {
+        column: 0,
+        row: last.row + 1,
+    }
+}
+
 impl<'a, 'b> Scene<'a, 'b> {
     /// The sums of the pixel at one place of a region, from its list.
     fn place_sum(
@@ -65,17 +98,19 @@ impl<'a, 'b> Scene<'a, 'b> {
         buffers: &mut Buffers,
         region: Region,
         place: u32,
+        offset: Offset,
         list: &[u64],
     ) -> Result<PixelSum, NoMemory>
         requires region { IsRegion region }
         requires place { place < region.w * region.h }
+        requires offset { IsOffset region.w place offset }
         requires words { All (IsFragmentAt (offsets_of self.now.pattern) self.now.planes (x_at region place) (y_at region place)) list.now }
         ensures value { IfOk result (λ sum. sum ≡ sum_of_list self.now region place list.now) }
         ensures small { IfOk result (λ sum. IsSmall (length (offsets_of self.now.pattern)) sum) }
     {
         let at = Pixel {
-            x: region.x0 + place % region.w,
-            y: region.y0 + place / region.w,
+            x: region.x0 + offset.column,
+            y: region.y0 + offset.row,
         };
         self.pixel_sum(buffers, list, at)
     }
@@ -108,11 +143,14 @@ impl<'a, 'b> Scene<'a, 'b> {
             Vec::new(alloc),
         ];
         let mut buffers = Buffers::new(alloc);
+        let mut offset = Offset { column: 0, row: 0 };
         for i in 0..share.count(closed.pixels()) {
             let place = share.place(i);
             hold_eight(closed, &mut lists, place, i)?;
             let list = lists[(i % 8) as usize].as_slice();
-            let sum = self.place_sum(&mut buffers, region, place, list)?;
+            let here = offset_at(region.w, place, i, offset);
+            offset = here;
+            let sum = self.place_sum(&mut buffers, region, place, offset, list)?;
             part.push(sum, list.len())?;
         }
         Ok(part)

@@ -1,10 +1,10 @@
 // The sums of all pixels, on threads.
-ghost use Rattle.std.specs.Prelude.{◌≡◌, [], ◌*◌, ◌<◌, ◌≤◌, length, map, slice_index_or, Ok, IfOk};
+ghost use Rattle.std.specs.Prelude.{◌≡◌, ◌*◌, ◌<◌, ◌≤◌, length, map, Ok, IfOk};
 ghost use Rattle.std.specs.List.{range_with_len, All};
 ghost use Rattle.abuf_raster.specs.Region.{IsRegion};
 ghost use Rattle.abuf_raster.specs.Samples.{offsets_of};
-ghost use Rattle.abuf_resolve.specs.Parts.{AreParts, HaveAll, IsPart, joined, longest_in, sum_of_place, sums_in};
-ghost use Rattle.abuf_resolve.specs.Shares.{greatest, index_of, worker_of};
+ghost use Rattle.abuf_resolve.specs.Parts.{AreOfBlock, AreParts, HaveAll, IsPart, joined, longest_in, sums_in};
+ghost use Rattle.abuf_resolve.specs.Shares.{greatest};
 ghost use Rattle.abuf_resolve.specs.Sums.{IsSmall};
 ghost use Rattle.abuf_resolve.specs.Words.{frame_sums, AreFragmentLists};
 
@@ -29,28 +29,30 @@ fn all_of(alloc: Global, parts: Vec<Result<Resolved, NoMemory>>) -> Result<Vec<R
     Ok(all)
 }
 
-/// The sums of the pixel at this place, from the part of its worker.
-#[inline(always)]
-fn sum_at(parts: &[Resolved], place: u32) -> PixelSum
-    requires there { index_of (length parts.now) place < length (slice_index_or (map sums_in parts.now) (worker_of (length parts.now) place) []) }
+/// The sums of a block of 64 pixels, or of what is left for the last one, from the part of its worker.
+fn block_sums(parts: &[Resolved], pixels: usize, block: usize) -> &[PixelSum]
     requires workers { (1 ≤ length parts.now) × (length parts.now ≤ 64) }
-    ensures { result ≡ sum_of_place (map sums_in parts.now) place }
+    requires pixels { pixels ≤ 4194304 }
+    requires all { HaveAll (map sums_in parts.now) pixels }
+    requires block { 64 * block < pixels }
+    ensures { AreOfBlock (map sums_in parts.now) pixels block result.now }
 {
-    let block = place as usize / 64;
-    let part = &parts[block % parts.len()];
-    part.sums.as_slice()[block / parts.len() * 64 + place as usize % 64]
+    let sums = parts[block % parts.len()].sums.as_slice();
+    let from = block / parts.len() * 64;
+    let size = (pixels - 64 * block).min(64);
+    &sums[from..from + size]
 }
 
 /// The sums of all pixels, by ascending place.
-fn join_sums(alloc: Global, pixels: u32, parts: &[Resolved]) -> Result<List<PixelSum>, NoMemory>
+fn join_sums(alloc: Global, pixels: usize, parts: &[Resolved]) -> Result<List<PixelSum>, NoMemory>
     requires workers { (1 ≤ length parts.now) × (length parts.now ≤ 64) }
     requires pixels { pixels ≤ 4194304 }
     requires all { HaveAll (map sums_in parts.now) pixels }
     ensures { IfOk result (λ sums. sums ≡ joined (map sums_in parts.now) pixels) }
 {
-    let mut sums = Vec::with_capacity(alloc, pixels as usize)?;
-    for place in 0..pixels {
-        sums.push(sum_at(parts, place))?;
+    let mut sums = Vec::with_capacity(alloc, pixels)?;
+    for block in 0..pixels.div_ceil(64) {
+        sums.extend_from_slice(block_sums(parts, pixels, block))?;
     }
     Ok(List::from_vec(sums))
 }
@@ -82,7 +84,7 @@ impl<'a, 'b> Scene<'a, 'b> {
         ensures { IfOk result (λ all. IsPart self.now region closed.now.lists (range_with_len 0 (region.w * region.h)) all) }
     {
         let parts = all_of(alloc, parts)?;
-        let sums = join_sums(alloc, closed.pixels(), &parts)?;
+        let sums = join_sums(alloc, closed.pixels() as usize, &parts)?;
         let longest = longest_of(&parts);
         Ok(Resolved { sums, longest })
     }

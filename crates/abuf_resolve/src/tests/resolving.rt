@@ -384,3 +384,26 @@ fn pixels_without_fragments(rt: HostRuntime) -> Result<(), Fail> {
     }
     Ok(())
 }
+
+// With memory refused at any one place this ends for want of memory, or gives these sums.
+#[test]
+fn refused_memory_gives_no_other_sums(rt: HostRuntime) -> Result<(), Fail> {
+    let t = ScreenTri::new([0, 6000, 0], [0, 0, 3000], [7, 8, 9]).ok_or("t")?;
+    let case = Case {
+        tris: &[t, t],
+        paints: &[paint(65535, 0, 0, 65535), paint(0, 65535, 0, 32768)],
+        pattern: Pattern::Two,
+        region: Region {
+            x0: 0,
+            y0: 0,
+            w: 3,
+            h: 1,
+        },
+    };
+    let all = resolved(&rt, rt.alloc(), &case, 3)?;
+    assert!(rt; all.longest == 2 && all.sums.as_slice().len() == 3);
+    for sum in all.sums.as_slice() {
+        assert_eq!(rt; sum.channels, [65534, 65536, 0]);
+    }
+    Ok(())
+}

@@ -9,7 +9,7 @@ use Rattle.abuf_resolve.specs.Scene.{sum_in, sum_of_list}
 use Rattle.abuf_resolve.specs.Shares.{place_at}
 use Rattle.abuf_resolve.specs.Words.{IsFragmentAt}
 use Rattle.abuf_resolve.proofs.Parts.{part_more}
-use Rattle.abuf_resolve.proofs.Rounds.{place_below, eight_beside, eight_first}
+use Rattle.abuf_resolve.proofs.Rounds.{place_below, beside, eight_beside, eight_first}
 use Rattle.abuf_resolve.proofs.scene.Scene.part.Goals as goal
 use Rattle.abuf_resolve.proofs.scene.Scene.part.Goals.{After-place-place, After-as_slice-list}
 
@@ -74,5 +74,9 @@ loop-i-preserved c =
           let first : place - i % 8 ≡ place_at share.threads share.worker (i + 1) - (i + 1) % 8 =
           ap (λ (p : ℕ). p - i % 8) c.place-place.ensures ∙ sym (eight_beside share.threads share.worker i h) in
           c.in_ok-hold_eight.ensures.held k l ∙ ap (λ (p : ℕ). slice_index_or lists (p + k) []) first;
+      last = λ h.
+          let next : place_at share.threads share.worker (i + 1) ≡ place + 1 = omega (arith, beside share.threads share.worker i h, c.place-place.ensures) in
+          let back : place_at share.threads share.worker (i + 1) - 1 ≡ place = omega (arith, next) in
+          (omega (arith, next), rw back c.offset_at-here.ensures);
       eight = c.hold_eight.ensures.length;
     }

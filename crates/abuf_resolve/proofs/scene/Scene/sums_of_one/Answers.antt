@@ -1,15 +1,12 @@
-use Rattle.std.proofs.Common.{◌≡◌, ◌∙◌, ◌/◌, ◌^◌, ◌≤◌, if◌then◌else◌, [], ◌∷◌, ℕ, List, length, ap, ap₂, sym, arith}
+use Rattle.std.proofs.Common.{◌≡◌, ◌∙◌, ◌≤◌, ◌^◌, [], ◌∷◌, ℕ, List, true, false, ap, sym, length, arith}
 use Rattle.std.specs.List.{All}
 use Rattle.std.proofs.lemmas.List.Elements.{All-cons, All-nil}
 use Rattle.abuf_raster.specs.Samples.{offsets_of}
-use Rattle.abuf_resolve.specs.Colour.{paint_at}
-use Rattle.abuf_resolve.specs.Over.{laid_over}
-use Rattle.abuf_resolve.specs.Scene.{IsFragmentOf, colour_at}
-use Rattle.abuf_resolve.specs.Sums.{sums_of_two}
-use Rattle.abuf_resolve.specs.Words.{count_of, has_sample}
-use Rattle.abuf_resolve.proofs.Laid.{few_ascend, laid_in_order}
-use Rattle.abuf_resolve.proofs.Pairs.{two_is}
-use Rattle.abuf_resolve.proofs.Totals.{summed_same}
+use Rattle.abuf_resolve.specs.Scene.{IsFragmentOf, laid_at}
+use Rattle.abuf_resolve.specs.Sums.{summed}
+use Rattle.abuf_resolve.specs.Tally.{in_set}
+use Rattle.abuf_resolve.proofs.Laid.{few_ascend, one_colour, sums_in_order}
+use Rattle.abuf_resolve.proofs.Sets.{of_left}
 use Rattle.abuf_resolve.proofs.scene.Scene.sums_of_one.Goals as goal
 
 pub returns-clause-value : goal.returns-clause-value
@@ -18,13 +15,19 @@ returns-clause-value c =
     let at = c.args.at in
     let os = offsets_of scene.pattern in
     let word = c.args.word in
+    let mask = c.samples_of.result in
+    let paints = scene.paints.now in
+    let bg = scene.background in
     let few = scene.few in
     let limit : length scene.planes ≤ 2 ^ 24 = omega arith in
-    let above : List ℕ = laid_over scene.background (paint_at scene.paints.now (word / 2 ^ 16)) in
+    let colours : ℕ → List ℕ = laid_at scene (word ∷ []) in
     let all : All (IsFragmentOf scene at) (word ∷ []) = All-cons (IsFragmentOf scene at) word [] c.requires (All-nil (IsFragmentOf scene at)) in
-    c.sums_of_two.ensures.value
-    ∙ (ap₂ (λ (n : ℕ) (a : List ℕ). sums_of_two n a c.size-samples.result scene.background) c.count_of.ensures.value c.laid_over-above.ensures
-    ∙ (ap (λ (s : ℕ). sums_of_two (count_of word s) above s scene.background) c.size-samples.ensures
-    ∙ (sym (two_is word above scene.background (length os))
-    ∙ summed_same (λ k. if has_sample k word then above else scene.background) (colour_at scene at (word ∷ [])) (length os)
-    (λ k l. laid_in_order os scene.planes limit at.x at.y k scene.paints.now scene.background (word ∷ []) all (few_ascend os scene.planes at.x at.y k (word ∷ []) (omega arith))))))
+    let size : c.with.result.samples ≡ length os = c.with.ensures.samples ∙ (c.new.ensures.samples ∙ c.size.ensures) in
+    let holds = c.with.ensures.holds colours (c.new.ensures.holds colours)
+    (λ k l r s. one_colour paints k bg word true (ap (λ (m : ℕ). in_set m k) (sym c.samples_of.ensures) ∙ s) ∙ sym c.laid_over-above.ensures) in
+    c.all_with.ensures.value colours holds
+    (λ k l r s.
+    let both = of_left c.new.result.rest mask k c.samples_of.type_inv (omega (arith, l, c.with.ensures.fair.few)) (ap (λ (m : ℕ). in_set m k) (sym c.with.ensures.left) ∙ r) in
+    one_colour paints k bg word false (ap (λ (m : ℕ). in_set m k) (sym c.samples_of.ensures) ∙ both.1))
+    ∙ (ap (summed colours) size
+    ∙ sums_in_order os scene.planes limit at.x at.y paints bg (word ∷ []) all (λ k l. few_ascend os scene.planes at.x at.y k (word ∷ []) (omega arith)))
