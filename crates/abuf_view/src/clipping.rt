@@ -23,17 +23,29 @@ pub struct Corners {
     pub c: Seen,
 }
 
+/// How far the other end of an edge is from this one, times how far this one is in front of the near plane.
+fn cut_product(p: i64, q: i64, near: i64) -> i128
+    requires p { unsigned_abs p < 2 ^ 55 }
+    requires q { unsigned_abs q < 2 ^ 55 }
+    requires near { unsigned_abs near < 2 ^ 56 }
+    ensures value { result ≡ (q -ℤ p) *ℤ near }
+    ensures bound { unsigned_abs result < 2 ^ 112 }
+{
+    product(q - p, near)
+}
+
 /// The part of a cut point, between those of the two ends.
 fn cut_part(p: i64, q: i64, near: i64, span: i64) -> i64
     requires p { unsigned_abs p < 2 ^ 55 }
     requires q { unsigned_abs q < 2 ^ 55 }
     requires near { pos 0 ≤ℤ near }
+    requires small { unsigned_abs near < 2 ^ 56 }
     requires span { pos 0 <ℤ span }
     requires order { near ≤ℤ span }
     ensures value { result ≡ p +ℤ floor_div ((q -ℤ p) *ℤ near) span }
     ensures within { unsigned_abs result ≤ max (unsigned_abs p) (unsigned_abs q) }
 {
-    p + floor_div(product(q - p, near), span as i128) as i64
+    p + floor_div(cut_product(p, q, near), span as i128) as i64
 }
 
 /// The camera's norm, and the w of its near plane.

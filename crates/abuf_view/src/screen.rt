@@ -20,6 +20,18 @@ const SHORT_W: u64 = 18014398509481984;
 // The near plane's w below which 63 bits hold 16777215 times it.
 const SHORT_PLANE: u64 = 549755813888;
 
+// 128 times the height, the focal length and the distance from the middle.
+fn wide_size(height: u32, focal: i64, x: i64) -> i128
+    requires height { height ≤ 4096 }
+    requires focal { (pos 0 ≤ℤ focal) × (focal ≤ℤ pos 1048576) }
+    requires x { unsigned_abs x < 2 ^ 55 }
+    ensures value { result ≡ pos (128 * height) *ℤ focal *ℤ x }
+    ensures bound { unsigned_abs result < 2 ^ 95 }
+{
+    let scale = (128 * height) as i64 * focal;
+    product(scale, x)
+}
+
 // The same as `screen_part`, in 128 bits.
 fn wide_part(height: u32, focal: i64, x: i64, w: i64) -> i64
     requires height { height ≤ 4096 }
@@ -30,8 +42,7 @@ fn wide_part(height: u32, focal: i64, x: i64, w: i64) -> i64
     ensures value { result ≡ round_div (pos (128 * height) *ℤ focal *ℤ x) (pos 65536 *ℤ w) }
     ensures bound { unsigned_abs result ≤ 2 ^ 44 }
 {
-    let scale = (128 * height) as i64 * focal;
-    round_div(product(scale, x), product(65536, w)) as i64
+    round_div(wide_size(height, focal, x), product(65536, w)) as i64
 }
 
 // The height times the focal length and the distance from the middle, where it is short.

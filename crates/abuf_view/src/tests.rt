@@ -167,6 +167,25 @@ fn far_corners_on_the_near_plane(rt: HostRuntime) -> Result<(), Fail> {
     Ok(())
 }
 
+// Shifted as far ahead as can be, a triangle is a point on the screen. As far behind, nothing of it is left.
+#[test]
+fn farthest_shifts(rt: HostRuntime) -> Result<(), Fail> {
+    let a = point(-262144, 262144, 0);
+    let b = point(262144, 262144, 0);
+    let c = point(-262144, -262144, 0);
+    for (z, parts) in [(-2147483647, 1), (2147483647, 0)] {
+        let camera = Camera::new(4, 4, [1, 0, 0, 0], [0, 0, z], 65536, 8192).ok_or("camera")?;
+        let shown = seen_by(rt.alloc(), &camera, a, b, c)?;
+        assert!(rt; shown.tris.as_slice().len() == parts);
+        for x in 0..4 {
+            for y in 0..4 {
+                assert!(rt; covering(&shown, x, y) == 0);
+            }
+        }
+    }
+    Ok(())
+}
+
 // Two halves of a square, of which the second has a material.
 const SQUARE: &[u8] = b"v -4 4 0\nv 4 4 0\nv 4 -4 0\nv -4 -4 0\nf 1 2 4\nusemtl red\nf 2 3 4";
 

@@ -21,6 +21,9 @@ module _ (c : After-minus-span) where
   spans : (pos 0 ≤ℤ c.minus-near.result) × (pos 0 <ℤ c.minus-span.result) × (c.minus-near.result ≤ℤ c.minus-span.result)
   spans = cut_spans c.args.view.norm c.args.view.plane c.minus-near.result c.minus-span.result c.args.p c.args.q c.requires.view c.requires.inside c.requires.outside near_is span_is
 
+  near_small : unsigned_abs c.minus-near.result < 2 ^ 56
+  near_small = omega (arith, ints, near_is, p_small.2, c.requires.view.plane_high)
+
   near_fits : SFits w64 c.minus-near.result
   near_fits = record { sfits = c.minus-near.type_inv }
 
@@ -34,7 +37,7 @@ cut_part-requires c =
     let f2 : SFits w64 c.args.q.x = fits55 _ (q_small d).0 in
     let f3 = near_fits d in
     let f4 = span_fits d in
-    simp to_z-of_z (record { p = (p_small d).0; q = (q_small d).0; near = (spans d).0; span = (spans d).1; order = (spans d).2 })
+    simp to_z-of_z (record { p = (p_small d).0; q = (q_small d).0; near = (spans d).0; small = near_small d; span = (spans d).1; order = (spans d).2 })
 
 pub cut_part-requires-2 : goal.cut_part-requires-2
 cut_part-requires-2 c =
@@ -43,7 +46,7 @@ cut_part-requires-2 c =
     let f2 : SFits w64 c.args.q.y = fits55 _ (q_small d).1 in
     let f3 = near_fits d in
     let f4 = span_fits d in
-    simp to_z-of_z (record { p = (p_small d).1; q = (q_small d).1; near = (spans d).0; span = (spans d).1; order = (spans d).2 })
+    simp to_z-of_z (record { p = (p_small d).1; q = (q_small d).1; near = (spans d).0; small = near_small d; span = (spans d).1; order = (spans d).2 })
 
 pub returns : goal.returns
 returns c =

@@ -8,10 +8,10 @@ use Rattle.abuf_view.proofs.clipping.cut_part.Goals.{After-floor_div}
 
 quotient : (c : After-floor_div) → c.floor_div.result ≡ floor_div ((c.args.q -ℤ c.args.p) *ℤ c.args.near) c.args.span
 quotient c =
-    let d : to_z w64 (of_z w64 (to_z w64 (of_z w64 c.args.q) -ℤ to_z w64 (of_z w64 c.args.p))) ≡ c.args.q -ℤ c.args.p = omega (arith, ints) in
     let s : to_z w128 (of_z w128 (to_z w64 (of_z w64 c.args.span))) ≡ c.args.span = omega (arith, ints) in
-    let a : c.product.result ≡ (c.args.q -ℤ c.args.p) *ℤ c.args.near = c.product.ensures ∙ ap₂ (λ (x y : ℤ). x *ℤ y) d (to_z-of_z w64 c.args.near c.ranges.near) in
-    c.floor_div.ensures ∙ ap₂ floor_div (to_z-of_z w128 c.product.result (record { sfits = c.product.type_inv }) ∙ a) s
+    let d : to_z w64 (of_z w64 c.args.q) -ℤ to_z w64 (of_z w64 c.args.p) ≡ c.args.q -ℤ c.args.p = ap₂ (λ (x y : ℤ). x -ℤ y) (to_z-of_z w64 c.args.q c.ranges.q) (to_z-of_z w64 c.args.p c.ranges.p) in
+    let a = c.cut_product.ensures.value ∙ ap₂ (λ (x y : ℤ). x *ℤ y) d (to_z-of_z w64 c.args.near c.ranges.near) in
+    c.floor_div.ensures ∙ ap₂ floor_div (to_z-of_z w128 c.cut_product.result (record { sfits = c.cut_product.type_inv }) ∙ a) s
 
 bound : (c : After-floor_div) → unsigned_abs (c.args.p +ℤ c.floor_div.result) ≤ max (unsigned_abs c.args.p) (unsigned_abs c.args.q)
 bound c =
