@@ -33,9 +33,8 @@ told-weaker None few more job r f h = tt
 told-weaker (Some line) few more job r f h = prepares-weaker line few more job r f h
 
 -- a count that stays at 0 didn't rise
-pub still : Rose 0 0 ⊎ Rose 0 0 → ⊥
-still (inl h) = absurd (omega (arith, h))
-still (inr h) = absurd (omega (arith, h))
+pub still : Rose 0 0 → ⊥
+still h = absurd (omega (arith, h))
 
 -- a scene's libraries are read from a shelf that tells, or there are none
 pub furnish_told : (job : Job) (obj : Obj) (tells : Bool) (held : Held) (rose : Type 0) (r : Result Projected Stop)

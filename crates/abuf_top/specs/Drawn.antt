@@ -1,5 +1,5 @@
 -- A frame into which a drawing was drawn, what a reader sees of a pixel's list in it, and what is written.
-use Rattle.std.specs.Prelude.{◌≡◌, ◌≤◌, ◌*◌, ◌+◌, ℕ, List, Option, IfSome, Result}
+use Rattle.std.specs.Prelude.{◌≡◌, ◌≤◌, ◌*◌, ◌+◌, ℕ, List, Option, IfSome, Result, min}
 use Rattle.abuf_frame.specs.Frame.{Shape}
 use Rattle.abuf_frame.specs.Pass.{Held}
 use Rattle.abuf_frame.specs.Views.{IsWhole, IsSettled}
@@ -13,12 +13,13 @@ use Rattle.abuf_top.specs.Verdict.{pool_line}
 use Rattle.abuf_top.specs.Ending.{IsFrameOf, Produces, HandsBack}
 use Rattle.abuf_top.specs.declared.stop.Stop.{Stop}
 
--- The pass is the whole one of the frame, which has a list for each pixel of the image and the job's nodes, and it has an
--- entry for each fragment.
+-- The pass is the whole one of the frame, which has a list for each pixel of the image, and it has an entry for each fragment.
+-- The frame has the job's nodes, or fewer, where these are enough for all fragments.
 pub record IsDrawn (d : Drawing) (frame : Shape) (pass : Held) : Type 0 where
   pub belongs : pass.frame ≡ frame
   pub pixels : frame.pixels ≡ d.job.camera.width * d.job.camera.height
-  pub nodes : frame.nodes ≡ d.job.nodes
+  pub few : frame.nodes ≤ d.job.nodes
+  pub enough : min (total d) d.job.nodes ≤ frame.nodes
   pub whole : IsWhole pass.view
   pub settled : IsSettled pass.view
   pub drawn : Adds (fragments d) pass.view.entries

@@ -7,10 +7,10 @@ ghost use Rattle.abuf_top.specs.Stopped.{HasReadCause};
 ghost use Rattle.abuf_top.specs.Verdict.{scene_line};
 ghost use Rattle.abuf_top.specs.Prepared.{Prepares};
 
-use crate::prepare::read_scene;
+use crate::prepare::read_text;
 use crate::stop::Stop;
 use abuf_cli::Job;
-use abuf_io::{SteadyShelf, SteadySource};
+use abuf_io::SteadyShelf;
 use abuf_num::{List, NoMemory};
 use abuf_scene::make;
 use abuf_view::Projected;
@@ -40,6 +40,5 @@ pub fn demonstrate(alloc: Global, job: &Job, number: u32) -> Result<Projected, S
     let Ok(mut shelf) = library_shelf(alloc, made.library) else {
         return Err(Stop::Memory);
     };
-    let mut source = SteadySource::new(made.obj);
-    read_scene(alloc, job, &mut source, &mut shelf)
+    read_text(alloc, job, made.obj, &mut shelf)
 }

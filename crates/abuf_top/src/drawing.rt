@@ -1,14 +1,15 @@
 // The drawing into a frame, its closing, and a look at one pixel before it.
-ghost use Rattle.std.specs.Prelude.{◌≡◌, ◌≤◌, ◌<◌, ◌+◌, ◌*◌, ◌^◌, length, IfOk};
+ghost use Rattle.std.specs.Prelude.{◌≡◌, ◌≤◌, ◌<◌, ◌+◌, ◌*◌, ◌^◌, length, min, IfOk};
 ghost use Rattle.abuf_raster.specs.Region.{IsRegion};
 ghost use Rattle.abuf_cli.specs.Sound.{IsJob};
-ghost use Rattle.abuf_top.specs.Image.{whole_image};
+ghost use Rattle.abuf_frame.specs.Views.{lost};
+ghost use Rattle.abuf_top.specs.Image.{total, whole_image};
 ghost use Rattle.abuf_top.specs.Prepared.{drawing_by};
 ghost use Rattle.abuf_top.specs.Ending.{IsFrameOf};
 ghost use Rattle.abuf_top.specs.Drawn.{IsDrawn, found, IsSightOf};
 
 use abuf_cli::Job;
-use abuf_fan::{Gate, draw_all};
+use abuf_fan::{Gate, draw_all, most_fragments};
 use abuf_frame::{Closed, Frame, Look, Pass};
 use abuf_num::NoMemory;
 use abuf_raster::Region;
@@ -31,7 +32,18 @@ pub fn whole_image(job: &Job) -> Region
     }
 }
 
-// A frame into which the primitives are drawn, on the job's number of threads, and its whole pass.
+// How many nodes a pool is made with that may have so many, for so many fragments at most.
+fn nodes_for(most: u64, nodes: u32) -> u32
+    requires { 1 ≤ nodes }
+    ensures some { 1 ≤ result }
+    ensures few { result ≤ nodes }
+    ensures enough { min most nodes ≤ result }
+{
+    most.clamp(1, u64::from(nodes)) as u32
+}
+
+// A frame into which the primitives are drawn, on the job's number of threads, and its whole pass. The frame has the job's
+// nodes, or fewer, where the scene can't take them all: a node that is never claimed costs memory, and the time to clear it.
 fn draw_pass<R: Threads + Sync, G: Gate + Sync>(
     rt: &R,
     alloc: Global,
@@ -45,7 +57,9 @@ fn draw_pass<R: Threads + Sync, G: Gate + Sync>(
 {
     let region = whole_image(job);
     let triangles = shown.tris.as_slice();
-    let (frame, mut pass) = Frame::start(alloc, region.w * region.h, job.nodes)?;
+    let most = most_fragments(rt, triangles, region, job.pattern, job.threads);
+    let nodes = nodes_for(most, job.nodes);
+    let (frame, mut pass) = Frame::start(alloc, region.w * region.h, nodes)?;
     let drawn = draw_all(
         rt,
         alloc,
@@ -66,6 +80,20 @@ fn draw_pass<R: Threads + Sync, G: Gate + Sync>(
     }
 }
 
+// Closes the frame of a drawing, as one of the job's nodes.
+fn close_drawn(job: &Job, shown: &Projected, frame: Frame, pass: Pass) -> Closed
+    requires job { IsJob job.now }
+    requires drawn { IsDrawn (drawing_by job.now shown.now) frame pass }
+    ensures frame { IsFrameOf (drawing_by job.now shown.now) result }
+    ensures kept { total (drawing_by job.now shown.now) ≤ job.now.nodes → lost pass.view.entries ≡ 0 }
+{
+    let closed = frame.close(pass);
+    match closed.full() {
+        None => closed.in_larger_pool(job.nodes),
+        Some(_) => closed,
+    }
+}
+
 /// The closed frame into which the primitives are drawn.
 pub fn draw_frame<R: Threads + Sync, G: Gate + Sync>(
     rt: &R,
@@ -79,7 +107,7 @@ pub fn draw_frame<R: Threads + Sync, G: Gate + Sync>(
     ensures { IfOk result (IsFrameOf (drawing_by job.now shown.now)) }
 {
     let (frame, pass) = draw_pass(rt, alloc, job, shown, gate)?;
-    Ok(frame.close(pass))
+    Ok(close_drawn(job, shown, frame, pass))
 }
 
 // How many words a look left in a slice of this length.
@@ -132,6 +160,6 @@ pub fn draw_and_look<R: Threads + Sync, G: Gate + Sync>(
     Ok(Sight {
         entries,
         words,
-        closed: frame.close(pass),
+        closed: close_drawn(job, shown, frame, pass),
     })
 }

@@ -142,6 +142,24 @@ fn read_bytes<H: Shelf>(
     furnish(alloc, job, obj, shelf)
 }
 
+/// The primitives of the scene that these bytes define, unless they are too many.
+pub fn read_text<H: Shelf>(
+    alloc: Global,
+    job: &Job,
+    bytes: List<u8>,
+    shelf: &mut H,
+) -> Result<Projected, Stop>
+    ensures told { IfSome (scene_line job.now (told_by (H.tells shelf.old) (H.holds shelf.old)) bytes) (λ line. Prepares line (Rose (H.faults shelf.old) (H.faults shelf.new)) job.now result) }
+    ensures cause { IfErr result (HasReadCause (Rose (H.faults shelf.old) (H.faults shelf.new))) }
+    ensures one_length { IfOk result (λ p. length p.tris ≡ length p.paints) }
+    ensures few { IfOk result (λ p. length p.tris ≤ 2097152) }
+{
+    if bytes.as_slice().len() as u64 > MOST_BYTES {
+        return Err(Stop::Refused(Refusal::SceneTooLong));
+    }
+    read_bytes(alloc, job, bytes, shelf)
+}
+
 /// The primitives of the scene that the source has left.
 pub fn read_scene<S: Source, H: Shelf>(
     alloc: Global,

@@ -12,7 +12,6 @@ use Rattle.abuf_raster.specs.Samples.{offsets_of}
 use Rattle.abuf_top.specs.Prepared.{drawing_by}
 use Rattle.abuf_top.specs.Image.{fragments}
 use Rattle.abuf_top.specs.Drawn.{found}
-use Rattle.abuf_top.proofs.Frames.{frame_of}
 use Rattle.abuf_top.proofs.Sights.{seen}
 use Rattle.abuf_top.proofs.drawing.draw_and_look.Goals as goal
 
@@ -27,12 +26,10 @@ returns g c =
     let counted_entries : counted.entries ≡ c.in_ok-frame.pass.view.entries = ap (λ (v : View). v.entries) c.count-entries.ensures.view in
     let same : after ≡ counted.entries = ap (λ (v : View). v.entries) walk.1 in
     let adds : Adds (fragments d) counted.entries = subst (Adds (fragments d)) (sym counted_entries) drawn.drawn in
-    let after_adds : Adds (fragments d) after = subst (Adds (fragments d)) (sym same) adds in
-    let kept : length after ≤ d.job.nodes → lost after ≡ 0 = λ h. c.close.ensures.kept (subst (λ (n : ℕ). length after ≤ n) (sym drawn.nodes) h) in
     record {
       count = c.count-entries.ensures.whole drawn.whole ∙ drawn.drawn.count;
       seen = λ enough.
-          let none : lost counted.entries ≡ 0 = subst (λ (es : List Entry). lost es ≡ 0) same (kept (omega (arith, after_adds.count, enough))) in
+          let none : lost counted.entries ≡ 0 = subst (λ (es : List Entry). lost es ≡ 0) same (c.close_drawn.ensures.kept enough) in
           let carried : IsPermutation (pairs counted.entries) (fragments d) = adds.carried none in
           let hits : IsPermutation (pairs counted.entries) (all_fragments c.as_slice.result.now 0 (offsets_of c.args.job.now.pattern) c.whole_image-region.result) =
           subst (λ (ts : List ScreenTri). IsPermutation (pairs counted.entries) (all_fragments ts 0 (offsets_of c.args.job.now.pattern) c.whole_image-region.result)) (sym c.as_slice.ensures)
@@ -53,6 +50,5 @@ returns g c =
             here = subst (λ (w : ℕ). IsPermutation c.truncate.new.self.items (payloads_at (c.args.y * w + c.args.x) (pairs counted.entries))) (ap (λ (r : Region). r.w) c.whole_image-region.ensures.value)
                 (subst (λ (xs : List ℕ). IsPermutation xs (payloads_at place (pairs counted.entries))) (sym left) words);
           };
-      frame = frame_of d c.close.result after after_adds (c.close.ensures.sizes.0 ∙ drawn.pixels) (c.close.ensures.sizes.1 ∙ drawn.nodes) (c.close.ensures.sizes.2 ∙ drawn.pixels)
-          c.close.ensures.fragments (λ p here. c.close.ensures.lists p (subst (λ (n : ℕ). p < n) (sym drawn.pixels) here)) kept;
+      frame = c.close_drawn.ensures.frame;
     }
