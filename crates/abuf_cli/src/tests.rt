@@ -336,3 +336,25 @@ fn options_before_and_behind_a_value(rt: HostRuntime) {
         Err(_) => assert!(rt; false),
     }
 }
+
+// Also with memory refused at any one place.
+#[test]
+fn refused_memory_is_told(rt: HostRuntime) {
+    let alloc = rt.alloc();
+    let words = ["pick", "--size", "4x4", "--background=1,1,1", "--", "2,1"];
+    match read(alloc, &words) {
+        Ok(job) => assert!(rt;
+            job.what == What::Pick { x: 2, y: 1 } && job.background == [65535; 3]
+        ),
+        Err(fault) => assert!(rt; fault == WordFault::Memory),
+    }
+    let named = WordFault::Value { option: Opt::Near };
+    match read(alloc, &["render", "--maxval", "256", "--near", "0"]) {
+        Ok(_) => assert!(rt; false),
+        Err(fault) => assert!(rt; fault == named || fault == WordFault::Memory),
+    }
+    match read(alloc, &["render", "--near", "0", "--near", "1"]) {
+        Ok(_) => assert!(rt; false),
+        Err(fault) => assert!(rt; fault == WordFault::Words || fault == WordFault::Memory),
+    }
+}

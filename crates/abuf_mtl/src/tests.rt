@@ -47,3 +47,31 @@ fn a_refusal_names_its_line_and_changes_nothing(rt: HostRuntime) {
         assert!(rt; materials.find(b"red") == Some(paint(65535, 0, 0, 65535)));
     }
 }
+
+// Also with memory refused at any one place.
+#[test]
+fn refused_memory_changes_nothing(rt: HostRuntime) {
+    let alloc = rt.alloc();
+    let mut materials = Materials::new(alloc);
+    let first = read_mtl(alloc, b"newmtl red\nKd 1 0 0\nnewmtl sea", &mut materials);
+    let (red, sea) = (materials.find(b"red"), materials.find(b"sea"));
+    if first == Ok(()) {
+        assert!(rt; red == Some(paint(65535, 0, 0, 65535)));
+        assert!(rt; sea == Some(paint(65535, 65535, 65535, 65535)));
+    } else {
+        assert!(rt; first == Err(MtlFault::Memory) && red == None && sea == None);
+    }
+    let second = read_mtl(
+        alloc,
+        b"newmtl red\nKd 0 1 0\nnewmtl blue\nd 0",
+        &mut materials,
+    );
+    assert!(rt; materials.find(b"sea") == sea);
+    if second == Ok(()) {
+        assert!(rt; materials.find(b"red") == Some(paint(0, 65535, 0, 65535)));
+        assert!(rt; materials.find(b"blue") == Some(paint(65535, 65535, 65535, 0)));
+    } else {
+        assert!(rt; second == Err(MtlFault::Memory));
+        assert!(rt; materials.find(b"red") == red && materials.find(b"blue") == None);
+    }
+}

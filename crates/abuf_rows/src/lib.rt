@@ -18,6 +18,8 @@ mod exported;
 #[cfg(test)]
 mod limits;
 #[cfg(test)]
+mod long;
+#[cfg(test)]
 mod materials;
 #[cfg(test)]
 mod meeting;
