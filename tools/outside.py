@@ -4,8 +4,8 @@
     outside.py [--program PATH]
 
 Standard input, output or error is closed, full or a folder; a reader goes away; a library is a
-device, a pipe, a folder or no name at all; memory is short. Each check is a line of the shell, run
-in a new folder in which are
+device, a pipe, a folder or no name at all; memory, stacks, files or time are limited. Each check is
+a line of the shell, run in a new folder in which are
 
     scene.obj       a triangle, white, or red by a library that the check names
     a.mtl           the library with the colour
@@ -64,6 +64,7 @@ def checks():
     yield from of_names()
     yield from of_pipes()
     yield from of_memory()
+    yield from of_limits()
 
 
 def of_the_scene():
@@ -168,6 +169,25 @@ def of_memory():
             line = f"ulimit -v {1024 * limit}; abuf render --size 4x4 --threads {threads} " \
                 f"--nodes {nodes} < scene.obj"
             yield Check("little memory", line, 0, out=WHOLE, library=b"a.mtl", is_short=True)
+
+
+def of_limits():
+    def check(title, limits, words, status, out=NOTHING, before=""):
+        """The limits hold for the program, and not for the shell that writes its status."""
+        line = f'{before}({limits}; exec "$program" {words}) < scene.obj; echo $? > status'
+        return Check(title, line, status, out=out, library=b"a.mtl")
+
+    small = "render --size 4x4 --nodes 100"
+    yield check("a small stack", "ulimit -s 64", small + " --threads 1", 0, WHOLE)
+    for stack in ("64", "unlimited"):
+        yield check("small and large stacks of threads", f"ulimit -s {stack}",
+                    small + " --threads 64", 0, WHOLE)
+    yield check("no file may grow, and its signal is ignored", "trap '' XFSZ; ulimit -f 0",
+                small + " > other", 7, before="exec 2> log; ")
+    yield check("no file may grow", "ulimit -c 0; ulimit -f 0", small + " > other", 128 + 25,
+                before="exec 2> log; ")
+    yield check("processor time is short", "ulimit -c 0; ulimit -t 1",
+                "demo 200000 --nodes 100 --threads 1", 128 + 9, before="exec 2> log; ")
 
 
 # ---- running
