@@ -13,7 +13,7 @@ from collections import Counter
 
 # The parts, and what the names of their functions hold; the first that fits counts.
 PARTS = {
-    "starting": r"abuf_frame::frame::.*(start|blank)|atomic_table::.*of_words|abuf_top::drawing::draw_pass",
+    "starting": r"abuf_frame::frame::.*(start|blank)|atomic_table::.*of_words|abuf_top::drawing::draw_pass|abuf_fan::most|abuf_raster::upper_bound",
     "projecting": r"abuf_view::|abuf_scene::(assembly|fans|triangles)|abuf_num::division|abuf_top::prepare::show",
     "reading": r"abuf_(cli|io|text|obj|mtl|scene|num)::|abuf_top::(prepare|libraries|demonstration)|bstr::|clap::|std_coll",
     "drawing": r"abuf_(fan|draw|raster)::|abuf_frame::pass",
