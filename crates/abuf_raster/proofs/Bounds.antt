@@ -1,5 +1,5 @@
 -- Bounds on sums, differences and products of signed numbers, by their absolute values.
-use Rattle.std.proofs.Common.{◌≡◌, ℕ, ◌+◌, ◌*◌, ◌^◌, ◌<◌, ◌≤◌, ℤ, pos, ◌+ℤ◌, ◌-ℤ◌, ◌*ℤ◌, unsigned_abs, FitsSigned, to_z, of_z, w64, arith, mul-le-mul, ap, ap₂, ◌∙◌}
+use Rattle.std.proofs.Common.{◌≡◌, ℕ, ◌+◌, ◌-◌, ◌*◌, ◌^◌, ◌<◌, ◌≤◌, ℤ, pos, ◌+ℤ◌, ◌-ℤ◌, ◌*ℤ◌, unsigned_abs, FitsSigned, to_z, of_z, w64, arith, mul-le-mul, ap, ap₂, ◌∙◌}
 use Rattle.abuf_raster.specs.Samples.{sample_place, pixel_centre}
 use Rattle.std.specs.Int.{w128}
 use Rattle.std.proofs.lemmas.Int.{ints, unsigned_abs-mul}
@@ -29,10 +29,12 @@ minus128 x y m n p q h =
 -- the product of two differences of parts below 2 ^ 45
 pub product_of : (p x y u v : ℤ) → unsigned_abs x < 2 ^ 45 → unsigned_abs y < 2 ^ 45 → unsigned_abs u < 2 ^ 45 → unsigned_abs v < 2 ^ 45
     → p ≡ to_z w64 (of_z w64 (to_z w64 (of_z w64 x) -ℤ to_z w64 (of_z w64 y))) *ℤ to_z w64 (of_z w64 (to_z w64 (of_z w64 u) -ℤ to_z w64 (of_z w64 v)))
-    → (p ≡ (x -ℤ y) *ℤ (u -ℤ v)) × (unsigned_abs p ≤ 2 ^ 92)
+    → (p ≡ (x -ℤ y) *ℤ (u -ℤ v)) × (unsigned_abs p ≤ 2 ^ 92 - 1)
 product_of p x y u v hx hy hu hv e =
     let e1 : p ≡ (x -ℤ y) *ℤ (u -ℤ v) = e ∙ ap₂ (λ (a b : ℤ). a *ℤ b) (minus64 x y (omega arith) (omega arith)) (minus64 u v (omega arith) (omega arith)) in
-    (e1, rw e1 (abs-mul (x -ℤ y) (u -ℤ v) (2 ^ 46) (2 ^ 46) (omega (arith, abs-sub x y (2 ^ 45) (2 ^ 45) (omega arith) (omega arith))) (omega (arith, abs-sub u v (2 ^ 45) (2 ^ 45) (omega arith) (omega arith)))))
+    let m = abs-mul (x -ℤ y) (u -ℤ v) (2 ^ 46 - 2) (2 ^ 46 - 2)
+    (omega (arith, abs-sub x y (2 ^ 45 - 1) (2 ^ 45 - 1) (omega arith) (omega arith))) (omega (arith, abs-sub u v (2 ^ 45 - 1) (2 ^ 45 - 1) (omega arith) (omega arith))) in
+    (e1, rw e1 (omega (arith, m)))
 
 -- what `x + y + z` gives at an i128, where each is bounded
 pub plus128 : (x y z : ℤ) (m : ℕ) → unsigned_abs x ≤ m → unsigned_abs y ≤ m → unsigned_abs z ≤ m → 3 * m < 2 ^ 127
@@ -44,7 +46,7 @@ plus128 x y z m p q r h =
     (omega (arith, ints), e, rw e (omega (arith, abs-add (x +ℤ y) z (m + m) m (abs-add x y m m p q) r)))
 
 -- a weighted edge value, read at the edge's own value
-pub weight_is : (w e z : ℤ) (q : ℕ) → w ≡ to_z w128 (of_z w128 e) *ℤ pos q → e ≡ z → unsigned_abs e ≤ 2 ^ 93 → w ≡ z *ℤ pos q
+pub weight_is : (w e z : ℤ) (q : ℕ) → w ≡ to_z w128 (of_z w128 e) *ℤ pos q → e ≡ z → unsigned_abs e < 2 ^ 93 → w ≡ z *ℤ pos q
 weight_is w e z q h k b =
     let s : to_z w128 (of_z w128 e) ≡ e = omega (arith, ints) in
     h ∙ ap (λ (y : ℤ). y *ℤ pos q) (s ∙ k)

@@ -25,7 +25,7 @@ floor_div-requires c =
     omega (arith, ints)
 
 -- the quotient, where each of its parts is what it stands for
-quotient : (r n m : ℤ) (u : Triangle) (s : Point) → r ≡ floor_div (to_z w128 (of_z w128 n)) (to_z w128 (of_z w128 m)) → unsigned_abs n < 2 ^ 120 → unsigned_abs m ≤ 2 ^ 93
+quotient : (r n m : ℤ) (u : Triangle) (s : Point) → r ≡ floor_div (to_z w128 (of_z w128 n)) (to_z w128 (of_z w128 m)) → unsigned_abs n < 2 ^ 120 → unsigned_abs m < 2 ^ 93
     → n ≡ weighted_depth u s → m ≡ edge_function u.a u.b u.c → r ≡ depth_of u s
 quotient r n m u s e hn hm f g = e ∙ ap₂ floor_div (back128 n (omega arith) ∙ f) (back128 m (omega arith) ∙ g)
 
