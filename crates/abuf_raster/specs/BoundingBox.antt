@@ -24,3 +24,7 @@ pub record IsBoxOf (t : Triangle) (offsets : List (ℤ × ℤ)) (r : Region) (b 
   pub right : (i j : ℕ) → b.right ≤ i → i < r.x0 + r.w → mask t offsets i j ≡ 0
   pub above : (i j : ℕ) → r.y0 ≤ j → j < b.top → mask t offsets i j ≡ 0
   pub under : (i j : ℕ) → b.bottom ≤ j → j < r.y0 + r.h → mask t offsets i j ≡ 0
+
+-- The triangle covers no sample in any pixel of the region.
+abbrev pub CoversNone : Triangle → List (ℤ × ℤ) → Region → Type 0
+CoversNone t offsets r = (x y : ℕ) → r.x0 ≤ x → x < r.x0 + r.w → r.y0 ≤ y → y < r.y0 + r.h → mask t offsets x y ≡ 0

@@ -1,8 +1,8 @@
 // The box of pixels around a triangle.
-ghost use Rattle.std.specs.Prelude.{◌≡◌, ℕ, ◌+◌, ◌*◌, ◌^◌, ◌<◌, ◌≤◌, pos, ◌+ℤ◌, ◌-ℤ◌, ◌≤ℤ◌, ◌<ℤ◌, unsigned_abs, max, IsTrue, ◌↔◌, ◌⊎◌};
+ghost use Rattle.std.specs.Prelude.{◌≡◌, ℕ, ◌+◌, ◌*◌, ◌^◌, ◌<◌, ◌≤◌, pos, ◌+ℤ◌, ◌-ℤ◌, ◌≤ℤ◌, ◌<ℤ◌, unsigned_abs, max, IsTrue, ◌↔◌, ◌⊎◌, false};
 ghost use Rattle.abuf_raster.specs.Region.{IsRegion};
 ghost use Rattle.abuf_raster.specs.Samples.{offsets_of};
-ghost use Rattle.abuf_raster.specs.BoundingBox.{IsBefore, IsBehind, IsBoxOf};
+ghost use Rattle.abuf_raster.specs.BoundingBox.{IsBefore, IsBehind, IsBoxOf, CoversNone};
 
 use crate::pattern::Pattern;
 use crate::region::Region;
@@ -137,4 +137,13 @@ impl BoundingBox {
     {
         self.left == self.right || self.top == self.bottom
     }
+}
+
+/// Whether the box around the triangle has a pixel of the region. Where it has none, the triangle covers no sample there; this
+/// takes much less than a walk that finds nothing.
+pub fn meets(t: &ScreenTri, region: Region, pattern: Pattern) -> bool
+    requires { IsRegion region }
+    ensures { result ≡ false → CoversNone t.now (offsets_of pattern) region }
+{
+    !BoundingBox::of(t, region, pattern).is_empty()
 }
