@@ -1,0 +1,38 @@
+-- A frame before it is closed, and what a reader sees of a pixel's list in it.
+use Rattle.std.specs.Prelude.{◌≡◌, ◌≤◌, ◌*◌, ℕ, List, min}
+use Rattle.abuf_frame.specs.Closing.{Ended}
+use Rattle.abuf_frame.specs.Draws.{Adds}
+use Rattle.abuf_frame.specs.Frame.{Shape}
+use Rattle.abuf_frame.specs.Pass.{Held}
+use Rattle.abuf_frame.specs.Views.{IsSettled, IsWhole}
+use Rattle.abuf_frame.specs.declared.look.Look.{Look}
+use Rattle.abuf_frame.specs.declared.look.Look.TheVariants as look
+use Rattle.abuf_raster.specs.declared.pattern.Pattern.{Pattern}
+use Rattle.abuf_raster.specs.declared.region.Region.{Region}
+use Rattle.abuf_raster.specs.Triangle.{Triangle}
+use Rattle.abuf_resolve.specs.Words.{AreWordsAt}
+use Rattle.abuf_picture.specs.Picture.{IsFrameOf, fragments, total}
+
+-- The pass is the whole one of the frame, which has a list for each pixel of the region, and it has an entry for each fragment.
+-- The frame has so many nodes, or fewer, where these are enough for all fragments.
+pub record IsDrawn (triangles : List Triangle) (pattern : Pattern) (r : Region) (nodes : ℕ) (frame : Shape) (pass : Held) : Type 0 where
+  pub belongs : pass.frame ≡ frame
+  pub pixels_are : frame.pixels ≡ r.w * r.h
+  pub few : frame.nodes ≤ nodes
+  pub enough : min (total triangles pattern r) nodes ≤ frame.nodes
+  pub whole : IsWhole pass.view
+  pub settled : IsSettled pass.view
+  pub drawn : Adds (fragments triangles pattern r) pass.view.entries
+
+-- How many words a look left in a slice of this length. A look at a list that isn't linked yet counts for nothing.
+abbrev pub found : Look → ℕ → ℕ
+found (look.All count) room = count
+found look.More room = room
+found (look.Unlinked node) room = 0
+
+-- What was seen before the frame was closed: the number of all entries, and, where these have nodes, the words of the
+-- fragments at one place.
+pub record IsSightOf (triangles : List Triangle) (pattern : Pattern) (r : Region) (nodes place entries : ℕ) (words : List ℕ) (closed : Ended) : Type 0 where
+  pub count : entries ≡ total triangles pattern r
+  pub seen : total triangles pattern r ≤ nodes → AreWordsAt (fragments triangles pattern r) place words
+  pub frame : IsFrameOf triangles pattern r nodes closed

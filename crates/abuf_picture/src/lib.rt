@@ -1,0 +1,21 @@
+//! A picture: primitives drawn into the frame of a region of pixels, which is closed and resolved to the sums of its samples.
+//!
+//! What is drawn are [`Primitives`], and a [`Target`] is what they are drawn into: the pixels, where the samples lie, what is
+//! laid under them, how many fragments the pool has room for, and on how many threads. [`draw`] gives the closed frame,
+//! [`draw_and_look`] what a reader sees of one pixel before the closing besides, and [`resolve_drawn`] the sums. What the
+//! frame has to hold is `specs/Picture.antt`.
+#![tactic(auto)]
+
+mod drawing;
+mod primitives;
+mod resolving;
+mod sight;
+mod target;
+#[cfg(test)]
+mod tests;
+
+pub use drawing::draw;
+pub use primitives::Primitives;
+pub use resolving::resolve_drawn;
+pub use sight::{Sight, draw_and_look};
+pub use target::Target;

@@ -1,0 +1,30 @@
+// What is drawn.
+ghost use Rattle.std.specs.Prelude.{◌≡◌, ◌≤◌, length};
+
+use abuf_num::Paint;
+use abuf_raster::ScreenTri;
+use abuf_view::Projected;
+
+/// Primitives: their triangles on the screen, and a paint for each. The place of a primitive in the lists is its number.
+#[derive(Clone, Copy)]
+pub struct Primitives<'a> {
+    pub triangles: &'a [ScreenTri],
+    pub paints: &'a [Paint],
+    pub ghost few: { length triangles.now ≤ 2097152 },
+    pub ghost painted: { length paints.now ≡ length triangles.now },
+}
+
+impl<'a> Primitives<'a> {
+    /// Those of a scene that is on the screen.
+    pub fn of(shown: &'a Projected) -> Primitives<'a>
+        requires few { length shown.now.tris ≤ 2097152 }
+        requires painted { length shown.now.paints ≡ length shown.now.tris }
+        ensures triangles { result.triangles.now ≡ shown.now.tris }
+        ensures paints { result.paints.now ≡ shown.now.paints }
+    {
+        Primitives {
+            triangles: shown.tris.as_slice(),
+            paints: shown.paints.as_slice(),
+        }
+    }
+}

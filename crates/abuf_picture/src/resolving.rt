@@ -1,0 +1,49 @@
+// The sums of a closed frame.
+ghost use Rattle.std.specs.Prelude.{◌≡◌, ◌≤◌, length, IfOk};
+ghost use Rattle.std.specs.List.{All};
+ghost use Rattle.abuf_raster.specs.Samples.{offsets_of};
+ghost use Rattle.abuf_resolve.specs.Sums.{IsSmall, region_sums};
+ghost use Rattle.abuf_picture.specs.Picture.{IsFrameOf, longest};
+
+use crate::primitives::Primitives;
+use crate::target::Target;
+use abuf_frame::Closed;
+use abuf_num::NoMemory;
+use abuf_resolve::laws::{lengths_law, sums_law, words_law};
+use abuf_resolve::{Resolved, resolve_counted};
+use std::alloc::Global;
+use std::thread::Threads;
+
+/// For each pixel of the region, in order, the sums over its samples, and the length of the longest list, from the closed
+/// frame into which the primitives were drawn. The frame must not be full, since then its lists lack fragments. An error means
+/// that memory ran out.
+pub fn resolve_drawn<R: Threads + Sync>(
+    rt: &R,
+    alloc: Global,
+    primitives: &Primitives,
+    target: Target,
+    closed: &Closed,
+) -> Result<Resolved, NoMemory>
+    requires frame { IsFrameOf primitives.now.triangles.now target.pattern target.region target.nodes closed.now }
+    requires not_full { closed.now.fragments ≤ closed.now.nodes }
+    ensures sums { IfOk result
+        (λ all. all.sums ≡ region_sums (offsets_of target.pattern) target.background primitives.now.triangles.now primitives.now.paints.now target.region) }
+    ensures small { IfOk result (λ all. All (IsSmall (length (offsets_of target.pattern))) all.sums) }
+    ensures longest { IfOk result (λ all. all.longest ≡ longest primitives.now.triangles.now target.pattern target.region) }
+{
+    let triangles = primitives.triangles;
+    let paints = primitives.paints;
+    let Target {
+        region,
+        pattern,
+        background,
+        threads,
+        ..
+    } = target;
+    words_law(closed, triangles, pattern, region);
+    sums_law(closed, triangles, paints, pattern, background, region);
+    lengths_law(closed, triangles, pattern, region);
+    resolve_counted(
+        rt, alloc, closed, region, triangles, paints, pattern, background, threads,
+    )
+}

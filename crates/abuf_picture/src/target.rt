@@ -1,0 +1,22 @@
+// What is drawn into.
+ghost use Rattle.std.specs.Prelude.{◌≤◌};
+ghost use Rattle.abuf_raster.specs.Region.{IsRegion};
+
+use abuf_raster::{Pattern, Region};
+
+/// The pixels of a picture, and how they are drawn.
+#[derive(Clone, Copy)]
+pub struct Target {
+    pub region: Region,
+    /// Where the samples of a pixel lie.
+    pub pattern: Pattern,
+    /// The colour under all primitives, each channel from 0 to 65535.
+    pub background: [u16; 3],
+    /// The number of fragments that the pool has room for, from 1 to 8388608.
+    pub nodes: u32,
+    /// The number of threads that draw and resolve, from 1 to 64.
+    pub threads: u32,
+    pub ghost is_region: { IsRegion region },
+    pub ghost nodes_within: { (1 ≤ nodes) × (nodes ≤ 8388608) },
+    pub ghost threads_within: { (1 ≤ threads) × (threads ≤ 64) },
+}
