@@ -1,0 +1,5 @@
+mod Rows
+mod Stacked
+mod Totals
+mod Fullness
+mod Stops

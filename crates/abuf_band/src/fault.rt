@@ -1,0 +1,39 @@
+// Why an image has no sums.
+use abuf_num::NoMemory;
+use std::alloc::AllocError;
+
+/// Why no sums are given.
+#[derive(Clone, Copy, Debug, PartialEq, Eq)]
+pub enum BandFault {
+    /// A band has more fragments than the pool has nodes: the first such band, counted from 1, how many fragments it has, and
+    /// the nodes of the pool.
+    Full {
+        band: u32,
+        fragments: u64,
+        nodes: u32,
+    },
+    /// Memory ran out.
+    Memory,
+}
+
+impl From<NoMemory> for BandFault {
+    ghost use Rattle.std.specs.Prelude.{◌≡◌};
+    ghost use Rattle.abuf_band.specs.declared.fault.BandFault.TheVariants.{Memory};
+
+    ghost from_gives = { λ _ fault. fault ≡ Memory };
+
+    fn from(_: NoMemory) -> Self {
+        BandFault::Memory
+    }
+}
+
+impl From<AllocError> for BandFault {
+    ghost use Rattle.std.specs.Prelude.{◌≡◌};
+    ghost use Rattle.abuf_band.specs.declared.fault.BandFault.TheVariants.{Memory};
+
+    ghost from_gives = { λ _ fault. fault ≡ Memory };
+
+    fn from(_: AllocError) -> Self {
+        BandFault::Memory
+    }
+}

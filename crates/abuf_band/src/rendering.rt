@@ -1,0 +1,77 @@
+// An image rendered band by band.
+ghost use Rattle.std.specs.Prelude.{◌≡◌, ◌≤◌, length};
+ghost use Rattle.abuf_raster.specs.Region.{IsImageSize};
+ghost use Rattle.abuf_band.specs.Answers.{Banded, IsAnswer, IsBandAnswer};
+
+use crate::bands::band_region;
+use crate::fault::BandFault;
+use abuf_fan::OpenGate;
+use abuf_num::{List, PixelSum};
+use abuf_picture::{Primitives, Target, draw, resolve_drawn};
+use abuf_raster::Pattern;
+use abuf_view::Projected;
+use std::alloc::Global;
+use std::thread::Threads;
+
+/// The sums of the target's pixels, which are the band of this number.
+fn band_sums<R: Threads + Sync>(
+    rt: &R,
+    alloc: Global,
+    primitives: &Primitives,
+    target: Target,
+    number: u32,
+) -> Result<List<PixelSum>, BandFault>
+    ensures { IsBandAnswer primitives.now.triangles.now primitives.now.paints.now target number result }
+{
+    let closed = draw(rt, alloc, primitives, target, &OpenGate)?;
+    if let Some(full) = closed.full() {
+        return Err(BandFault::Full {
+            band: number,
+            fragments: full.fragments,
+            nodes: full.nodes,
+        });
+    }
+    let resolved = resolve_drawn(rt, alloc, primitives, target, &closed)?;
+    Ok(resolved.sums)
+}
+
+/// For each pixel of an image of this size, in order, the sums over its samples, drawn in so many bands, which share the rows
+/// evenly: from 1 to as many as there are rows. The pool has room for 1 to 8388608 fragments, which each band has for itself,
+/// and 1 to 64 threads draw and resolve. An image whose fragments have nodes in each band has the same sums for every number
+/// of bands, of nodes and of threads.
+pub fn render_bands<R: Threads + Sync>(
+    rt: &R,
+    alloc: Global,
+    shown: &Projected,
+    width: u32,
+    height: u32,
+    pattern: Pattern,
+    background: [u16; 3],
+    nodes: u32,
+    threads: u32,
+    bands: u32,
+) -> Result<List<PixelSum>, BandFault>
+    requires few { length shown.now.tris ≤ 2097152 }
+    requires painted { length shown.now.paints ≡ length shown.now.tris }
+    requires size { IsImageSize width height }
+    requires nodes { (1 ≤ nodes) × (nodes ≤ 8388608) }
+    requires threads { (1 ≤ threads) × (threads ≤ 64) }
+    requires bands { (1 ≤ bands) × (bands ≤ height) }
+    ensures { let image : Banded = record { width = width; height = height; pattern = pattern; background = background; bands = bands; nodes = nodes } in
+        IsAnswer shown.now.tris shown.now.paints image result }
+{
+    let primitives = Primitives::of(shown);
+    let mut sums = Vec::with_capacity(alloc, (width * height) as usize)?;
+    for band in 0..bands {
+        let target = Target {
+            region: band_region(width, height, bands, band),
+            pattern,
+            background,
+            nodes,
+            threads,
+        };
+        let more = band_sums(rt, alloc, &primitives, target, band + 1)?;
+        sums.extend_from_slice(more.as_slice())?;
+    }
+    Ok(List::from_vec(sums))
+}
