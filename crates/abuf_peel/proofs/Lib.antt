@@ -1,0 +1,10 @@
+pub mod Writes
+pub mod Words
+pub mod Steps
+pub mod Standing
+pub mod Hits
+pub mod Offered
+pub mod Found
+pub mod Taken
+pub mod Chosen
+pub mod Joined

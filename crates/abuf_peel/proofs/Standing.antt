@@ -1,0 +1,81 @@
+-- Layers that stand for steps, and the sums of their colours.
+use Rattle.std.proofs.Common.{◌≡◌, ℕ, zero, suc, ◌+◌, ◌*◌, ◌/◌, ◌%◌, ◌^◌, ◌<◌, ◌≤◌, List, [], ◌∷◌, ℤ, map, length, get_or, Option, None, refl, ap, ap₂, ◌∙◌, sym, subst, arith, mul-le-mul}
+use Rattle.std.specs.List.{range_with_len}
+use Rattle.std.proofs.lemmas.List.{get_or-replicate}
+use Rattle.std.proofs.lemmas.Nat.{div-mul-add, mod-mul-add}
+use Rattle.abuf_num.specs.declared.plain.Paint.{Paint}
+use Rattle.abuf_raster.specs.declared.region.Region.{Region}
+use Rattle.abuf_raster.specs.declared.pattern.Pattern.{Pattern}
+use Rattle.abuf_raster.specs.Triangle.{Triangle}
+use Rattle.abuf_raster.specs.Samples.{offsets_of}
+use Rattle.abuf_resolve.specs.Colour.{colour, covering}
+use Rattle.abuf_resolve.specs.Sums.{summed, sums_at, region_sums}
+use Rattle.abuf_resolve.proofs.Totals.{summed_same, same_on_range}
+use Rattle.abuf_peel.specs.Next.{Sample, next_word, with_word}
+use Rattle.abuf_peel.specs.Layers.{Layers, Seen, seen_at, taken, after, started, Takes, StandsFor, HaveLayer, AreWhole, count_of, size_of, sample_at, next_at, sum_of_place, layer_sums, whole_colour}
+use Rattle.abuf_peel.proofs.Steps.{after-layer, after-none, after-many}
+
+-- Sample k of the pixel at a place.
+pub sample_is : (r : Region) (size place k : ℕ) → k < size → sample_at r size (place * size + k) ≡ record { x = r.x0 + place % r.w; y = r.y0 + place / r.w; k = k }
+sample_is r size place k h =
+    λ i. record { x = r.x0 + div-mul-add place size k h i % r.w; y = r.y0 + div-mul-add place size k h i / r.w; k = mod-mul-add place size k h i }
+
+-- Its index is within.
+pub sample_within : (place size pixels k count : ℕ) → place < pixels → k < size → count ≡ pixels * size → place * size + k < count
+sample_within place size pixels k count h l e = let m : suc place * size ≤ pixels * size = mul-le-mul h (let z : size ≤ size = omega arith in z) in omega arith
+
+module _ (background : List ℕ) (tris : List Triangle) (paints : List Paint) where
+  -- At the start a layer stands for no step.
+  pub stands_start : (r : Region) (pattern : Pattern) → StandsFor background tris paints 0 (started r pattern background)
+  stands_start r pattern = record { each = λ j l i. record { from = get_or-replicate (count_of r pattern) j 0 0 l i; colour = get_or-replicate (count_of r pattern) j background [] l i } }
+
+  -- Once every sample takes its next primitive, it stands for one more.
+  pub stands_next : (n : ℕ) (old new : Layers) → Takes tris paints old new → StandsFor background tris paints n old → StandsFor background tris paints (suc n) new
+  stands_next n old new t p = record {
+    each = λ j l.
+        let here : j < count_of old.region old.pattern = subst (λ (k : ℕ). j < k) (ap₂ count_of t.region t.pattern) l in
+        let step : seen_at new j ≡ after (offsets_of old.pattern) background tris paints (sample_at old.region (size_of old.pattern) j) (suc n)
+        = t.each j here ∙ ap (taken (offsets_of old.pattern) tris paints (sample_at old.region (size_of old.pattern) j)) (p.each j here) in
+        step ∙ ap₂ (λ (r : Region) (q : Pattern). after (offsets_of q) background tris paints (sample_at r (size_of q) j) (suc n)) (sym t.region) (sym t.pattern);
+  }
+
+  module _ (few : length tris ≤ 2 ^ 24) where
+    -- Then it has the layer of that number.
+    pub layers_are : (n : ℕ) (l : Layers) → StandsFor background tris paints n l → HaveLayer background tris paints n l
+    layers_are n l p j m = ap (λ (v : Seen). v.colour) (p.each j m) ∙ after-layer (offsets_of l.pattern) background tris paints (sample_at l.region (size_of l.pattern) j) few n
+
+    -- Where no primitive was left, the colours are whole.
+    pub whole_none : (n : ℕ) (old new : Layers) → Takes tris paints old new → StandsFor background tris paints n old
+        → ((j : ℕ) → j < count_of old.region old.pattern → next_at old.region old.pattern tris old.from j ≡ None) → AreWhole background tris paints new
+    whole_none n old new t p none = record {
+      each = λ j l.
+          let here : j < count_of old.region old.pattern = subst (λ (k : ℕ). j < k) (ap₂ count_of t.region t.pattern) l in
+          let os : List (ℤ × ℤ) = offsets_of old.pattern in
+          let s : Sample = sample_at old.region (size_of old.pattern) j in
+          let seen : seen_at old j ≡ after os background tris paints s n = p.each j here in
+          let last : next_word os tris s (after os background tris paints s n).from ≡ None = ap (λ (v : Seen). next_word os tris s v.from) (sym seen) ∙ none j here in
+          ap (λ (v : Seen). v.colour) (t.each j here)
+          ∙ (ap (λ (o : Option ℕ). with_word paints o (get_or old.colours j [])) (none j here)
+          ∙ (ap (λ (v : Seen). v.colour) seen
+          ∙ (after-none os background tris paints s few n last
+          ∙ ap₂ (λ (r : Region) (q : Pattern). whole_colour (offsets_of q) background tris paints (sample_at r (size_of q) j)) (sym t.region) (sym t.pattern))));
+    }
+
+    -- So they are after as many steps as primitives cover a sample.
+    pub whole_many : (n : ℕ) (l : Layers)
+        → ((j : ℕ) → j < count_of l.region l.pattern → (let s : Sample = sample_at l.region (size_of l.pattern) j in length (covering (offsets_of l.pattern) tris s.x s.y s.k) ≤ n))
+        → StandsFor background tris paints n l → AreWhole background tris paints l
+    whole_many n l h p = record {
+      each = λ j m. ap (λ (v : Seen). v.colour) (p.each j m) ∙ after-many (offsets_of l.pattern) background tris paints (sample_at l.region (size_of l.pattern) j) few n (h j m);
+    }
+
+  -- The sums of whole colours are those of the region.
+  pub sums_whole : (l : Layers) → AreWhole background tris paints l → layer_sums l ≡ region_sums (offsets_of l.pattern) background tris paints l.region
+  sums_whole l w =
+      same_on_range (sum_of_place l.colours (size_of l.pattern)) (λ place. sums_at (offsets_of l.pattern) background tris paints (l.region.x0 + place % l.region.w) (l.region.y0 + place / l.region.w))
+      0 (l.region.w * l.region.h) (λ p z i.
+      let inside : p < l.region.w * l.region.h = omega arith in
+      summed_same (λ k. get_or l.colours (p * size_of l.pattern + k) []) (colour (offsets_of l.pattern) background tris paints (l.region.x0 + p % l.region.w) (l.region.y0 + p / l.region.w)) (size_of l.pattern)
+      (λ k m.
+      w.each (p * size_of l.pattern + k) (sample_within p (size_of l.pattern) (l.region.w * l.region.h) k (count_of l.region l.pattern) inside m refl)
+      ∙ ap (whole_colour (offsets_of l.pattern) background tris paints) (sample_is l.region (size_of l.pattern) p k m)))

@@ -1,0 +1,182 @@
+-- Steps take the primitives of a sample from the lowest to the topmost.
+use Rattle.std.proofs.Common.{◌≡◌, ℕ, zero, suc, ◌+◌, ◌*◌, ◌^◌, ◌%◌, ◌<◌, ◌≤◌, ◌⊎◌, inl, inr, Bool, true, false, cond, if◌then◌else◌, ltb, eqb, List, [], ◌∷◌, ◌++◌, map, take, drop, length, ℤ, Option, Some, None, refl, ap, ap₂, ◌∙◌, sym, subst, arith}
+use Rattle.std.specs.List.{filter, range_with_len}
+use Rattle.std.proofs.lemmas.Bool.{ne_eqb, eq-eqb, eqb-true, cases_eq}
+use Rattle.std.proofs.lemmas.List.{length-map, map-append, take-map, take_all}
+use Rattle.std.proofs.lemmas.List.Sums.{fold-append}
+use Rattle.abuf_num.specs.declared.plain.Paint.{Paint}
+use Rattle.abuf_raster.specs.Triangle.{Triangle}
+use Rattle.abuf_raster.specs.Coverage.{covers}
+use Rattle.abuf_raster.specs.Depth.{depth_key}
+use Rattle.abuf_resolve.specs.Colour.{triangle_at, covering, numbers, paint_at, layers, is_beneath}
+use Rattle.abuf_resolve.specs.Order.{in_order, put_in_order}
+use Rattle.abuf_resolve.specs.Over.{layered, laid_over}
+use Rattle.abuf_resolve.specs.Words.{layer_word, paint_of, prim_of, folded, reaches}
+use Rattle.abuf_resolve.proofs.Orders.{kept, kept-in_order, Rises-in_order}
+use Rattle.abuf_resolve.proofs.Words.{Below, Below-range, Below-filter, Below-in_order, map-in_order, words_ordered}
+use Rattle.abuf_peel.specs.Next.{Sample, next_word, next_among, left_from, with_word}
+use Rattle.abuf_peel.specs.Layers.{Seen, taken, after, layer, whole_colour}
+use Rattle.abuf_peel.proofs.Words.{Climbs, Climbs-from, all_reach, none_below, one_more, no_more, first, least-left, left_next}
+
+-- A list put in order is as long as it was.
+length-put : (before : ℕ → ℕ → Bool) (x : ℕ) (ys : List ℕ) → length (put_in_order before x ys) ≡ suc (length ys)
+length-put before x [] = refl
+length-put before x (y ∷ ys) = elim (before x y) as (λ (v : Bool). length (if v then x ∷ y ∷ ys else y ∷ put_in_order before x ys) ≡ suc (suc (length ys))) [ true ↦ refl | false ↦ ap suc (length-put before x ys) ]
+
+pub length-in_order : (before : ℕ → ℕ → Bool) (xs : List ℕ) → length (in_order before xs) ≡ length xs
+length-in_order before [] = refl
+length-in_order before (x ∷ xs) = length-put before x (in_order before xs) ∙ ap suc (length-in_order before xs)
+
+-- The first of several small numbers are small.
+Below-take : (bound n : ℕ) (xs : List ℕ) → Below bound xs → Below bound (take n xs)
+Below-take bound zero xs b = tt
+Below-take bound (suc n) [] b = tt
+Below-take bound (suc n) (x ∷ xs) b = (b.0, Below-take bound n xs b.1)
+
+-- No number of a range is before it.
+before_range : (v a n : ℕ) → v < a → kept (λ m. eqb m v) (range_with_len a n) ≡ 0
+before_range v a zero h = refl
+before_range v a (suc n) h = rw (ne_eqb a v (λ e. omega arith)) (omega (arith, before_range v (a + 1) n (omega arith)))
+
+-- A range has no number twice.
+range_once : (v a n : ℕ) → kept (λ m. eqb m v) (range_with_len a n) ≤ 1
+range_once v a zero = omega arith
+range_once v a (suc n) = go (range_once v (a + 1) n) (cases_eq a v) where
+  go : kept (λ m. eqb m v) (range_with_len (a + 1) n) ≤ 1 → (a ≡ v) ⊎ (a ≡ v → ⊥) → kept (λ m. eqb m v) (a ∷ range_with_len (a + 1) n) ≤ 1
+  go k (inl e) = rw (eq-eqb a v e) (omega (arith, before_range v (a + 1) n (omega arith)))
+  go k (inr f) = rw (ne_eqb a v f) (omega arith)
+
+-- Nor has what is left of it.
+kept-filter_le : (p q : ℕ → Bool) (xs : List ℕ) → kept q (filter p xs) ≤ kept q xs
+kept-filter_le p q [] = omega arith
+kept-filter_le p q (x ∷ xs) =
+    elim (p x) as (λ (v : Bool). kept q (cond v (x ∷ filter p xs) (filter p xs)) ≤ cond (q x) 1 0 + kept q xs)
+    [ true ↦ omega (arith, kept-filter_le p q xs) | false ↦ omega (arith, kept-filter_le p q xs) ]
+
+module _ (os : List (ℤ × ℤ)) (background : List ℕ) (tris : List Triangle) (paints : List Paint) (s : Sample) (few : length tris ≤ 2 ^ 24) where
+  -- The word of a primitive in the sample.
+  abbrev word : ℕ → ℕ
+  word n = layer_word os tris s.x s.y s.k n
+
+  -- The primitives that cover the sample, and their order.
+  abbrev these : List ℕ
+  these = covering os tris s.x s.y s.k
+
+  abbrev beneath : ℕ → ℕ → Bool
+  beneath = is_beneath os tris s.x s.y s.k
+
+  -- Their words in order.
+  abbrev sorted : List ℕ
+  sorted = in_order ltb (map word these)
+
+  -- To lie beneath is to have the lower word.
+  agree : (m n : ℕ) → m < 2 ^ 24 → n < 2 ^ 24 → is_beneath os tris s.x s.y s.k m n ≡ ltb (word m) (word n)
+  agree m n h l = words_ordered (depth_key (triangle_at tris m) os s.x s.y s.k) (depth_key (triangle_at tris n) os s.x s.y s.k) m n h l
+
+  -- Their numbers are small,
+  below : Below (2 ^ 24) these
+  below = Below-filter (2 ^ 24) (λ n. covers (triangle_at tris n) os s.x s.y s.k) (numbers tris) (Below-range (2 ^ 24) (length tris) 0 (omega arith))
+
+  -- also in order,
+  layers_below : Below (2 ^ 24) (layers os tris s.x s.y s.k)
+  layers_below = Below-in_order beneath word (2 ^ 24) agree these below
+
+  -- and in order they have their words in order.
+  sorted_is : map word (layers os tris s.x s.y s.k) ≡ sorted
+  sorted_is = map-in_order beneath word (2 ^ 24) agree these below
+
+  -- A word tells its primitive.
+  told : (n : ℕ) → n < 2 ^ 24 → prim_of (word n) ≡ n
+  told n h = omega arith
+
+  -- So no two primitives have one word.
+  once : (w : ℕ) (ns : List ℕ) → Below (2 ^ 24) ns → kept (λ v. eqb v w) (map word ns) ≤ kept (λ m. eqb m (prim_of w)) ns
+  once w [] b = omega arith
+  once w (n ∷ ns) b = go (once w ns b.1) (cases_eq (word n) w) where
+    go : kept (λ v. eqb v w) (map word ns) ≤ kept (λ m. eqb m (prim_of w)) ns → (word n ≡ w) ⊎ (word n ≡ w → ⊥) → cond (eqb (word n) w) 1 0 + kept (λ v. eqb v w) (map word ns) ≤ cond (eqb n (prim_of w)) 1 0 + kept (λ m. eqb m (prim_of w)) ns
+    go k (inl e) = let same : n ≡ prim_of w = sym (told n b.0) ∙ ap prim_of e in rw (eq-eqb (word n) w e, eq-eqb n (prim_of w) same) (omega arith)
+    go k (inr f) = rw (ne_eqb (word n) w f) (omega arith)
+
+  -- In order the words rise strictly.
+  climbs : Climbs sorted
+  climbs = Climbs-from sorted (Rises-in_order (map word these)) (λ w.
+      omega (
+        arith,
+        kept-in_order ltb (λ v. eqb v w) (map word these),
+        once w these below,
+        kept-filter_le (λ n. covers (triangle_at tris n) os s.x s.y s.k) (λ m. eqb m (prim_of w)) (numbers tris),
+        range_once (prim_of w) 0 (length tris),
+      ))
+
+  -- The next word is the first in order that is left.
+  next_is : (from : ℕ) → next_word os tris s from ≡ first (filter (reaches from) sorted)
+  unfolding next_among
+  next_is from = least-left from (map word these)
+
+  -- A sample that has taken the lowest n primitives, or all where there are fewer.
+  record Took (n : ℕ) (seen : Seen) : Type 0 where
+    rest : filter (reaches seen.from) sorted ≡ drop n sorted
+    colour : seen.colour ≡ folded background paints (take n sorted)
+
+  -- One paint more is laid over.
+  laid_more : (rest : List ℕ) (n : ℕ) (under : List ℕ) → rest ≡ drop n sorted → under ≡ folded background paints (take n sorted)
+      → with_word paints (first rest) under ≡ folded background paints (take (suc n) sorted)
+  laid_more [] n under e f = f ∙ ap (folded background paints) (sym (no_more n sorted (sym e)).1)
+  laid_more (h ∷ r) n under e f =
+      ap (λ (u : List ℕ). laid_over u (paint_of paints h)) f
+      ∙ sym (ap (folded background paints) (one_more n sorted h r (sym e)).0
+      ∙ (ap (layered background) (map-append (paint_of paints) (take n sorted) (h ∷ []))
+      ∙ fold-append laid_over background (map (paint_of paints) (take n sorted)) (paint_of paints h ∷ [])))
+
+  -- One step more.
+  next : (n : ℕ) (seen : Seen) → Took n seen → Took (suc n) (taken os tris paints s seen)
+  next n seen t =
+      let is : next_word os tris s seen.from ≡ first (drop n sorted) = next_is seen.from ∙ ap first t.rest in
+      record {
+        rest = ap (λ (o : Option ℕ). filter (reaches (left_from o seen.from)) sorted) is ∙ left_next seen.from n sorted climbs t.rest;
+        colour = ap (λ (o : Option ℕ). with_word paints o seen.colour) is ∙ laid_more (drop n sorted) n seen.colour refl t.colour;
+      }
+
+  -- So it is after n steps.
+  took : (n : ℕ) → Took n (after os background tris paints s n)
+  took zero = record { rest = all_reach 0 sorted (none_below sorted); colour = refl }
+  took (suc n) = next n (after os background tris paints s n) (took n)
+
+  -- The paints of words are those of their primitives.
+  paints_are : (ns : List ℕ) → Below (2 ^ 24) ns → map (paint_of paints) (map word ns) ≡ map (paint_at paints) ns
+  paints_are [] b = refl
+  paints_are (n ∷ ns) b = ap₂ ◌∷◌ (ap (paint_at paints) (told n b.0)) (paints_are ns b.1)
+
+  -- The fold of the lowest n words is that of the lowest n primitives.
+  layer_is : (n : ℕ) → folded background paints (take n sorted) ≡ layer os background tris paints s n
+  layer_is n =
+      let ns : List ℕ = layers os tris s.x s.y s.k in
+      ap (λ (ws : List ℕ). folded background paints (take n ws)) (sym sorted_is)
+      ∙ (ap (folded background paints) (take-map word n ns)
+      ∙ ap (layered background) (paints_are (take n ns) (Below-take (2 ^ 24) n ns layers_below)))
+
+  -- That of all is the colour.
+  whole_is : folded background paints sorted ≡ whole_colour os background tris paints s
+  whole_is = ap (folded background paints) (sym sorted_is) ∙ ap (layered background) (paints_are (layers os tris s.x s.y s.k) layers_below)
+
+  -- After n steps a sample has the paints of the lowest n primitives.
+  pub after-layer : (n : ℕ) → (after os background tris paints s n).colour ≡ layer os background tris paints s n
+  after-layer n = (took n).colour ∙ layer_is n
+
+  -- Where none is left, its colour is whole.
+  pub after-none : (n : ℕ) → next_word os tris s (after os background tris paints s n).from ≡ None → (after os background tris paints s n).colour ≡ whole_colour os background tris paints s
+  after-none n none = go (drop n sorted) refl where
+    seen : Seen
+    seen = after os background tris paints s n
+
+    go : (rest : List ℕ) → rest ≡ drop n sorted → (after os background tris paints s n).colour ≡ whole_colour os background tris paints s
+    go [] e = (took n).colour ∙ (ap (folded background paints) (no_more n sorted (sym e)).0 ∙ whole_is)
+    go (h ∷ r) e =
+        let is : None ≡ Some h = sym none ∙ (next_is (after os background tris paints s n).from ∙ (ap first (took n).rest ∙ ap first (sym e))) in
+        cc
+
+  -- So it is after as many steps as primitives cover it.
+  pub after-many : (n : ℕ) → length these ≤ n → (after os background tris paints s n).colour ≡ whole_colour os background tris paints s
+  after-many n h =
+      let count : length sorted ≤ n = omega (arith, length-in_order ltb (map word these), length-map these word) in
+      (took n).colour ∙ (ap (folded background paints) (take_all n sorted count) ∙ whole_is)

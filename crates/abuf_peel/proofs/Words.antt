@@ -1,0 +1,131 @@
+-- Rising lists of words, and the least of those that are left.
+use Rattle.std.proofs.Common.{◌≡◌, ℕ, zero, suc, ◌+◌, ◌<◌, ◌≤◌, min, ◌⊎◌, inl, inr, Bool, true, false, cond, if◌then◌else◌, not, ltb, eqb, List, [], ◌∷◌, ◌++◌, map, take, drop, length, Option, Some, None, get_or, refl, ap, ap₂, ◌∙◌, sym, subst, true≢false, arith}
+use Rattle.std.specs.List.{filter}
+use Rattle.std.proofs.lemmas.Bool.{lt-ltb, le-ltb, eq-eqb, ne_eqb, ltb-true, cases_lt, cases_order}
+use Rattle.std.proofs.lemmas.List.Elements.{filter_passes}
+use Rattle.abuf_resolve.specs.Order.{put_in_order, in_order}
+use Rattle.abuf_resolve.specs.Words.{reaches}
+use Rattle.abuf_resolve.proofs.Orders.{kept, Rises, Alike-filter, Rises-filter, Rises-in_order, kept-in_order, in_order_is}
+use Rattle.abuf_peel.specs.Next.{least, lower_of, left_from}
+
+-- ---- lists that rise strictly
+-- Each later number is above each earlier one.
+abbrev pub Climbs : List ℕ → Type 0
+Climbs [] = Unit {0}
+Climbs (x ∷ xs) = (kept (λ y. ltb y (suc x)) xs ≡ 0) × Climbs xs
+
+-- So it is after some of them.
+pub Climbs-drop : (n : ℕ) (xs : List ℕ) → Climbs xs → Climbs (drop n xs)
+Climbs-drop zero xs c = c
+Climbs-drop (suc n) [] c = tt
+Climbs-drop (suc n) (x ∷ xs) c = Climbs-drop n xs c.1
+
+-- At most x are those below x and those equal to it.
+at_most : (x : ℕ) (xs : List ℕ) → kept (λ y. ltb y (suc x)) xs ≡ kept (λ y. ltb y x) xs + kept (λ y. eqb y x) xs
+at_most x [] = refl
+at_most x (y ∷ ys) = go (at_most x ys) (cases_order y x) where
+  go : kept (λ z. ltb z (suc x)) ys ≡ kept (λ z. ltb z x) ys + kept (λ z. eqb z x) ys → (y ≡ x) ⊎ ((y < x) ⊎ (x < y)) → cond (ltb y (suc x)) 1 0 + kept (λ z. ltb z (suc x)) ys ≡ cond (ltb y x) 1 0 + kept (λ z. ltb z x) ys + (cond (eqb y x) 1 0 + kept (λ z. eqb z x) ys)
+  go k (inl e) = rw (lt-ltb y (suc x) (omega arith), le-ltb y x (omega arith), eq-eqb y x e) (omega arith)
+  go k (inr (inl l)) = rw (lt-ltb y (suc x) (omega arith), lt-ltb y x l, ne_eqb y x (λ e. omega arith)) (omega arith)
+  go k (inr (inr l)) = rw (le-ltb y (suc x) (omega arith), le-ltb y x (omega arith), ne_eqb y x (λ e. omega arith)) (omega arith)
+
+-- A rising list that has no number twice rises strictly.
+pub Climbs-from : (xs : List ℕ) → Rises xs → ((x : ℕ) → kept (λ y. eqb y x) xs ≤ 1) → Climbs xs
+Climbs-from [] r once = tt
+Climbs-from (x ∷ xs) r once =
+    let one : cond (eqb x x) 1 0 + kept (λ y. eqb y x) xs ≤ 1 = once x in
+    let rest : 1 + kept (λ y. eqb y x) xs ≤ 1 = rw (eq-eqb x x refl) at one in
+    (at_most x xs ∙ omega (arith, r.0), Climbs-from xs r.1 (λ y. omega (arith, once y)))
+
+-- ---- what isn't below a bound
+-- Where none is below it, none is left out.
+pub all_reach : (h : ℕ) (xs : List ℕ) → kept (λ y. ltb y h) xs ≡ 0 → filter (reaches h) xs ≡ xs
+all_reach h [] e = refl
+all_reach h (x ∷ xs) e = go e (all_reach h xs) (cases_lt x h) where
+  go : cond (ltb x h) 1 0 + kept (λ y. ltb y h) xs ≡ 0 → (kept (λ y. ltb y h) xs ≡ 0 → filter (reaches h) xs ≡ xs) → (x < h) ⊎ (h ≤ x) → filter (reaches h) (x ∷ xs) ≡ x ∷ xs
+  go f rest (inl l) = absurd (let g : 1 + kept (λ y. ltb y h) xs ≡ 0 = rw (lt-ltb x h l) at f in omega (arith, g))
+  go f rest (inr l) = rw (le-ltb x h l) (ap (λ (ys : List ℕ). x ∷ ys) (rest (omega (arith, f))))
+
+-- Nothing is below 0.
+pub none_below : (xs : List ℕ) → kept (λ y. ltb y 0) xs ≡ 0
+none_below [] = refl
+none_below (x ∷ xs) = rw (le-ltb x 0 (omega arith)) (omega (arith, none_below xs))
+
+-- Of those from one bound on, those from a higher one on are those of all.
+narrower : (a b : ℕ) (xs : List ℕ) → a ≤ b → filter (reaches b) (filter (reaches a) xs) ≡ filter (reaches b) xs
+narrower a b [] h = refl
+narrower a b (x ∷ xs) h = go (narrower a b xs h) (cases_lt x a) (cases_lt x b) where
+  go : filter (reaches b) (filter (reaches a) xs) ≡ filter (reaches b) xs → (x < a) ⊎ (a ≤ x) → (x < b) ⊎ (b ≤ x) → filter (reaches b) (filter (reaches a) (x ∷ xs)) ≡ filter (reaches b) (x ∷ xs)
+  go k (inl l) m = rw (lt-ltb x a l, lt-ltb x b (omega arith)) k
+  go k (inr l) (inl m) = rw (le-ltb x a l, lt-ltb x b m) k
+  go k (inr l) (inr m) = rw (le-ltb x a l, le-ltb x b m) (ap (λ (ys : List ℕ). x ∷ ys) k)
+
+-- The first of those from a bound on isn't below it.
+reached : (a h : ℕ) (r xs : List ℕ) → filter (reaches a) xs ≡ h ∷ r → a ≤ h
+reached a h r xs e = go (cases_lt h a) where
+  go : (h < a) ⊎ (a ≤ h) → a ≤ h
+  go (inr l) = l
+  go (inl l) =
+      let passes : reaches a h ≡ true = (subst (λ (ys : List ℕ). (i : ℕ) (d : ℕ) → i < length ys → reaches a (get_or ys i d) ≡ true) e (filter_passes (reaches a) xs)) 0 0 (omega arith) in
+      let fails : reaches a h ≡ false = rw (lt-ltb h a l) refl in
+      absurd (true≢false (sym passes ∙ fails))
+
+-- ---- one more of a list
+-- Where there is one more, it follows those taken.
+pub one_more : (n : ℕ) (xs : List ℕ) (h : ℕ) (r : List ℕ) → drop n xs ≡ h ∷ r → (take (suc n) xs ≡ take n xs ++ h ∷ []) × (drop (suc n) xs ≡ r)
+one_more zero [] h r e = absurd (omega (arith, ap (λ (ys : List ℕ). length ys) e))
+one_more zero (x ∷ xs) h r e = (cc, cc)
+one_more (suc n) [] h r e = absurd (omega (arith, ap (λ (ys : List ℕ). length ys) e))
+one_more (suc n) (x ∷ xs) h r e = let rest = one_more n xs h r e in (ap (λ (ys : List ℕ). x ∷ ys) rest.0, rest.1)
+
+-- Where there is none, all are taken.
+pub no_more : (n : ℕ) (xs : List ℕ) → drop n xs ≡ [] → (take n xs ≡ xs) × (take (suc n) xs ≡ take n xs) × (drop (suc n) xs ≡ [])
+no_more zero [] e = (refl, refl, refl)
+no_more zero (x ∷ xs) e = absurd (omega (arith, ap (λ (ys : List ℕ). length ys) e))
+no_more (suc n) [] e = (refl, refl, refl)
+no_more (suc n) (x ∷ xs) e = let rest = no_more n xs e in (ap (λ (ys : List ℕ). x ∷ ys) rest.0, ap (λ (ys : List ℕ). x ∷ ys) rest.1, rest.2)
+
+-- ---- the least of them
+-- The first of a list, if there is one.
+abbrev pub first : List ℕ → Option ℕ
+first [] = None
+first (x ∷ xs) = Some x
+
+-- A number put in its place is the first where it is below the first.
+first-put : (x : ℕ) (ys : List ℕ) → first (put_in_order ltb x ys) ≡ Some (lower_of x (first ys))
+first-put x [] = refl
+first-put x (y ∷ ys) = go (cases_lt x y) where
+  go : (x < y) ⊎ (y ≤ x) → first (if ltb x y then x ∷ y ∷ ys else y ∷ put_in_order ltb x ys) ≡ Some (min x y)
+  go (inl l) = rw (lt-ltb x y l) (ap (λ (m : ℕ). Some m) (omega arith))
+  go (inr l) = rw (le-ltb x y l) (ap (λ (m : ℕ). Some m) (omega arith))
+
+-- The least is the first of the list put in order.
+pub least-first : (xs : List ℕ) → least xs ≡ first (in_order ltb xs)
+least-first [] = refl
+least-first (x ∷ xs) = ap (λ (o : Option ℕ). Some (lower_of x o)) (least-first xs) ∙ sym (first-put x (in_order ltb xs))
+
+-- Those of a list put in order that pass a test are those of the list, put in order.
+filter-in_order : (p : ℕ → Bool) (xs : List ℕ) → filter p (in_order ltb xs) ≡ in_order ltb (filter p xs)
+filter-in_order p xs =
+    in_order_is (filter p xs) (filter p (in_order ltb xs))
+    (Alike-filter p xs (in_order ltb xs) (record { times = λ q. sym (kept-in_order ltb q xs) }))
+    (Rises-filter p (in_order ltb xs) (Rises-in_order xs))
+
+-- The least of those from a bound on is the first of those in order.
+pub least-left : (from : ℕ) (xs : List ℕ) → least (filter (reaches from) xs) ≡ first (filter (reaches from) (in_order ltb xs))
+least-left from xs = least-first (filter (reaches from) xs) ∙ ap first (sym (filter-in_order (reaches from) xs))
+
+-- Once the first that is left of a strictly rising list is taken, the others are left.
+pub left_next : (from n : ℕ) (xs : List ℕ) → Climbs xs → filter (reaches from) xs ≡ drop n xs → filter (reaches (left_from (first (drop n xs)) from)) xs ≡ drop (suc n) xs
+left_next from n xs climbs e = go (drop n xs) refl where
+  go : (rest : List ℕ) → rest ≡ drop n xs → filter (reaches (left_from (first rest) from)) xs ≡ drop (suc n) xs
+  go [] f = e ∙ (sym f ∙ sym (no_more n xs (sym f)).2)
+  go (h ∷ r) f =
+      let low : from ≤ h = reached from h r xs (e ∙ sym f) in
+      let c : Climbs (h ∷ r) = subst Climbs (sym f) (Climbs-drop n xs climbs) in
+      let skip : filter (reaches (suc h)) (h ∷ r) ≡ filter (reaches (suc h)) r = rw (lt-ltb h (suc h) (omega arith)) refl in
+      let bound : h + 1 ≡ suc h = omega arith in
+      ap (λ (b : ℕ). filter (reaches b) xs) bound
+      ∙ (sym (narrower from (suc h) xs (omega arith))
+      ∙ (ap (filter (reaches (suc h))) (e ∙ sym f)
+      ∙ (skip ∙ (all_reach (suc h) r c.0 ∙ sym (one_more n xs h r (sym f)).1))))

@@ -1,0 +1,49 @@
+use Rattle.std.proofs.Common.{◌≡◌, ◌∙◌, ◌+◌, ◌≤◌, ℕ, suc, length, sym, subst, arith}
+use Rattle.abuf_raster.proofs.Masks.{offsets_some}
+use Rattle.abuf_raster.specs.declared.pattern.Pattern.{Pattern}
+use Rattle.abuf_raster.specs.declared.region.Region.{Region}
+use Rattle.abuf_raster.specs.Region.{IsRegion}
+use Rattle.abuf_raster.specs.Samples.{offsets_of}
+use Rattle.abuf_peel.specs.Layers.{next_at, sample_at, size_of, StandsFor}
+use Rattle.abuf_peel.specs.Members.{HaveAll}
+use Rattle.abuf_peel.proofs.Chosen.{covering_few, sample_in}
+use Rattle.abuf_peel.proofs.Found.{none_from}
+use Rattle.abuf_peel.proofs.Standing.{whole_none, whole_many, stands_next}
+use Rattle.abuf_peel.proofs.scene.Scene.exhaust.Goals as goal
+
+pub returns-then-not-step_over-clause-whole : goal.returns-then-not-step_over-clause-whole
+returns-then-not-step_over-clause-whole c =
+    let scene = c.args.self.now in
+    whole_none scene.background scene.tris.now scene.paints.now (omega (arith, scene.few)) c.loop-n._n c.loop-n.layer c.step_over.new.self c.step_over.ensures.takes c.loop-n.invariant.stands
+    (λ j l. none_from (next_at c.loop-n.layer.region c.loop-n.layer.pattern scene.tris.now c.loop-n.layer.from j) (c.step_over.ensures.none c.if-not-step_over.true j l))
+
+pub returns-clause-whole : goal.returns-clause-whole
+returns-clause-whole c =
+    let scene = c.args.self.now in
+    let l = c.loop-n.layer in
+    let members = c.args.members.now in
+    let have : HaveAll (offsets_of c.loop-n.layer.pattern) scene.tris.now c.loop-n.layer.region members =
+    subst (λ (p : Pattern). HaveAll (offsets_of p) scene.tris.now c.loop-n.layer.region members) (sym c.loop-n.invariant.pattern)
+    (subst (λ (r : Region). HaveAll (offsets_of c.args.layer.now.pattern) scene.tris.now r members) (sym c.loop-n.invariant.region) c.requires.members) in
+    let region : IsRegion c.loop-n.layer.region = subst IsRegion (sym c.loop-n.invariant.region) c.requires.region in
+    whole_many scene.background scene.tris.now scene.paints.now (omega (arith, scene.few)) c.loop-n._n c.loop-n.layer
+    (λ j m. omega (arith, covering_few (offsets_of c.loop-n.layer.pattern) scene.tris.now c.loop-n.layer.region members (sample_at c.loop-n.layer.region (size_of c.loop-n.layer.pattern) j) have (sample_in c.loop-n.layer.region c.loop-n.layer.pattern j region (offsets_some c.loop-n.layer.pattern) m)))
+    c.loop-n.invariant.stands
+
+pub loop-n-preserved : goal.loop-n-preserved
+loop-n-preserved c =
+    let scene = c.args.self.now in
+    let e : suc c.loop-n._n ≡ c.loop-n._n + 1 = omega arith in
+    record {
+      stands = subst (λ (n : ℕ). StandsFor scene.background scene.tris.now scene.paints.now n c.step_over.new.self) e
+          (stands_next scene.background scene.tris.now scene.paints.now c.loop-n._n c.loop-n.layer c.step_over.new.self c.step_over.ensures.takes c.loop-n.invariant.stands);
+      region = c.step_over.ensures.takes.region ∙ c.loop-n.invariant.region;
+      pattern = c.step_over.ensures.takes.pattern ∙ c.loop-n.invariant.pattern;
+    }
+
+pub step_over-requires-clause-members : goal.step_over-requires-clause-members
+step_over-requires-clause-members c =
+    let scene = c.args.self.now in
+    let members = c.args.members.now in
+    subst (λ (p : Pattern). HaveAll (offsets_of p) scene.tris.now c.loop-n.layer.region members) (sym c.loop-n.invariant.pattern)
+    (subst (λ (r : Region). HaveAll (offsets_of c.args.layer.now.pattern) scene.tris.now r members) (sym c.loop-n.invariant.region) c.requires.members)

@@ -1,0 +1,122 @@
+-- The samples of a region, as peeling goes on.
+use Rattle.std.specs.Prelude.{◌≡◌, ℕ, zero, suc, ◌+◌, ◌*◌, ◌/◌, ◌%◌, ◌<◌, ℤ, List, [], Bool, Option, is_some, length, slice_index_or, replicate, map, take}
+use Rattle.std.specs.List.{range_with_len}
+use Rattle.abuf_num.specs.declared.plain.Paint.{Paint}
+use Rattle.abuf_num.specs.declared.plain.PixelSum.{PixelSum}
+use Rattle.abuf_raster.specs.declared.region.Region.{Region}
+use Rattle.abuf_raster.specs.declared.pattern.Pattern.{Pattern}
+use Rattle.abuf_raster.specs.Triangle.{Triangle}
+use Rattle.abuf_raster.specs.Samples.{offsets_of}
+use Rattle.abuf_raster.specs.Region.{IsRegion}
+use Rattle.abuf_resolve.specs.Over.{layered}
+use Rattle.abuf_resolve.specs.Colour.{colour, layers, paint_at}
+use Rattle.abuf_resolve.specs.Sums.{summed}
+use Rattle.abuf_peel.specs.Next.{Sample, next_word, left_from, with_word}
+
+-- The paints of the lowest n primitives that cover the sample, or of all where there are fewer, laid over the background.
+abbrev pub layer : List (ℤ × ℤ) → List ℕ → List Triangle → List Paint → Sample → ℕ → List ℕ
+layer offsets background triangles paints s n =
+    layered background (map (paint_at paints) (take n (layers offsets triangles s.x s.y s.k)))
+
+-- What is seen of a layer: its region and pattern; and for each sample, pixel after pixel by ascending place, the word from
+-- which on primitives are left, and its colour. That word is 0 where no primitive was taken yet, and else one above the word
+-- of the last one taken.
+pub record Layers : Type 0 where
+  pub region : Region
+  pub pattern : Pattern
+  pub from : List ℕ
+  pub colours : List (List ℕ)
+
+abbrev pub size_of : Pattern → ℕ
+size_of pattern = length (offsets_of pattern)
+
+-- How many samples the pixels of a region have.
+abbrev pub count_of : Region → Pattern → ℕ
+count_of r pattern = r.w * r.h * size_of pattern
+
+-- The sample at an index, where each pixel has so many.
+abbrev pub sample_at : Region → ℕ → ℕ → Sample
+sample_at r size j = record { x = r.x0 + j / size % r.w; y = r.y0 + j / size / r.w; k = j % size }
+
+-- What is seen of a layer of this region and pattern, with these words and colours.
+abbrev pub layers_of : Region → Pattern → List ℕ → List (List ℕ) → Layers
+layers_of r pattern from colours = record { region = r; pattern = pattern; from = from; colours = colours }
+
+-- What a layer keeps to.
+pub record AreLayers (l : Layers) : Type 0 where
+  pub region : IsRegion l.region
+  pub from : length l.from ≡ count_of l.region l.pattern
+  pub colours : length l.colours ≡ count_of l.region l.pattern
+
+-- Nothing is taken yet.
+abbrev pub started : Region → Pattern → List ℕ → Layers
+started r pattern background = record {
+  region = r;
+  pattern = pattern;
+  from = replicate (count_of r pattern) 0;
+  colours = replicate (count_of r pattern) background;
+}
+
+-- A sample: the word from which on primitives are left, and the colour.
+pub record Seen : Type 0 where
+  pub from : ℕ
+  pub colour : List ℕ
+
+-- The sample takes its next primitive. Without one it stays.
+abbrev pub taken : List (ℤ × ℤ) → List Triangle → List Paint → Sample → Seen → Seen
+taken offsets triangles paints s seen = record {
+  from = left_from (next_word offsets triangles s seen.from) seen.from;
+  colour = with_word paints (next_word offsets triangles s seen.from) seen.colour;
+}
+
+-- The sample after n steps from the background on.
+abbrev pub after : List (ℤ × ℤ) → List ℕ → List Triangle → List Paint → Sample → ℕ → Seen
+after offsets background triangles paints s zero = record { from = 0; colour = background }
+after offsets background triangles paints s (suc n) = taken offsets triangles paints s (after offsets background triangles paints s n)
+
+-- What is seen of the sample at an index.
+abbrev pub seen_at : Layers → ℕ → Seen
+seen_at l j = record { from = slice_index_or l.from j 0; colour = slice_index_or l.colours j [] }
+
+-- Every sample takes its next primitive.
+pub record Takes (triangles : List Triangle) (paints : List Paint) (old new : Layers) : Type 0 where
+  pub region : new.region ≡ old.region
+  pub pattern : new.pattern ≡ old.pattern
+  pub each : (j : ℕ) → j < count_of old.region old.pattern
+      → seen_at new j ≡ taken (offsets_of old.pattern) triangles paints (sample_at old.region (size_of old.pattern) j) (seen_at old j)
+
+-- The word of the next primitive of the sample at an index.
+abbrev pub next_at : Region → Pattern → List Triangle → List ℕ → ℕ → Option ℕ
+next_at r pattern triangles from j = next_word (offsets_of pattern) triangles (sample_at r (size_of pattern) j) (slice_index_or from j 0)
+
+-- The sample at an index has a primitive left.
+abbrev pub has_left : List Triangle → Layers → ℕ → Bool
+has_left triangles l j = is_some (next_at l.region l.pattern triangles l.from j)
+
+-- The layer stands for n steps over these lists.
+pub record StandsFor (background : List ℕ) (triangles : List Triangle) (paints : List Paint) (n : ℕ) (l : Layers) : Type 0 where
+  pub each : (j : ℕ) → j < count_of l.region l.pattern
+      → seen_at l j ≡ after (offsets_of l.pattern) background triangles paints (sample_at l.region (size_of l.pattern) j) n
+
+-- Its colours are those of the lowest n primitives.
+abbrev pub HaveLayer : List ℕ → List Triangle → List Paint → ℕ → Layers → Type 0
+HaveLayer background triangles paints n l =
+    (j : ℕ) → j < count_of l.region l.pattern
+    → slice_index_or l.colours j [] ≡ layer (offsets_of l.pattern) background triangles paints (sample_at l.region (size_of l.pattern) j) n
+
+-- The colour of a sample, from the primitives alone.
+abbrev pub whole_colour : List (ℤ × ℤ) → List ℕ → List Triangle → List Paint → Sample → List ℕ
+whole_colour offsets background triangles paints s = colour offsets background triangles paints s.x s.y s.k
+
+-- The colours of the layer are those that all primitives give.
+pub record AreWhole (background : List ℕ) (triangles : List Triangle) (paints : List Paint) (l : Layers) : Type 0 where
+  pub each : (j : ℕ) → j < count_of l.region l.pattern
+      → slice_index_or l.colours j [] ≡ whole_colour (offsets_of l.pattern) background triangles paints (sample_at l.region (size_of l.pattern) j)
+
+-- The sum of a pixel's colours, by its place.
+abbrev pub sum_of_place : List (List ℕ) → ℕ → ℕ → PixelSum
+sum_of_place colours size place = summed (λ k. slice_index_or colours (place * size + k) []) size
+
+-- Those of all pixels of a layer, by ascending place.
+abbrev pub layer_sums : Layers → List PixelSum
+layer_sums l = map (sum_of_place l.colours (size_of l.pattern)) (range_with_len 0 (l.region.w * l.region.h))

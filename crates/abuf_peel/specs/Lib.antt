@@ -1,0 +1,7 @@
+pub mod Next
+pub mod Layers
+pub mod Taking
+pub mod Offers
+pub mod Rewrites
+pub mod Members
+pub mod Rows

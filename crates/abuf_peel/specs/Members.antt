@@ -1,0 +1,30 @@
+-- The primitives that are offered to a region.
+use Rattle.std.specs.Prelude.{◌≡◌, ℕ, ◌+◌, ◌<◌, ◌≤◌, ◌∷◌, [], ◌++◌, ℤ, List, length}
+use Rattle.std.specs.List.{All}
+use Rattle.abuf_raster.specs.declared.region.Region.{Region}
+use Rattle.abuf_raster.specs.Triangle.{Triangle}
+use Rattle.abuf_resolve.specs.Colour.{covering}
+use Rattle.abuf_peel.specs.Next.{Sample, covering_among}
+
+-- The sample lies in a pixel of the region.
+pub record IsSampleIn (r : Region) (offsets : List (ℤ × ℤ)) (s : Sample) : Type 0 where
+  pub x_low : r.x0 ≤ s.x
+  pub x_high : s.x < r.x0 + r.w
+  pub y_low : r.y0 ≤ s.y
+  pub y_high : s.y < r.y0 + r.h
+  pub known : s.k < length offsets
+
+-- Among these are all primitives that cover a sample of the region, each once and in order.
+pub record HaveAll (offsets : List (ℤ × ℤ)) (triangles : List Triangle) (r : Region) (members : List ℕ) : Type 0 where
+  pub known : All (λ n. n < length triangles) members
+  pub each : (s : Sample) → IsSampleIn r offsets s → covering_among offsets triangles s members ≡ covering offsets triangles s.x s.y s.k
+
+-- Of the primitives among which members are chosen, none is left out that covers a sample of the region.
+pub record Keep (offsets : List (ℤ × ℤ)) (triangles : List Triangle) (r : Region) (among members : List ℕ) : Type 0 where
+  pub known : All (λ n. n < length triangles) members
+  pub each : (s : Sample) → IsSampleIn r offsets s → covering_among offsets triangles s members ≡ covering_among offsets triangles s among
+
+-- One more number is put last, unless its primitive covers no sample of the region.
+abbrev pub KeepOne : List (ℤ × ℤ) → List Triangle → Region → ℕ → List ℕ → List ℕ → Type 0
+KeepOne offsets triangles r n old new =
+    (s : Sample) → IsSampleIn r offsets s → covering_among offsets triangles s new ≡ covering_among offsets triangles s (old ++ n ∷ [])

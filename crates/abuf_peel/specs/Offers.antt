@@ -1,0 +1,72 @@
+-- Primitives offered to the samples of a region.
+use Rattle.std.specs.Prelude.{◌≡◌, ℕ, ◌/◌, ◌%◌, ◌^◌, ◌<◌, Bool, true, ◌&&◌, ◌==◌, nat_lt, if◌then◌else◌, ℤ, List, length, slice_index_or}
+use Rattle.std.specs.List.{list_any}
+use Rattle.std.specs.Int.{bit_at}
+use Rattle.abuf_raster.specs.declared.region.Hit.{Hit}
+use Rattle.abuf_raster.specs.declared.region.Region.{Region}
+use Rattle.abuf_raster.specs.declared.pattern.Pattern.{Pattern}
+use Rattle.abuf_raster.specs.Triangle.{Triangle}
+use Rattle.abuf_raster.specs.Coverage.{covers, mask}
+use Rattle.abuf_raster.specs.Depth.{depth_key}
+use Rattle.abuf_raster.specs.Region.{place_of}
+use Rattle.abuf_raster.specs.Samples.{offsets_of}
+use Rattle.abuf_resolve.specs.Words.{depth_word, reaches}
+use Rattle.abuf_peel.specs.Next.{Sample}
+use Rattle.abuf_peel.specs.Taking.{Finds}
+use Rattle.abuf_peel.specs.Layers.{size_of, sample_at, next_at, count_of}
+
+-- The least word so far, once one more is offered that counts from `from` on.
+abbrev pub lowered : ℕ → ℕ → ℕ → ℕ
+lowered from word best = if reaches from word && nat_lt word best then word else best
+
+-- The same, where it is offered only to a sample that is covered.
+abbrev pub offered : Bool → ℕ → ℕ → ℕ → ℕ
+offered covered from word best = if covered then lowered from word best else best
+
+-- The word of primitive number n in a sample.
+unfoldable pub word_of : Triangle → ℕ → List (ℤ × ℤ) → Sample → ℕ
+word_of t n offsets s = depth_word (depth_key t offsets s.x s.y s.k) n
+
+-- The same at an index of a region's samples.
+abbrev pub word_at : Triangle → ℕ → Region → Pattern → ℕ → ℕ
+word_at t n r pattern j = word_of t n (offsets_of pattern) (sample_at r (size_of pattern) j)
+
+-- The triangle covers a sample.
+unfoldable pub is_covered : Triangle → List (ℤ × ℤ) → Sample → Bool
+is_covered t offsets s = covers t offsets s.x s.y s.k
+
+-- The same at an index.
+abbrev pub is_covered_at : Triangle → Region → Pattern → ℕ → Bool
+is_covered_at t r pattern j = is_covered t (offsets_of pattern) (sample_at r (size_of pattern) j)
+
+-- The hit has sample k.
+abbrev pub has_sample : Hit → ℕ → Bool
+has_sample h k = bit_at h.fragment.mask k == 1
+
+-- It has the sample at an index.
+unfoldable pub has_at : Region → ℕ → ℕ → Hit → Bool
+has_at r size j h = (place_of r h.x h.y == j / size) && has_sample h (j % size)
+
+-- Its mask is that of the triangle.
+abbrev pub HasMask : Triangle → List (ℤ × ℤ) → Hit → Type 0
+HasMask t offsets h = h.fragment.mask ≡ mask t offsets h.x h.y
+
+-- Primitive number n was offered to those samples that pass the test.
+pub record Offers (t : Triangle) (n : ℕ) (r : Region) (pattern : Pattern) (from : List ℕ) (covered : ℕ → Bool) (old new : List ℕ) : Type 0 where
+  pub size : length new ≡ length old
+  pub each : (j : ℕ) → j < count_of r pattern
+      → slice_index_or new j 0 ≡ offered (covered j) (slice_index_or from j 0) (word_at t n r pattern j) (slice_index_or old j 0)
+  pub fits : (j : ℕ) → j < count_of r pattern → covered j ≡ true → word_at t n r pattern j < 2 ^ 48
+
+-- It was offered to the samples of these hits, in any order;
+abbrev pub OffersHits : Triangle → ℕ → Region → Pattern → List ℕ → List Hit → List ℕ → List ℕ → Type 0
+OffersHits t n r pattern from hits old new = Offers t n r pattern from (λ j. list_any (has_at r (size_of pattern) j) hits) old new
+
+-- and to all samples that it covers.
+abbrev pub OffersAll : Triangle → ℕ → Region → Pattern → List ℕ → List ℕ → List ℕ → Type 0
+OffersAll t n r pattern from old new = Offers t n r pattern from (is_covered_at t r pattern) old new
+
+-- The words are those of the next primitives of all samples.
+pub record AreNext (triangles : List Triangle) (r : Region) (pattern : Pattern) (from best : List ℕ) : Type 0 where
+  pub size : length best ≡ count_of r pattern
+  pub each : (j : ℕ) → j < count_of r pattern → Finds (length triangles) (next_at r pattern triangles from j) (slice_index_or best j 0)

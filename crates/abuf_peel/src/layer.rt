@@ -1,0 +1,115 @@
+// The samples of a region, peeled layer by layer.
+ghost use Rattle.std.specs.Prelude.{◌≡◌, ℕ, suc, List as Items, ◌<◌, ◌≤◌, false, true, length, IfOk};
+ghost use Rattle.std.specs.List.{All};
+ghost use Rattle.abuf_raster.specs.Region.{IsRegion};
+ghost use Rattle.abuf_resolve.specs.Sums.{IsSmall};
+ghost use Rattle.abuf_peel.specs.Layers.{started, Takes, StandsFor, count_of, has_left, layer_sums, size_of};
+ghost use Rattle.abuf_peel.specs.Members.{HaveAll};
+ghost use Rattle.abuf_raster.specs.Samples.{offsets_of};
+
+use crate::offering::{NO_WORD, Samples};
+use crate::scene::Primitives;
+use crate::sums::layer_sums;
+use abuf_num::{List, NoMemory, Paint, PixelSum};
+use abuf_raster::{Pattern, Region, ScreenTri};
+use std::alloc::Global;
+use std::marker::Model;
+
+/// The samples of a region, as peeling goes on. Each has a colour, and knows the last primitive that it took. Clauses see the
+/// region, the pattern and, for each sample, the word from which on primitives are left, and the colour.
+#[derive(Drop)]
+pub struct Layer {
+    region: Region,
+    pattern: Pattern,
+    /// For each sample 0, or one above the word of the last primitive taken: its depth key times 2^24, plus its number.
+    from: Vec<u64>,
+    /// What a step finds: for each sample the word of its next primitive.
+    best: Vec<u64>,
+    colours: Vec<[u16; 3]>,
+}
+
+impl Model for Layer {
+    ghost use Rattle.std.specs.Prelude.{◌≡◌, length};
+    ghost use Rattle.abuf_peel.specs.Layers.{Layers, AreLayers, count_of};
+
+    ghost Value = { Layers };
+
+    ghost view = { λ l. record { region = l.region; pattern = l.pattern; from = l.from.items; colours = l.colours.items } };
+
+    ghost invariant = { λ l. AreLayers (record { region = l.region; pattern = l.pattern; from = l.from.items; colours = l.colours.items }) × (length l.best.items ≡ count_of l.region l.pattern) };
+}
+
+impl Layer {
+    /// The samples of the region in the background's colour, with nothing taken yet.
+    pub fn start(
+        alloc: Global,
+        region: Region,
+        pattern: Pattern,
+        background: [u16; 3],
+    ) -> Result<Layer, NoMemory>
+        requires { IsRegion region }
+        ensures { IfOk result (λ l. l ≡ started region pattern background) }
+    {
+        let count = (region.w * region.h) as usize * pattern.size() as usize;
+        let from = vec![in alloc; 0; count]?;
+        let best = vec![in alloc; NO_WORD; count]?;
+        let colours = vec![in alloc; background; count]?;
+        Ok(Layer {
+            region,
+            pattern,
+            from,
+            best,
+            colours,
+        })
+    }
+
+    /// Every sample takes the lowest primitive above the last one taken that covers it, by its depth key there and then by its
+    /// number, and lays its paint over the colour. A sample without such a primitive stays. True exactly where some sample took
+    /// one. Takes no memory.
+    pub fn step(&mut self, tris: &[ScreenTri], paints: &[Paint]) -> bool
+        requires few { length tris.now ≤ 2097152 }
+        requires paints { length paints.now ≡ length tris.now }
+        ensures takes { Takes tris.now paints.now self.old self.new }
+        ensures layers { (background : Items ℕ) (n : ℕ) → StandsFor background tris.now paints.now n self.old → StandsFor background tris.now paints.now (suc n) self.new }
+        ensures none { result ≡ false → (j : ℕ) → j < count_of self.old.region self.old.pattern → has_left tris.now self.old j ≡ false }
+        ensures some { result ≡ true → (j : ℕ) × (j < count_of self.old.region self.old.pattern) × (has_left tris.now self.old j ≡ true) }
+    {
+        let samples = Samples {
+            region: self.region,
+            pattern: self.pattern,
+        };
+        let drawn = Primitives { tris, paints };
+        samples.take_next(&drawn, &mut self.from, &mut self.best, &mut self.colours)
+    }
+
+    /// The same, where the members are all primitives that cover a sample of the region.
+    pub(crate) fn step_over(
+        &mut self,
+        tris: &[ScreenTri],
+        paints: &[Paint],
+        members: &[u32],
+    ) -> bool
+        requires few { length tris.now ≤ 2097152 }
+        requires paints { length paints.now ≡ length tris.now }
+        requires members { HaveAll (offsets_of self.old.pattern) tris.now self.old.region members.now }
+        ensures takes { Takes tris.now paints.now self.old self.new }
+        ensures none { result ≡ false → (j : ℕ) → j < count_of self.old.region self.old.pattern → has_left tris.now self.old j ≡ false }
+    {
+        let samples = Samples {
+            region: self.region,
+            pattern: self.pattern,
+        };
+        let drawn = Primitives { tris, paints };
+        let from = &mut self.from;
+        samples.take_next_of(&drawn, members, from, &mut self.best, &mut self.colours)
+    }
+
+    /// The sums of the samples' colours, for each pixel in order. An error means that memory ran out.
+    pub fn sums(&self, alloc: Global) -> Result<List<PixelSum>, NoMemory>
+        ensures value { IfOk result (λ sums. sums ≡ layer_sums self.now) }
+        ensures small { IfOk result (λ sums. All (IsSmall (size_of self.now.pattern)) sums) }
+    {
+        let pixels = self.region.w * self.region.h;
+        layer_sums(alloc, &self.colours, self.pattern.size(), pixels)
+    }
+}

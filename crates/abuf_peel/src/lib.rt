@@ -1,0 +1,24 @@
+//! Depth peeling: the colours of samples without lists of fragments and without a pool, layer by layer.
+//!
+//! A `Layer` stands for the samples of a region. With each step every sample takes its next primitive: of those that cover
+//! it, the lowest above the last one taken, by the depth key there and then by primitive number; and lays its paint over the
+//! colour. By `laws::layers_law` n steps give the paints of the lowest n primitives, or of all where there are fewer.
+//!
+//! `peel` repeats the step until no sample has a primitive left, row by row, on threads. Its sums are those of the colours
+//! that the primitives alone give. A step takes no memory; `start`, `sums` and `peel` do.
+#![tactic(auto)]
+
+pub mod laws;
+mod layer;
+mod members;
+mod offering;
+mod peeling;
+mod rows;
+mod scene;
+mod sums;
+mod taking;
+#[cfg(test)]
+mod tests;
+
+pub use layer::Layer;
+pub use peeling::peel;

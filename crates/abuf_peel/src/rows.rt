@@ -1,0 +1,149 @@
+// The rows of one worker, peeled until nothing is left.
+ghost use Rattle.std.specs.Prelude.{◌≡◌, ◌+◌, ◌-◌, ◌*◌, ◌/◌, ◌%◌, ◌<◌, ◌≤◌, length, IfOk};
+ghost use Rattle.std.specs.List.{range_with_len};
+ghost use Rattle.abuf_raster.specs.Region.{IsRegion};
+ghost use Rattle.abuf_raster.specs.Samples.{offsets_of};
+ghost use Rattle.abuf_peel.specs.Layers.{AreWhole, StandsFor};
+ghost use Rattle.abuf_peel.specs.Members.{HaveAll};
+ghost use Rattle.abuf_peel.specs.Rows.{AreRows, AreSmall, HaveAllIn, block_at, row_at, row_of, row_sums, rows_of};
+
+use crate::layer::Layer;
+use crate::members::numbers;
+use crate::scene::Scene;
+use abuf_num::{List, NoMemory, PixelSum};
+use abuf_raster::Region;
+use std::alloc::Global;
+
+/// The rows of one of 1 to 64 workers: row after row in turn, since what is drawn often lies in the middle of the image.
+#[derive(Clone, Copy)]
+pub(crate) struct Share {
+    pub(crate) threads: u32,
+    pub(crate) worker: u32,
+    pub(crate) ghost some: { worker < threads },
+    pub(crate) ghost few: { threads ≤ 64 },
+}
+
+impl Share {
+    /// Those of this worker, of so many workers.
+    pub(crate) fn new(threads: u32, worker: u32) -> Share
+        requires some { worker < threads }
+        requires few { threads ≤ 64 }
+        ensures { (result.threads ≡ threads) × (result.worker ≡ worker) }
+    {
+        Share { threads, worker }
+    }
+
+    /// How many of so many rows it has.
+    fn count(self, height: u32) -> u32
+        requires { height ≤ 4096 }
+        ensures { result ≡ rows_of height self.threads self.worker }
+    {
+        (height + self.threads - 1 - self.worker) / self.threads
+    }
+
+    /// Its row with this number.
+    fn row(self, i: u32) -> u32
+        requires { i < 4096 }
+        ensures { result ≡ row_at self.threads self.worker i }
+    {
+        i * self.threads + self.worker
+    }
+}
+
+impl<'a, 'b> Scene<'a, 'b> {
+    /// Steps until no sample has a primitive left: no more often than there are members.
+    fn exhaust(&self, layer: &mut Layer, members: &[u32])
+        requires region { IsRegion layer.old.region }
+        requires members { HaveAll (offsets_of layer.old.pattern) self.now.tris.now layer.old.region members.now }
+        requires start { StandsFor self.now.background self.now.tris.now self.now.paints.now 0 layer.old }
+        ensures region { layer.new.region ≡ layer.old.region }
+        ensures pattern { layer.new.pattern ≡ layer.old.pattern }
+        ensures whole { AreWhole self.now.background self.now.tris.now self.now.paints.now layer.new }
+    {
+        for _n in 0..members.len() {
+            if !layer.step_over(self.tris, self.paints, members) {
+                return;
+            }
+        }
+    }
+
+    /// The sums of one row of pixels, from the primitives that cover one of its samples.
+    fn row_sums(&self, alloc: Global, members: &[u32], y: u32) -> Result<List<PixelSum>, NoMemory>
+        requires y { y < self.now.height }
+        requires members { HaveAllIn self.now (row_of self.now.width y) members.now }
+        ensures value { IfOk result (λ sums. sums ≡ row_sums self.now y) }
+        ensures small { IfOk result (λ sums. AreSmall self.now sums) }
+    {
+        let row = self.row_of(y);
+        let mut layer = Layer::start(alloc, row, self.pattern, self.background)?;
+        self.exhaust(&mut layer, members);
+        let sums = layer.sums(alloc)?;
+        Ok(sums)
+    }
+
+    /// One row of pixels.
+    fn row_of(&self, y: u32) -> Region
+        requires { y < self.now.height }
+        ensures value { result ≡ row_of self.now.width y }
+        ensures region { IsRegion result }
+    {
+        Region {
+            x0: 0,
+            y0: y,
+            w: self.width,
+            h: 1,
+        }
+    }
+
+    /// The rows from one of a worker's down to its 16th from there on.
+    fn block_at(&self, share: Share, y: u32) -> Region
+        requires { y < self.now.height }
+        ensures value { result ≡ block_at self.now.width self.now.height share.threads y }
+        ensures region { IsRegion result }
+    {
+        Region {
+            x0: 0,
+            y0: y,
+            w: self.width,
+            h: (15 * share.threads + 1).min(self.height - y),
+        }
+    }
+
+    /// Finds the primitives that cover a sample of a worker's 16 rows from this one on, where it is the first of 16; else they are
+    /// there. So not every primitive is asked for each row.
+    fn hold_block(
+        &self,
+        block: &mut Vec<u32>,
+        all: &[u32],
+        share: Share,
+        i: u32,
+    ) -> Result<(), NoMemory>
+        requires i { i < 4096 }
+        requires row { row_at share.threads share.worker i < self.now.height }
+        requires all { all.now ≡ range_with_len 0 (length self.now.tris.now) }
+        requires held { 0 < i % 16 → HaveAllIn self.now (block_at self.now.width self.now.height share.threads (row_at share.threads share.worker (i - i % 16))) block.old.items }
+        ensures { IfOk result (λ _. HaveAllIn self.now (block_at self.now.width self.now.height share.threads (row_at share.threads share.worker (i - i % 16))) block.new.items) }
+    {
+        if i % 16 == 0 {
+            self.keep(block, all, self.block_at(share, share.row(i)))?;
+        }
+        Ok(())
+    }
+
+    /// The sums of a worker's rows.
+    pub(crate) fn rows(&self, alloc: Global, share: Share) -> Result<List<List<PixelSum>>, NoMemory>
+        ensures { IfOk result (λ rows. AreRows self.now share.threads share.worker (rows_of self.now.height share.threads share.worker) rows) }
+    {
+        let all = numbers(alloc, self.tris.len())?;
+        let mut block = Vec::new(alloc);
+        let mut members = Vec::new(alloc);
+        let mut rows = List::new(alloc);
+        for i in 0..share.count(self.height) {
+            let y = share.row(i);
+            self.hold_block(&mut block, &all, share, i)?;
+            self.keep(&mut members, &block, self.row_of(y))?;
+            rows.push(self.row_sums(alloc, &members, y)?)?;
+        }
+        Ok(rows)
+    }
+}

@@ -1,0 +1,73 @@
+// Worked rows, and each call once with ample memory.
+use crate::{Layer, peel};
+use abuf_num::{List, Paint};
+use abuf_raster::{Pattern, Region, ScreenTri};
+use abuf_view::Projected;
+use std::test::Fail;
+
+const ONE_PIXEL: Region = Region {
+    x0: 0,
+    y0: 0,
+    w: 1,
+    h: 1,
+};
+
+const RED: Paint = Paint {
+    colour: [65535, 0, 0],
+    alpha: 32768,
+};
+
+const GREEN: Paint = Paint {
+    colour: [0, 65535, 0],
+    alpha: 32768,
+};
+
+const WHITE: Paint = Paint {
+    colour: [65535; 3],
+    alpha: 65535,
+};
+
+// Two films over one pixel, the red one farther; the nearer comes first in the list.
+#[test]
+fn the_third_step_finds_nothing(rt: HostRuntime) -> Result<(), Fail> {
+    let alloc = rt.alloc();
+    let near = ScreenTri::new([0, 1024, 0], [0, 0, 1024], [20, 20, 20]).ok_or("near")?;
+    let far = ScreenTri::new([0, 1024, 0], [0, 0, 1024], [10, 10, 10]).ok_or("far")?;
+    let tris = [near, far];
+    let paints = [GREEN, RED];
+    let mut layer = Layer::start(alloc, ONE_PIXEL, Pattern::One, [0; 3])?;
+    assert!(rt; layer.step(&tris, &paints));
+    assert_eq!(rt; layer.sums(alloc)?.as_slice()[0].channels, [32768, 0, 0]);
+    assert!(rt; layer.step(&tris, &paints));
+    assert_eq!(rt;
+        layer.sums(alloc)?.as_slice()[0].channels,
+        [16384, 32768, 0]
+    );
+    assert!(rt; !layer.step(&tris, &paints));
+    assert_eq!(rt;
+        layer.sums(alloc)?.as_slice()[0].channels,
+        [16384, 32768, 0]
+    );
+    Ok(())
+}
+
+// The two halves of a square of 4 by 4 pixels.
+#[test]
+fn two_halves_make_a_square(rt: HostRuntime) -> Result<(), Fail> {
+    let alloc = rt.alloc();
+    let upper = ScreenTri::new([0, 1024, 0], [0, 0, 1024], [1, 2, 3]).ok_or("upper")?;
+    let lower = ScreenTri::new([1024, 1024, 0], [0, 1024, 1024], [2, 2, 3]).ok_or("lower")?;
+    let mut tris = List::new(alloc);
+    tris.push(upper)?;
+    tris.push(lower)?;
+    let mut paints = List::new(alloc);
+    paints.push(WHITE)?;
+    paints.push(WHITE)?;
+    let shown = Projected { tris, paints };
+    let sums = peel(&rt, alloc, &shown, 4, 4, Pattern::One, [0; 3], 2)?;
+    assert_eq!(rt; sums.as_slice().len(), 16);
+    for sum in sums.as_slice() {
+        assert_eq!(rt; sum.channels, [65535; 3]);
+    }
+    Ok(())
+}
