@@ -13,8 +13,8 @@ A program that doesn't have all features yet can be compared in those that it ha
 
     --only rows | random
     --words-subset LIST     commands with these options alone: size, samples, threads, nodes, turn,
-                            move, focal, near, background, maxval; the commands pick and demo; and
-                            order, for words in any other form than 'render --size WxH'
+                            move, focal, near, background, maxval, bands, peel; the commands pick and
+                            demo; and order, for words in any other form than 'render --size WxH'
     --without LIST          leave out scenes with: grammar (anything but 'v' and 'f' lines of three
                             plain whole numbers), libraries ('mtllib' lines), clip (a corner behind
                             the near plane)
@@ -34,7 +34,8 @@ import reference  # noqa: E402
 import rows as worked  # noqa: E402
 
 REFERENCE = [sys.executable, reference.__file__]
-ALL_WORDS = reference.OPTIONS + ["pick", "demo", "order"]
+STORED = reference.RENDER_OPTIONS + reference.RENDER_FLAGS
+ALL_WORDS = reference.OPTIONS + STORED + ["pick", "demo", "order"]
 ALL_SCENES = ["grammar", "libraries", "clip"]
 
 
@@ -211,6 +212,8 @@ class Maker:
         elif "demo" in self.words and self.chance(3):
             command = "demo"
             groups.insert(0, self.positional(str(rng.randint(1, 30))))
+        if command == "render" or self.chance(1):
+            groups += self.storage()
         if "order" in self.words:
             rng.shuffle(groups)
             groups.sort(key=lambda group: group[0] == "--")
@@ -218,6 +221,16 @@ class Maker:
         if "order" in self.words and self.chance(2):
             words.insert(rng.randrange(len(words) + 1), rng.choice(["--", "-", "x", "--size=1x1"]))
         return [command] + words
+
+    def storage(self):
+        """The words that say how the fragments are stored; now and then both, or bands of no row."""
+        groups = []
+        if "bands" in self.words and self.chance(25):
+            bands = self.rng.randint(1, self.height) if self.chance(95) else self.height + 1
+            groups.append(["--bands", str(bands)])
+        if "peel" in self.words and self.chance(1 if groups else 20):
+            groups.append(["--peel"])
+        return groups
 
     def positional(self, text):
         """The words of a value without a name."""

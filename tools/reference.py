@@ -11,7 +11,7 @@ asks every primitive by itself whether it covers the sample; those that do are
 put in order by their depth there and folded over the background. It is slow,
 and made to be read.
 
-Words that read are taken, --threads has no effect, and --nodes only decides
+Words that read are taken and --threads has no effect; --nodes, --bands and --peel only decide
 whether the scene is refused. Whole numbers are exact throughout.
 """
 
@@ -280,21 +280,28 @@ class Job:
     near: int = 8192
     background: tuple = (0, 0, 0)
     maxval: int = 255
+    bands: int = None
+    peel: bool = False
     at: tuple = None
     number: int = None
 
 
 OPTIONS = ["size", "samples", "threads", "nodes", "turn", "move", "focal", "near",
            "background", "maxval"]
+RENDER_OPTIONS = ["bands"]
+RENDER_FLAGS = ["peel"]
 POSITIONALS = {"render": None, "pick": "at", "demo": "number"}
 
 
 def matches_of(command, words):
     """The texts of the options and of the positional, or None where the words don't parse.
 
-    Options are written --name value or --name=value, each at most once and in any order. A value
-    written apart may not begin with '-', unless it is '-' alone. After '--' all is positional.
+    Options are written --name value or --name=value, and flags --name, each at most once and in any
+    order. A value written apart may not begin with '-', unless it is '-' alone. After '--' all is
+    positional.
     """
+    options = OPTIONS + RENDER_OPTIONS if command == "render" else OPTIONS
+    flags = RENDER_FLAGS if command == "render" else []
     found, positionals = {}, []
     only_positionals = False
     rest = list(words)
@@ -306,9 +313,13 @@ def matches_of(command, words):
             only_positionals = True
         else:
             name, equals, value = word[2:].partition("=")
-            if not word.startswith("--") or name not in OPTIONS or name in found:
+            if not word.startswith("--") or name not in options + flags or name in found:
                 return None
-            if not equals:
+            if name in flags:
+                if equals:
+                    return None
+                value = ""
+            elif not equals:
                 if not rest or (rest[0].startswith("-") and rest[0] != "-"):
                     return None
                 value = rest.pop(0)
@@ -402,6 +413,8 @@ def job_of(words):
         take("background", lambda text: several(text, ",", 3, channel)) or job.background
     )
     job.maxval = take("maxval", lambda t: int(t) if t in ("255", "65535") else None) or job.maxval
+    job.peel = "peel" in found
+    job.bands = take("bands", lambda t: None if job.peel else whole(t, 4, 1, job.height))
     job.at = take("at", place)
     job.number = take("number", lambda text: whole(text, 6, 1, 200000))
     return job
@@ -608,19 +621,23 @@ def output_of(words, read_scene, fetch):
         read_mtl(data, number, materials)
     primitives = primitives_of(job, triangles_of(obj, materials))
 
-    values, total, longest, report = [], 0, 0, None
+    values, totals, longest, report = [], [], 0, None
     for y in range(job.height):
+        totals.append(0)
         for x in range(job.width):
             samples = [covering(primitives, s) for s in samples_of(job, x, y)]
             length = len({n for covering_it in samples for _, n in covering_it})
-            total += length
+            totals[y] += length
             longest = max(longest, length)
             if job.at == (x, y):
                 report = report_of(samples)
             if job.at is None:
                 colours = [sample_colour(job, primitives, one) for one in samples]
                 values += [pixel_value(job, sum(channels)) for channels in zip(*colours)]
-    if total > job.nodes:
+    total = sum(totals)
+    if job.bands is not None:
+        check_bands(job, totals)
+    elif total > job.nodes and not job.peel:
         raise Refusal(5, f"pool full: {total} fragments, {job.nodes} nodes")
     if report is not None:
         return report
@@ -629,6 +646,15 @@ def output_of(words, read_scene, fetch):
         return header + image
     text = f"triangles {len(primitives)}\nfragments {total}\nlongest {longest}\nsum {sum(image)}\n"
     return text.encode()
+
+
+def check_bands(job, totals):
+    """Refuses the first band that has more fragments than there are nodes, from those of each row."""
+    for band in range(job.bands):
+        first, end = (k * job.height // job.bands for k in (band, band + 1))
+        total = sum(totals[first:end])
+        if total > job.nodes:
+            raise Refusal(5, f"band {band + 1} full: {total} fragments, {job.nodes} nodes")
 
 
 def answer(words, read_scene, fetch):

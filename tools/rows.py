@@ -588,6 +588,7 @@ def rows():
         "near": ("0.0624", "0", "x"),
         "background": ("1,1", "1,1,nan"),
         "maxval": ("256", "0255"),
+        "bands": ("0", "5", "00001", "", "x", "-", "+1", "1.0"),
     }.items():
         for value in values:
             others = [] if option == "size" else ["--size", "4x4"]
@@ -604,6 +605,39 @@ def rows():
             2, "bad value: at")
     row("a place that begins with a hyphen", "pick --size 4x4 -- -1,0", UPPER_SCENE,
         2, "bad value: at")
+
+    # bands and layers
+    white = picture("WWWW", "WWWW", "WWWW", "WWWW")
+    row("four bands with a node for each pixel", "render --size 4x4 --bands 4 --nodes 4",
+        SQUARE_SCENE, white)
+    row("the first of four bands is full", "render --size 4x4 --bands 4 --nodes 3", SQUARE_SCENE,
+        5, "band 1 full: 4 fragments, 3 nodes")
+    row("the last of four bands is full", "render --size 4x4 --bands 4 --nodes 3", LOWER_SCENE,
+        5, "band 4 full: 4 fragments, 3 nodes")
+    row("rows that can't be shared evenly", "render --size 4x4 --bands 3 --nodes 7", SQUARE_SCENE,
+        5, "band 3 full: 8 fragments, 7 nodes")
+    row("one band", "render --size 4x4 --bands 1 --nodes 15", SQUARE_SCENE,
+        5, "band 1 full: 16 fragments, 15 nodes")
+    row("as many bands as rows", "render --size 4x4 --bands=0004", SQUARE_SCENE, white)
+    row("bands come after maxval", "render --size 4x4 --bands 0 --maxval 1", SQUARE_SCENE,
+        2, "bad value: maxval")
+    row("bands come before the scene", "render --size 4x4 --bands 9", b"v 1 2\n",
+        2, "bad value: bands")
+    row("a full band comes after the scene", "render --size 4x4 --bands 4 --nodes 3",
+        SQUARE_SCENE + b"v 1 2\n", 3, "line 7: bad number")
+    row("layers need no node", "render --size 4x4 --peel --nodes 1", SQUARE_SCENE, white)
+    row("layers at one depth", one + " --peel", RED_THEN_GREEN, pixel(64, 128, 0),
+        libraries=RED_AND_GREEN)
+    row("layers that cross in a pixel", one + " --samples 2 --peel", CROSSING_SCENE,
+        pixel(128, 128, 0), libraries=CROSSING)
+    row("bands where planes cross in a pixel", one + " --samples 2 --bands 1", CROSSING_SCENE,
+        pixel(128, 128, 0), libraries=CROSSING)
+    for words in ("--peel --bands 2", "--bands 2 --peel", "--peel --bands=x"):
+        row(f"both: {words}", "render --size 4x4 " + words, SQUARE_SCENE, 2, "bad value: bands")
+    for words in ("render --peel=1", "render --peel --peel", "render --peel 1",
+                  "render --bands", "render --bands --peel", "render --bands 1 --bands 1",
+                  "pick 0,0 --bands 1", "pick 0,0 --peel", "demo 1 --bands 1", "demo 1 --peel"):
+        row(words, words + " --size 4x4", SQUARE_SCENE, 2, "words not understood")
 
     # the outside
     row("a scene that can't be read", small, b"", 6, "read fault", stdin="fault")

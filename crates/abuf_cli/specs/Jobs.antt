@@ -1,14 +1,15 @@
 -- The job that the words of a command line ask for, or the refusal.
-use Rattle.std.specs.Prelude.{List, [], ◌∷◌, codes, Option, Some, None, Result, Ok, Err, ◌≡◌}
-use Rattle.clap.specs.Words.{Row, Text}
+use Rattle.std.specs.Prelude.{Bool, true, false, ℕ, List, [], ◌∷◌, codes, Option, Some, None, Result, Ok, Err, ◌≡◌}
+use Rattle.clap.specs.Words.{Row, Text, first_of}
 use Rattle.abuf_view.specs.Camera.{camera}
-use Rattle.abuf_cli.specs.Commands.{app_of_command, command_named, matches, text_of}
-use Rattle.abuf_cli.specs.Values.{size_of, pattern_of, threads_of, nodes_of, turn_of, shift_of, focal_of, near_of, background_of, maxval_of, at_of, number_of}
+use Rattle.abuf_cli.specs.Commands.{app_of_command, command_named, is_given, matches, text_of}
+use Rattle.abuf_cli.specs.Values.{size_of, pattern_of, threads_of, nodes_of, turn_of, shift_of, focal_of, near_of, background_of, maxval_of, bands_of, at_of, number_of}
 use Rattle.abuf_cli.specs.declared.command.CommandName.{CommandName}
 use Rattle.abuf_cli.specs.declared.command.CommandName.TheVariants.{Render, Pick, Demo}
 use Rattle.abuf_cli.specs.declared.values.Size.{Size}
 use Rattle.abuf_cli.specs.declared.job.Job.{Job}
 use Rattle.abuf_cli.specs.declared.job.Pose.{Pose}
+use Rattle.abuf_cli.specs.declared.job.Storage.{Storage}
 use Rattle.abuf_cli.specs.declared.job.What.{What}
 use Rattle.abuf_cli.specs.declared.job.What.TheVariants as what
 use Rattle.abuf_cli.specs.declared.job.Opt.{Opt}
@@ -35,6 +36,20 @@ pose_of rows =
     need opt.Near (near_of (text_of (codes "near") (codes "0.125") rows)) (λ near.
     Ok (record { turn = turn; shift = shift; focal = focal; near = near })))))
 
+-- How the fragments of a render are stored, by the text of `bands`, where it is given, and whether `peel` is given: with
+-- it, bands are refused whatever their text.
+abbrev pub render_storage : ℕ → Option Text → Bool → Result Storage WordFault
+render_storage height None peel = Ok (record { bands = None; peel = peel })
+render_storage height (Some text) true = Err (Value opt.Bands)
+render_storage height (Some text) false =
+    need opt.Bands (bands_of height text) (λ bands. Ok (record { bands = Some bands; peel = false }))
+
+-- How the fragments of a command are stored, where the image has this height: only `render` has bands, or peels.
+abbrev pub storage_of : CommandName → ℕ → List Row → Result Storage WordFault
+storage_of Render height rows = render_storage height (first_of (codes "bands") rows) (is_given (codes "peel") rows)
+storage_of Pick height rows = Ok (record { bands = None; peel = false })
+storage_of Demo height rows = Ok (record { bands = None; peel = false })
+
 -- What a command makes, where the image has this size. Its value has to be given, so that no text stands by default.
 abbrev pub what_of : CommandName → Size → List Row → Result What WordFault
 what_of Render size rows = Ok what.Render
@@ -51,6 +66,7 @@ job_of name rows =
     and_then (pose_of rows) (λ pose.
     need opt.Background (background_of (text_of (codes "background") (codes "0,0,0") rows)) (λ background.
     need opt.Maxval (maxval_of (text_of (codes "maxval") (codes "255") rows)) (λ maxval.
+    and_then (storage_of name size.height rows) (λ storage.
     and_then (what_of name size rows) (λ what.
     Ok (record {
       what = what;
@@ -60,7 +76,9 @@ job_of name rows =
       nodes = nodes;
       background = background;
       maxval = maxval;
-    })))))))))
+      bands = storage.bands;
+      peel = storage.peel;
+    }))))))))))
 
 -- Without matches the words aren't understood.
 abbrev pub of_matches : CommandName → Option (List Row) → Result Job WordFault

@@ -1,6 +1,8 @@
 -- What every job keeps to.
-use Rattle.std.specs.Prelude.{ℕ, ◌≡◌, ◌≤◌, ◌<◌, ◌⊎◌}
+use Rattle.std.specs.Prelude.{ℕ, Bool, true, false, Option, None, IfSome, ◌≡◌, ◌≤◌, ◌<◌, ◌⊎◌}
 use Rattle.abuf_view.specs.Camera.{IsCamera}
+use Rattle.abuf_cli.specs.declared.command.CommandName.{CommandName}
+use Rattle.abuf_cli.specs.declared.command.CommandName.TheVariants as command
 use Rattle.abuf_cli.specs.declared.job.Job.{Job}
 use Rattle.abuf_cli.specs.declared.job.What.{What}
 use Rattle.abuf_cli.specs.declared.job.What.TheVariants.{Render, Pick, Demo}
@@ -12,9 +14,23 @@ IsWhat width height Render = Unit {0}
 IsWhat width height (Pick x y) = (x < width) × (y < height)
 IsWhat width height (Demo number) = (1 ≤ number) × (number ≤ 200000)
 
+-- The command that makes it.
+abbrev pub command_of : What → CommandName
+command_of Render = command.Render
+command_of (Pick x y) = command.Pick
+command_of (Demo number) = command.Demo
+
+-- How the fragments are stored, where the image has this height: bands of `render` are from 1 to the height where they
+-- are given, and aren't given where it peels; `pick` and `demo` have no bands and don't peel.
+abbrev pub IsStorage : ℕ → What → Option ℕ → Bool → Type 0
+IsStorage height Render bands peel = (IfSome bands (λ b. (1 ≤ b) × (b ≤ height))) × (peel ≡ true → bands ≡ None)
+IsStorage height (Pick x y) bands peel = (bands ≡ None) × (peel ≡ false)
+IsStorage height (Demo number) bands peel = (bands ≡ None) × (peel ≡ false)
+
 pub record IsJob (job : Job) : Type 0 where
   pub what : IsWhat job.camera.width job.camera.height job.what
   pub camera : IsCamera job.camera
   pub threads : (1 ≤ job.threads) × (job.threads ≤ 64)
   pub nodes : (1 ≤ job.nodes) × (job.nodes ≤ 8388608)
   pub maxval : (job.maxval ≡ 255) ⊎ (job.maxval ≡ 65535)
+  pub storage : IsStorage job.camera.height job.what job.bands job.peel

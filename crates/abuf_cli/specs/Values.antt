@@ -116,6 +116,10 @@ abbrev pub maxval_of : List ℕ → Option ℕ
 maxval_of text =
     if bytes_eq text (codes "255") then Some 255 else (if bytes_eq text (codes "65535") then Some 65535 else None)
 
+-- One to four digits, 1 to the height of the image.
+abbrev pub bands_of : ℕ → List ℕ → Option ℕ
+bands_of height text = counted 1 height (whole_number 4 text)
+
 -- The pixel x from the left and y from the top, where it is within an image of this size.
 abbrev pub pixel_within : Size → ℕ → ℕ → Option Pixel
 pixel_within size x y = if nat_lt x size.width && nat_lt y size.height then Some (record { x = x; y = y }) else None

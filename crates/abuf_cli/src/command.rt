@@ -2,12 +2,12 @@
 ghost use Rattle.std.specs.Prelude.{◌≡◌, IfOk, IfErr, map, option_map, Some, None, Err, true};
 ghost use Rattle.std.specs.String.{string_bytes};
 ghost use Rattle.clap.specs.Words.{app_of, rule_of, rows_of, found_of, with_rule, first_of, is_simple_and_free};
-ghost use Rattle.abuf_cli.specs.Commands.{option_rule, option_names, with_options, positional_rule, render_app, app_of_command, command_named, matches, text_of};
+ghost use Rattle.abuf_cli.specs.Commands.{option_rule, flag_rule, option_names, with_options, positional_rule, common_app, render_app, app_of_command, command_named, matches, text_of, is_given};
 ghost use Rattle.abuf_cli.specs.Jobs.{IsOfWords};
 
 use crate::job::WordFault;
 use clap::error::ErrorKind;
-use clap::{Arg, ArgMatches, Command};
+use clap::{Arg, ArgAction, ArgMatches, Command};
 use std::alloc::{AllocError, Global};
 
 /// A command, by the word that names it.
@@ -57,6 +57,17 @@ fn with_option<'a>(
     command.arg(Arg::new(alloc, name).long(name))
 }
 
+// A command with a flag, which takes no value.
+fn with_flag<'a>(
+    alloc: Global,
+    command: Command<'a>,
+    name: &'a str,
+) -> Result<Command<'a>, AllocError>
+    ensures { IfOk result (λ r. app_of r ≡ with_rule (app_of command.entry) (flag_rule name.entry.now)) }
+{
+    command.arg(Arg::new(alloc, name).long(name).action(ArgAction::SetTrue))
+}
+
 // A command with a positional value, which has to be given.
 fn with_positional<'a>(
     alloc: Global,
@@ -83,10 +94,17 @@ fn with_options_of<'a>(
     Ok(command)
 }
 
+// A command with the options that every command takes.
+fn common<'a>(alloc: Global) -> Result<Command<'a>, AllocError>
+    ensures { IfOk result (λ r. app_of r ≡ common_app) }
+{
+    with_options_of(alloc, Command::new(alloc, "abuf"), &OPTIONS)
+}
+
 fn render<'a>(alloc: Global) -> Result<Command<'a>, AllocError>
     ensures { IfOk result (λ r. app_of r ≡ render_app) }
 {
-    with_options_of(alloc, Command::new(alloc, "abuf"), &OPTIONS)
+    with_flag(alloc, with_option(alloc, common(alloc)?, "bands")?, "peel")
 }
 
 fn command_of<'a>(alloc: Global, name: CommandName) -> Result<Command<'a>, AllocError>
@@ -94,8 +112,8 @@ fn command_of<'a>(alloc: Global, name: CommandName) -> Result<Command<'a>, Alloc
 {
     match name {
         CommandName::Render => render(alloc),
-        CommandName::Pick => with_positional(alloc, render(alloc)?, "at"),
-        CommandName::Demo => with_positional(alloc, render(alloc)?, "number"),
+        CommandName::Pick => with_positional(alloc, common(alloc)?, "at"),
+        CommandName::Demo => with_positional(alloc, common(alloc)?, "number"),
     }
 }
 
@@ -115,8 +133,8 @@ fn parse<'a>(command: Command<'a>, words: &'a [String]) -> Result<ArgMatches<'a>
     }
 }
 
-// The text that an option or a value was given.
-fn given_text<'a>(matches: &ArgMatches<'a>, name: &str) -> Option<&'a str>
+/// The text that an option or a value was given.
+pub fn given_text<'a>(matches: &ArgMatches<'a>, name: &str) -> Option<&'a str>
     ensures { option_map (λ t. t.now) result ≡ first_of name.now (rows_of (found_of matches.now)) }
 {
     matches.get_str(name)
@@ -130,6 +148,13 @@ pub fn text_of<'a>(matches: &ArgMatches<'a>, name: &str, default: &'a str) -> &'
         Some(text) => text,
         None => default,
     }
+}
+
+/// Whether a flag was given.
+pub fn is_given(matches: &ArgMatches, name: &str) -> bool
+    ensures { result ≡ is_given name.now (rows_of (found_of matches.now)) }
+{
+    text_of(matches, name, "false") == "true"
 }
 
 /// What `clap` finds in the words of a command, of which the first is its name.

@@ -4,13 +4,13 @@ ghost use Rattle.std.specs.String.{string_bytes};
 ghost use Rattle.clap.specs.Words.{rows_of, found_of};
 ghost use Rattle.abuf_view.specs.Camera.{IsSize, IsCamera, camera};
 ghost use Rattle.abuf_cli.specs.Commands.{app_of_command, matches};
-ghost use Rattle.abuf_cli.specs.Sound.{IsWhat, IsJob};
+ghost use Rattle.abuf_cli.specs.Sound.{IsWhat, IsJob, command_of};
 ghost use Rattle.abuf_cli.specs.Jobs.{pose_of, what_of, job_of, of_matches, first_command, job, Answers};
 
-use crate::command::{CommandName, command_named, matches_of, text_of};
+use crate::command::{CommandName, command_named, given_text, is_given, matches_of, text_of};
 use crate::values::{
-    Size, at_of, background_of, focal_of, maxval_of, near_of, nodes_of, number_of, pattern_of,
-    shift_of, size_of, threads_of, turn_of,
+    Size, at_of, background_of, bands_of, focal_of, maxval_of, near_of, nodes_of, number_of,
+    pattern_of, shift_of, size_of, threads_of, turn_of,
 };
 use abuf_raster::Pattern;
 use abuf_view::Camera;
@@ -29,7 +29,7 @@ pub enum What {
 }
 
 /// What a text on the command line is given for, in the order in which their texts are refused: the options of every
-/// command, and then the positional value of the command.
+/// command, the bands of `render`, and then the positional value of the command.
 #[derive(Clone, Copy, Debug, PartialEq, Eq)]
 pub enum Opt {
     /// `--size WxH`, in pixels: each from 1 to 4096, and their product at most 4194304. 640x480 by default.
@@ -52,6 +52,8 @@ pub enum Opt {
     Background,
     /// `--maxval`: 255 or 65535. 255 by default.
     Maxval,
+    /// `--bands`, from 1 to the height of the image: for `render` alone, and not with `--peel`. No bands by default.
+    Bands,
     /// The `X,Y` of `pick`, a pixel: X from 0 to the width less 1, and Y from 0 to the height less 1. It has to be given.
     At,
     /// The `N` of `demo`, a number of triangles, from 1 to 200000. It has to be given.
@@ -63,7 +65,8 @@ pub enum Opt {
 pub enum WordFault {
     /// There is no word, the first names no command, or `clap` has no matches for the others.
     Words,
-    /// The text of this option or value isn't in its form or range; it is the first such text.
+    /// The text of this option or value isn't in its form or range, or bands are given with `--peel`; it is the first
+    /// such text.
     Value { option: Opt },
     /// Want of memory; it may come at any words.
     Memory,
@@ -85,6 +88,11 @@ pub struct Job {
     pub background: [u16; 3],
     /// The greatest value in the image: 255 or 65535.
     pub maxval: u32,
+    /// The number of bands of rows that `render` draws one after another, from 1 to the height of the image, where it
+    /// is given; `pick` and `demo` have none.
+    pub bands: Option<u32>,
+    /// Whether `render` peels layer by layer, without bands; `pick` and `demo` don't.
+    pub peel: bool,
 }
 
 /// Where the camera stands and looks, and its lens. Lengths are in units of 1/65536.
@@ -147,10 +155,66 @@ impl Pose {
     }
 }
 
+/// How the fragments of a job are stored.
+#[derive(Clone, Copy)]
+pub struct Storage {
+    /// The number of bands, from 1 to the height of the image, where they are given.
+    pub bands: Option<u32>,
+    /// Whether layers are peeled; no bands are given then.
+    pub peel: bool,
+}
+
+impl Storage {
+    ghost use Rattle.std.specs.Prelude.{◌≡◌, ◌≤◌, true, None, option_map, IfOk, IfSome};
+    ghost use Rattle.clap.specs.Words.{rows_of, found_of};
+    ghost use Rattle.abuf_cli.specs.Jobs.{render_storage, storage_of};
+    ghost use Rattle.abuf_cli.specs.Sound.{IsStorage, command_of};
+
+    // How the fragments of a render are stored, by the text of `bands` and whether `peel` is given.
+    fn of_render(height: u32, bands: Option<&str>, peel: bool) -> Result<Storage, WordFault>
+        ensures value { result ≡ render_storage height (option_map (λ t. t.now) bands.entry) peel }
+        ensures bands { IfOk result (λ s. IfSome s.bands (λ b. (1 ≤ b) × (b ≤ height))) }
+        ensures apart { IfOk result (λ s. s.peel ≡ true → s.bands ≡ None) }
+    {
+        match bands {
+            None => Ok(Storage { bands: None, peel }),
+            Some(_) if peel => Err(WordFault::Value { option: Opt::Bands }),
+            Some(text) => match bands_of(height, text.as_bytes()) {
+                Some(bands) => Ok(Storage {
+                    bands: Some(bands),
+                    peel: false,
+                }),
+                None => Err(WordFault::Value { option: Opt::Bands }),
+            },
+        }
+    }
+
+    // How the fragments of a command are stored, where the image has this height.
+    fn read(name: CommandName, height: u32, matches: &ArgMatches) -> Result<Storage, WordFault>
+        ensures value { result ≡ storage_of name height (rows_of (found_of matches.now)) }
+        ensures sound { IfOk result (λ s. (what : What) → command_of what ≡ name → IsStorage height what s.bands s.peel) }
+    {
+        match name {
+            CommandName::Render => {
+                Storage::of_render(
+                    height,
+                    given_text(matches, "bands"),
+                    is_given(matches, "peel"),
+                )
+            }
+            CommandName::Pick | CommandName::Demo => Ok(Storage {
+                bands: None,
+                peel: false,
+            }),
+        }
+    }
+}
+
 // What a command makes, where the image has this size.
 fn what_of(name: CommandName, size: Size, matches: &ArgMatches) -> Result<What, WordFault>
     ensures value { result ≡ what_of name size (rows_of (found_of matches.now)) }
     ensures sound { IfOk result (IsWhat size.width size.height) }
+    ensures command { IfOk result (λ what. command_of what ≡ name) }
 {
     match name {
         CommandName::Render => Ok(What::Render),
@@ -202,6 +266,7 @@ fn job_of(name: CommandName, matches: &ArgMatches) -> Result<Job, WordFault>
             option: Opt::Maxval,
         });
     };
+    let storage = Storage::read(name, size.height, matches)?;
     let what = what_of(name, size, matches)?;
     Ok(Job {
         what,
@@ -211,6 +276,8 @@ fn job_of(name: CommandName, matches: &ArgMatches) -> Result<Job, WordFault>
         nodes,
         background,
         maxval,
+        bands: storage.bands,
+        peel: storage.peel,
     })
 }
 
@@ -239,7 +306,8 @@ fn first_command(words: &[String]) -> Option<CommandName>
 ///
 /// `Words` comes where there is no first word, where it names no command, or where `clap` has no matches for the words
 /// behind it (a request for help is such a case, and a value that has to be given and isn't). `Value` comes where the
-/// words parse and a text isn't in its form or range, and names the first such text in the order of [`Opt`].
+/// words parse and a text isn't in its form or range, and names the first such text in the order of [`Opt`]; with
+/// `--peel`, `--bands` is refused whatever its text.
 pub fn read_words(alloc: Global, words: &[String]) -> Result<Job, WordFault>
     ensures answer { Answers (job (map string_bytes words.now)) result }
     ensures sound { IfOk result IsJob }

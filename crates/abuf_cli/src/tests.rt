@@ -35,6 +35,10 @@ const NOT_UNDERSTOOD: &[&[&str]] = &[
     &["render", "-V"],
     &["render", "--version"],
     &["render", "1,1"],
+    &["render", "--peel=x"],
+    &["render", "--peel", "--peel"],
+    &["pick", "0,0", "--peel"],
+    &["demo", "1", "--bands", "2"],
     &["Pick", "1,1"],
     &["1,1", "pick"],
     &["pick"],
@@ -81,6 +85,16 @@ const BAD_VALUES: &[(&[&str], Opt)] = &[
     (&["render", "--near", "0.0624"], Opt::Near),
     (&["render", "--background", "1,1"], Opt::Background),
     (&["render", "--maxval", "256"], Opt::Maxval),
+    (&["render", "--bands", "0"], Opt::Bands),
+    (&["render", "--size=5x4", "--bands", "5"], Opt::Bands),
+    (&["render", "--bands", "00001"], Opt::Bands),
+    (&["render", "--bands="], Opt::Bands),
+    (&["render", "--peel", "--bands", "2"], Opt::Bands),
+    (&["render", "--peel", "--bands=x"], Opt::Bands),
+    (
+        &["render", "--bands=2", "--peel", "--maxval=256"],
+        Opt::Maxval,
+    ),
     (&["pick", "640,0"], Opt::At),
     (&["pick", "0,480"], Opt::At),
     (&["pick", "4,0", "--size", "4x4"], Opt::At),
@@ -207,6 +221,24 @@ fn patterns_of_samples(rt: HostRuntime) {
     }
 }
 
+const STORED: &[(&[&str], Option<u32>, bool)] = &[
+    (&["render"], None, false),
+    (&["render", "--bands", "4"], Some(4), false),
+    (&["render", "--size=5x4", "--bands=0004"], Some(4), false),
+    (&["render", "--peel"], None, true),
+];
+
+#[test]
+fn bands_and_peeling_of_a_render(rt: HostRuntime) {
+    let alloc = rt.alloc();
+    for (words, bands, peel) in STORED {
+        match read(alloc, words) {
+            Ok(job) => assert!(rt; job.bands == *bands && job.peel == *peel),
+            Err(_) => assert!(rt; false),
+        }
+    }
+}
+
 // What a job is, apart from where its camera stands and looks.
 #[derive(Clone, Copy, Debug, PartialEq, Eq)]
 struct Asked {
@@ -217,6 +249,8 @@ struct Asked {
     nodes: u32,
     background: [u16; 3],
     maxval: u32,
+    bands: Option<u32>,
+    peel: bool,
 }
 
 fn asked_by(job: &Job) -> Asked {
@@ -228,6 +262,8 @@ fn asked_by(job: &Job) -> Asked {
         nodes: job.nodes,
         background: job.background,
         maxval: job.maxval,
+        bands: job.bands,
+        peel: job.peel,
     }
 }
 
@@ -241,6 +277,8 @@ fn by_default(what: What, size: (u32, u32)) -> Asked {
         nodes: 4194304,
         background: [0, 0, 0],
         maxval: 255,
+        bands: None,
+        peel: false,
     }
 }
 
@@ -331,6 +369,8 @@ fn options_before_and_behind_a_value(rt: HostRuntime) {
                     nodes: 8388608,
                     background: [0, 65535, 0],
                     maxval: 65535,
+                    bands: None,
+                    peel: false,
                 }
         ),
         Err(_) => assert!(rt; false),

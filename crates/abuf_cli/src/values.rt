@@ -1,7 +1,7 @@
 // What the texts of the options and values stand for.
 ghost use Rattle.std.specs.Prelude.{◌≡◌, ◌≤◌, ◌<◌, ◌^◌, ◌⊎◌, pos, IfSome, unsigned_abs};
 ghost use Rattle.abuf_view.specs.Camera.{IsSize, IsTurn, IsNearby, IsFrom, turn_of as quaternion, place_of};
-ghost use Rattle.abuf_cli.specs.Values.{size_of, size_within, pattern_of, counted, threads_of, nodes_of, turn_part, some_turn, turn_of, three_scaled, shift_of, between, focal_of, near_of, channel, background_of, maxval_of, pixel_within, at_of, number_of};
+ghost use Rattle.abuf_cli.specs.Values.{size_of, size_within, pattern_of, counted, threads_of, nodes_of, turn_part, some_turn, turn_of, three_scaled, shift_of, between, focal_of, near_of, channel, background_of, maxval_of, bands_of, pixel_within, at_of, number_of};
 
 use crate::parts::{cut_at, four_texts, scaled_number, signed_number, three_texts, whole_number};
 use abuf_raster::Pattern;
@@ -213,6 +213,14 @@ pub fn maxval_of(text: &str) -> Option<u32>
         "65535" => Some(65535),
         _ => None,
     }
+}
+
+/// A number of bands, of an image of this height.
+pub fn bands_of(height: u32, text: &[u8]) -> Option<u32>
+    ensures value { result ≡ bands_of height text.now }
+    ensures range { IfSome result (λ n. (1 ≤ n) × (n ≤ height)) }
+{
+    counted(1, height, whole_number(text, 4))
 }
 
 // The pixel at this place, within an image of this size.

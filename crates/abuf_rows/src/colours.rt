@@ -90,6 +90,8 @@ fn faces_that_cross_inside_a_pixel(rt: HostRuntime) -> Result<(), Fail> {
         ("render --size 1x1 --samples 2", "y"),
         ("render --size 1x1 --samples 2 --threads 1", "y"),
         ("render --size 1x1 --samples 2 --threads 64", "y"),
+        ("render --size 1x1 --samples 2 --bands 1", "y"),
+        ("render --size 1x1 --samples 2 --peel", "y"),
     ];
     for (words, picture) in cases {
         let outcome = carry_out(

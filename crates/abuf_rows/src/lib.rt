@@ -32,4 +32,6 @@ mod picked;
 #[cfg(test)]
 mod scenes;
 #[cfg(test)]
+mod stored;
+#[cfg(test)]
 mod words;

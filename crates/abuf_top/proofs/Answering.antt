@@ -2,7 +2,7 @@
 use Rattle.std.proofs.Common.{◌≡◌, inl, inr, ℕ, List, Option, Some, None, option_map, Result, Ok, Err, MatchResult, IfSome, refl, sym, ap, ◌∙◌, subst, arith}
 use Rattle.std.specs.Io.KnownBytes.{Appends, Keeps}
 use Rattle.abuf_top.specs.Image.{Drawing}
-use Rattle.abuf_top.specs.Refusals.{pool_text}
+use Rattle.abuf_top.specs.Refusals.{full_text}
 use Rattle.abuf_top.specs.Verdict.{Verdict, Refuse, Write, pool_line, last_line}
 use Rattle.abuf_top.specs.Table.{Taken, TookLine, TookPart, Wrote, Refused, WriteFailed, GaveUp, IsAnswer}
 use Rattle.abuf_top.specs.Ending.{Finished, StopsDrawing, Reports}
@@ -71,9 +71,9 @@ module _ (verdict : Option Verdict) (status : ℕ) (rose : Type 0) (out err : Ta
 module _ (line : Option (Result Drawing Refusal)) (d : Drawing) (status : ℕ) (rose : Type 0) (out err : Taken) (is : IfSome line (λ l. l ≡ Ok d)) where
   stopped : (s : Stop) → StopsDrawing (pool_line d) out s → Reports s status err → IsAnswer (option_map last_line line) status rose out err
   stopped (stop.Refused r) h said = absurd h
-  stopped (stop.PoolFull fragments nodes) h (inl said) =
-      pool_full _ status rose out err said.0 (record { text = told line d _ (λ (v : Verdict). (text : List ℕ) × (v ≡ Refuse 5 text) × TookLine err text) is h.0 (pool_text fragments nodes, refl, said.1); unwritten = h.1 })
-  stopped (stop.PoolFull fragments nodes) h (inr said) = gave_up _ status rose out err said.0 (record { unwritten = h.1; text = said.1 })
+  stopped (stop.PoolFull pool) h (inl said) =
+      pool_full _ status rose out err said.0 (record { text = told line d _ (λ (v : Verdict). (text : List ℕ) × (v ≡ Refuse 5 text) × TookLine err text) is h.0 (full_text pool, refl, said.1); unwritten = h.1 })
+  stopped (stop.PoolFull pool) h (inr said) = gave_up _ status rose out err said.0 (record { unwritten = h.1; text = said.1 })
   stopped stop.ReadFault h said = absurd h
   stopped stop.WriteFault h said =
       write_failed _ status rose out err said.0 (record { part = told line d _ (λ (v : Verdict). (bytes : List ℕ) × (v ≡ Write bytes) × TookPart out bytes) is h.0.1 (h.0.0, refl, h.0.2); rose = h.1; text = said.1 })

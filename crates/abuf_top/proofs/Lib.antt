@@ -1,7 +1,8 @@
 pub mod Asking
-pub mod Frames
-pub mod Sights
 pub mod Behind
 pub mod Telling
 pub mod Answering
+pub mod Handing
+pub mod Storing
+pub mod Sums
 pub mod Lines

@@ -1,5 +1,5 @@
 -- The lines of a report, one sample after another, and the place of its pixel.
-use Rattle.std.proofs.Common.{◌≡◌, ℕ, zero, suc, ◌+◌, ◌*◌, ◌/◌, ◌%◌, ◌<◌, List, [], ◌∷◌, ◌++◌, refl, ap, ap₂, ◌∙◌, sym, subst, append-nil, append_assoc, arith}
+use Rattle.std.proofs.Common.{◌≡◌, ℕ, zero, suc, ◌+◌, ◌*◌, ◌/◌, ◌%◌, ◌<◌, List, [], ◌∷◌, ◌++◌, refl, ap, ap₂, ◌∙◌, sym, subst, append-nil, append_assoc, mul-le-mul, ◌≤◌, arith}
 use Rattle.std.specs.List.{flat_map, range_with_len}
 use Rattle.std.proofs.lemmas.Grind.{flat_map-append}
 use Rattle.std.proofs.lemmas.Nat.{div-mul-add, mod-mul-add}
@@ -18,11 +18,17 @@ one_more line k =
     ∙ (flat_map-append line (range_with_len 0 k) (k ∷ [])
     ∙ ap (λ (bytes : List ℕ). flat_map line (range_with_len 0 k) ++ bytes) (append-nil (line k)))))
 
--- in an image whose first pixel is (0, 0), the pixel at the place of (x, y) is (x, y)
-pub column_is : (r : Region) (w h x y : ℕ) → r ≡ record { x0 = 0; y0 = 0; w = w; h = h } → x < w → r.x0 + (y * r.w + x) % r.w ≡ x
-column_is r w h x y e l =
-    subst (λ (s : Region). s.x0 + (y * s.w + x) % s.w ≡ x) (sym e) (let d = mod-mul-add y w x l in omega (arith, d))
+-- in a region whose first pixel is (0, 0), the pixel at the place of (x, y) is (x, y)
+pub column_is : (r : Region) (x y : ℕ) → r.x0 ≡ 0 → x < r.w → r.x0 + (y * r.w + x) % r.w ≡ x
+column_is r x y corner l = let d = mod-mul-add y r.w x l in omega (arith, d, corner)
 
-pub row_is : (r : Region) (w h x y : ℕ) → r ≡ record { x0 = 0; y0 = 0; w = w; h = h } → x < w → r.y0 + (y * r.w + x) / r.w ≡ y
-row_is r w h x y e l =
-    subst (λ (s : Region). s.y0 + (y * s.w + x) / s.w ≡ y) (sym e) (let d = div-mul-add y w x l in omega (arith, d))
+pub row_is : (r : Region) (x y : ℕ) → r.y0 ≡ 0 → x < r.w → r.y0 + (y * r.w + x) / r.w ≡ y
+row_is r x y corner l = let d = div-mul-add y r.w x l in omega (arith, d, corner)
+
+-- the place of a pixel is one of its region's
+pub place_within : (x y w h : ℕ) → x < w → y < h → y * w + x < w * h
+place_within x y w h a b =
+    let next : y + 1 ≤ h = omega arith in
+    let same : w ≤ w = omega arith in
+    let rows : (y + 1) * w ≤ h * w = mul-le-mul next same in
+    omega (arith, rows)

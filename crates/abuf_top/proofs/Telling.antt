@@ -17,7 +17,7 @@ use Rattle.abuf_top.specs.declared.stop.Stop.TheVariants as stop
 
 stops-weaker : (line : Result Drawing Refusal) (few more : Type 0) (s : Stop) → (few → more) → StopsAt line few s → StopsAt line more s
 stops-weaker line few more (stop.Refused r) f h = h
-stops-weaker line few more (stop.PoolFull fragments nodes) f h = h
+stops-weaker line few more (stop.PoolFull pool) f h = h
 stops-weaker line few more stop.ReadFault f h = f h
 stops-weaker line few more stop.WriteFault f h = h
 stops-weaker line few more stop.Memory f h = h

@@ -1,13 +1,15 @@
 -- What a job draws, from its primitives alone, sample by sample.
-use Rattle.std.specs.Prelude.{◌+◌, ◌*◌, ℕ, List, length, map}
+use Rattle.std.specs.Prelude.{◌+◌, ◌*◌, Bool, true, false, ℕ, List, length, map, Option, Some, None}
 use Rattle.abuf_num.specs.declared.plain.Paint.{Paint}
+use Rattle.abuf_num.specs.declared.plain.PixelSum.{PixelSum}
 use Rattle.abuf_raster.specs.declared.region.Region.{Region}
 use Rattle.abuf_raster.specs.Samples.{offsets_of}
 use Rattle.abuf_raster.specs.Triangle.{Triangle}
-use Rattle.abuf_raster.specs.Hits.{all_fragments}
+use Rattle.abuf_raster.specs.Region.{whole_image}
 use Rattle.abuf_view.specs.Primitives.{Primitive}
 use Rattle.abuf_resolve.specs.Sums.{region_sums}
 use Rattle.abuf_pam.specs.Image as pam
+use Rattle.abuf_picture.specs.Picture as picture
 use Rattle.abuf_cli.specs.declared.job.Job.{Job}
 
 -- What is drawn: the job, and the primitives of its scene in order, as their triangles on the screen and their paints. The
@@ -24,23 +26,35 @@ drawing_of job primitives = record {
   paints = map (λ p. p.paint) primitives;
 }
 
--- All pixels of the image.
-abbrev pub whole_image : Job → Region
-whole_image job = record { x0 = 0; y0 = 0; w = job.camera.width; h = job.camera.height }
+-- All pixels of a job's image.
+abbrev pub region_of : Job → Region
+region_of job = whole_image job.camera.width job.camera.height
 
 -- The fragments of all primitives in the whole image: each the place of its pixel and its packed word.
 abbrev pub fragments : Drawing → List (ℕ × ℕ)
-fragments d = all_fragments d.triangles 0 (offsets_of d.job.pattern) (whole_image d.job)
+fragments d = picture.fragments d.triangles d.job.pattern (region_of d.job)
 
 -- How many they are.
 abbrev pub total : Drawing → ℕ
-total d = length (fragments d)
+total d = picture.total d.triangles d.job.pattern (region_of d.job)
+
+-- All fragments are in one frame at once: the image is neither peeled nor drawn band by band.
+abbrev pub is_whole : Bool → Option ℕ → Bool
+is_whole true bands = false
+is_whole false (Some bands) = false
+is_whole false None = true
+
+abbrev pub has_one_frame : Job → Bool
+has_one_frame job = is_whole job.peel job.bands
+
+-- The sums over the samples of each pixel, from the primitives alone.
+abbrev pub sums : Drawing → List PixelSum
+sums d = region_sums (offsets_of d.job.pattern) d.job.background d.triangles d.paints (region_of d.job)
 
 -- The image: for each pixel and channel the mean over the samples of the pattern, each sample's colour by the primitives
 -- that cover it.
 unfoldable pub image : Drawing → List ℕ
-image d = pam.image d.job.camera.width d.job.camera.height d.job.maxval (length (offsets_of d.job.pattern))
-    (region_sums (offsets_of d.job.pattern) d.job.background d.triangles d.paints (whole_image d.job))
+image d = pam.image d.job.camera.width d.job.camera.height d.job.maxval (length (offsets_of d.job.pattern)) (sums d)
 
 -- How many bytes an image has: its header, and the values of its pixels.
 abbrev pub size_of : Job → ℕ

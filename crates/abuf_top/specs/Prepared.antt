@@ -20,7 +20,7 @@ drawing_by job shown = record { job = job; triangles = shown.tris; paints = show
 -- By the first refusal, by a fault of reading, which comes only where a count rose, or by want of memory.
 abbrev pub StopsAt : Result Drawing Refusal → Type 0 → Stop → Type 0
 StopsAt line rose (stop.Refused r) = line ≡ Err r
-StopsAt line rose (stop.PoolFull fragments nodes) = ⊥
+StopsAt line rose (stop.PoolFull pool) = ⊥
 StopsAt line rose stop.ReadFault = rose
 StopsAt line rose stop.WriteFault = ⊥
 StopsAt line rose stop.Memory = Unit {0}
@@ -29,6 +29,6 @@ abbrev pub Prepares : Result Drawing Refusal → Type 0 → Job → Result Proje
 Prepares line rose job (Ok shown) = line ≡ Ok (drawing_by job shown)
 Prepares line rose job (Err stop) = StopsAt line rose stop
 
-abbrev pub PreparesJob : Result Drawing Refusal → Type 0 → Result (Job × Projected) Stop → Type 0
-PreparesJob line rose (Ok p) = line ≡ Ok (drawing_by p.0 p.1)
+abbrev pub PreparesJob : Result Drawing Refusal → Type 0 → Result Drawing Stop → Type 0
+PreparesJob line rose (Ok d) = line ≡ Ok d
 PreparesJob line rose (Err stop) = StopsAt line rose stop

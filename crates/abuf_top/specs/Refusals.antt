@@ -7,12 +7,14 @@ use Rattle.abuf_obj.specs.declared.fault.Why.{Why}
 use Rattle.abuf_obj.specs.declared.fault.Why.TheVariants as obj
 use Rattle.abuf_mtl.specs.declared.fault.MtlWhy.{MtlWhy}
 use Rattle.abuf_mtl.specs.declared.fault.MtlWhy.TheVariants as mtl
+use Rattle.abuf_top.specs.declared.stop.FullPool.{FullPool}
+use Rattle.abuf_top.specs.declared.stop.FullPool.TheVariants as full
 use Rattle.abuf_top.specs.declared.stop.Refusal.{Refusal}
 use Rattle.abuf_top.specs.declared.stop.Refusal.TheVariants as refusal
 use Rattle.abuf_top.specs.declared.stop.Stop.{Stop}
 use Rattle.abuf_top.specs.declared.stop.Stop.TheVariants as stop
 
--- The name of an option in messages: what the user writes behind `--`, and for the value of `pick` and of `demo` a name of
+-- The name of an option in messages: what the user writes after `--`, and for the value of `pick` and of `demo` a name of
 -- its own.
 abbrev pub option_text : Opt → List ℕ
 option_text opt.Size = codes "size"
@@ -25,6 +27,7 @@ option_text opt.Focal = codes "focal"
 option_text opt.Near = codes "near"
 option_text opt.Background = codes "background"
 option_text opt.Maxval = codes "maxval"
+option_text opt.Bands = codes "bands"
 option_text opt.At = codes "at"
 option_text opt.Number = codes "number"
 
@@ -73,20 +76,22 @@ refusal_text (refusal.LibraryMissing k) = codes "library " ++ decimal k ++ codes
 refusal_text (refusal.LibraryTooLong k) = codes "library " ++ decimal k ++ codes " too long"
 refusal_text (refusal.LibraryLine k line why) = codes "library " ++ decimal k ++ codes " line " ++ decimal line ++ codes ": " ++ library_cause why
 
--- A full pool, with the number of the scene's fragments and that of the nodes.
-abbrev pub pool_text : ℕ → ℕ → List ℕ
-pool_text fragments nodes = codes "pool full: " ++ decimal fragments ++ codes " fragments, " ++ decimal nodes ++ codes " nodes"
+-- A full pool: that of the whole image, or that of a band, counted from 1.
+abbrev pub full_text : FullPool → List ℕ
+full_text (full.Image fragments nodes) = codes "pool full: " ++ decimal fragments ++ codes " fragments, " ++ decimal nodes ++ codes " nodes"
+full_text (full.Band band fragments nodes) =
+    codes "band " ++ decimal band ++ codes " full: " ++ decimal fragments ++ codes " fragments, " ++ decimal nodes ++ codes " nodes"
 
 abbrev pub stop_status : Stop → ℕ
 stop_status (stop.Refused r) = refusal_status r
-stop_status (stop.PoolFull fragments nodes) = 5
+stop_status (stop.PoolFull pool) = 5
 stop_status stop.ReadFault = 6
 stop_status stop.WriteFault = 7
 stop_status stop.Memory = 8
 
 abbrev pub stop_text : Stop → List ℕ
 stop_text (stop.Refused r) = refusal_text r
-stop_text (stop.PoolFull fragments nodes) = pool_text fragments nodes
+stop_text (stop.PoolFull pool) = full_text pool
 stop_text stop.ReadFault = codes "read fault"
 stop_text stop.WriteFault = codes "write fault"
 stop_text stop.Memory = codes "no memory"

@@ -34,7 +34,9 @@ abbrev pub samples_text : List (ℤ × ℤ) → List Triangle → ℕ → ℕ �
 samples_text offsets triangles x y n = flat_map (line_of offsets triangles x y) (range_with_len 0 n)
 
 -- The fragments of pixel (x, y) by ascending number of their primitives, and then the samples.
+abbrev pub pixel_report : List (ℤ × ℤ) → List Triangle → ℕ → ℕ → List ℕ
+pixel_report offsets triangles x y =
+    fragments_text (pixel_fragments offsets triangles x y) ++ samples_text offsets triangles x y (length offsets)
+
 unfoldable pub report : Drawing → ℕ → ℕ → List ℕ
-report d x y =
-    fragments_text (pixel_fragments (offsets_of d.job.pattern) d.triangles x y)
-    ++ samples_text (offsets_of d.job.pattern) d.triangles x y (length (offsets_of d.job.pattern))
+report d x y = pixel_report (offsets_of d.job.pattern) d.triangles x y

@@ -1,21 +1,14 @@
 -- What `demo` writes: four numbers of a drawing.
-use Rattle.std.specs.Prelude.{◌++◌, ◌*◌, ◌/◌, ◌%◌, ℕ, List, length, map, drop, sum, codes}
+use Rattle.std.specs.Prelude.{◌++◌, ℕ, List, length, drop, sum, codes}
 use Rattle.std.specs.Fmt.{decimal}
-use Rattle.std.specs.List.{range_with_len}
-use Rattle.abuf_raster.specs.Samples.{offsets_of}
-use Rattle.abuf_resolve.specs.Pixel.{present}
-use Rattle.abuf_resolve.specs.Shares.{greatest}
 use Rattle.abuf_cli.specs.declared.job.Job.{Job}
 use Rattle.abuf_pam.specs.Image as pam
-use Rattle.abuf_top.specs.Image.{Drawing, total, image}
+use Rattle.abuf_picture.specs.Picture as picture
+use Rattle.abuf_top.specs.Image.{Drawing, total, image, region_of}
 
--- How many primitives have a fragment in the pixel at this place.
-abbrev pub count_at : Drawing → ℕ → ℕ
-count_at d place = length (present (offsets_of d.job.pattern) d.triangles (place % d.job.camera.width) (place / d.job.camera.width))
-
--- The length of the longest list of a pixel.
+-- The length of the longest list of a pixel: the greatest number of primitives that have a fragment in one.
 unfoldable pub longest : Drawing → ℕ
-longest d = greatest (map (count_at d) (range_with_len 0 (d.job.camera.width * d.job.camera.height)))
+longest d = picture.longest d.triangles d.job.pattern (region_of d.job)
 
 -- The bytes of a job's image behind its header.
 abbrev pub values_in : Job → List ℕ → List ℕ

@@ -1,11 +1,12 @@
 -- What a run has to answer: the first refusal in the stated order, or the bytes to be written. It is none exactly where
 -- this hangs on something that isn't told: what the source has left, or what the shelf holds.
-use Rattle.std.specs.Prelude.{ℕ, nat_lt, List, [], ◌∷◌, length, Option, Some, None, option_map, option_and_then, Result, Ok, Err, if◌then◌else◌}
+use Rattle.std.specs.Prelude.{◌+◌, Bool, true, false, ℕ, nat_lt, List, [], ◌∷◌, length, Option, Some, None, option_map, option_and_then, Result, Ok, Err, if◌then◌else◌}
 use Rattle.abuf_obj.specs.Scene.{points, faces, names, libraries, obj_fault}
 use Rattle.abuf_obj.specs.declared.fault.Why.{Why}
 use Rattle.abuf_obj.specs.declared.scene.Obj.{Obj}
 use Rattle.abuf_scene.specs.Triangles.{triangles, unknown}
 use Rattle.abuf_view.specs.Primitives.{prims}
+use Rattle.abuf_band.specs.Bands.{band_total, first_full}
 use Rattle.abuf_cli.specs.Jobs.{job}
 use Rattle.abuf_cli.specs.declared.job.Job.{Job}
 use Rattle.abuf_cli.specs.declared.job.WordFault.{WordFault}
@@ -14,7 +15,9 @@ use Rattle.abuf_top.specs.Libraries.{Held, first_refusal, contents}
 use Rattle.abuf_top.specs.Demonstration.{scene_for, shelf_of}
 use Rattle.abuf_top.specs.Image.{Drawing, drawing_of, total}
 use Rattle.abuf_top.specs.Output.{output}
-use Rattle.abuf_top.specs.Refusals.{refusal_status, refusal_text, pool_text}
+use Rattle.abuf_top.specs.Refusals.{refusal_status, refusal_text, full_text}
+use Rattle.abuf_top.specs.declared.stop.FullPool.{FullPool}
+use Rattle.abuf_top.specs.declared.stop.FullPool.TheVariants as full
 use Rattle.abuf_top.specs.declared.stop.Refusal.{Refusal}
 use Rattle.abuf_top.specs.declared.stop.Refusal.TheVariants.{Words, Value, SceneTooLong, SceneLine, UnknownMaterial}
 
@@ -74,9 +77,31 @@ words_line (Ok job) scene shelf = option_and_then (scene_line job (shelf_of job.
 unfoldable pub drawing : List (List ℕ) → Option (List ℕ) → Option Held → Option (Result Drawing Refusal)
 drawing words scene shelf = words_line (job words) scene shelf
 
--- The pool, and then the output.
+-- Where the pool of a whole image has fewer nodes than there are fragments, it is full.
+abbrev pub whole_pool : Drawing → Option FullPool
+whole_pool d = if nat_lt d.job.nodes (total d) then Some (full.Image (total d) d.job.nodes) else None
+
+-- The bands of an image are drawn one after another through one pool, so the first that has more fragments is refused.
+-- Messages count bands from 1.
+abbrev pub band_pool : Drawing → ℕ → Option ℕ → Option FullPool
+band_pool d bands (Some k) =
+    Some (full.Band (k + 1) (band_total d.triangles d.job.pattern d.job.camera.width d.job.camera.height bands k) d.job.nodes)
+band_pool d bands None = None
+
+-- The first pool that is full, by how the fragments are stored: an image that is peeled has none.
+abbrev pub full_pool : Drawing → Bool → Option ℕ → Option FullPool
+full_pool d true bands = None
+full_pool d false (Some bands) =
+    band_pool d bands (first_full d.triangles d.job.pattern d.job.camera.width d.job.camera.height bands d.job.nodes)
+full_pool d false None = whole_pool d
+
+-- The full pool, or else the output.
+abbrev pub or_output : Drawing → Option FullPool → Verdict
+or_output d (Some pool) = Refuse 5 (full_text pool)
+or_output d None = Write (output d)
+
 abbrev pub pool_line : Drawing → Verdict
-pool_line d = if nat_lt d.job.nodes (total d) then Refuse 5 (pool_text (total d) d.job.nodes) else Write (output d)
+pool_line d = or_output d (full_pool d d.job.peel d.job.bands)
 
 abbrev pub last_line : Result Drawing Refusal → Verdict
 last_line (Err refusal) = Refuse (refusal_status refusal) (refusal_text refusal)

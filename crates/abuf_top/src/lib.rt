@@ -14,10 +14,12 @@ mod image;
 mod libraries;
 mod output;
 mod prepare;
+mod render;
 mod report;
 mod stop;
 mod summary;
 mod top;
+mod whole;
 
-pub use stop::{Refusal, Stop};
+pub use stop::{FullPool, Refusal, Stop};
 pub use top::{Ran, run, run_with};

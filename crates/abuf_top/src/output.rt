@@ -1,20 +1,19 @@
 // What is written, by the command.
-ghost use Rattle.std.specs.Prelude.{◌≡◌, ◌≤◌, length, MatchResult};
-ghost use Rattle.abuf_cli.specs.Sound.{IsJob};
+ghost use Rattle.std.specs.Prelude.{◌≡◌, ◌<◌, None, false};
 ghost use Rattle.abuf_cli.specs.declared.job.What.TheVariants as what;
-ghost use Rattle.abuf_top.specs.Prepared.{drawing_by};
-ghost use Rattle.abuf_top.specs.Drawn.{IsWholeFrameOf, IsOutputOf};
+ghost use Rattle.abuf_top.specs.Drawn.{IsOutputOf};
 
-use crate::drawing::{Sight, draw_and_look, draw_frame};
-use crate::image::image_of;
+use crate::drawing::Drawing;
+use crate::render::render;
 use crate::report::report_of;
-use crate::stop::Stop;
+use crate::stop::{FullPool, Stop};
 use crate::summary::summary_of;
-use abuf_cli::{Job, What};
+use crate::whole::draw_whole;
+use abuf_cli::What;
 use abuf_fan::Gate;
 use abuf_frame::Closed;
 use abuf_num::{List, NoMemory};
-use abuf_view::Projected;
+use abuf_picture::{Sight, draw_and_look};
 use std::alloc::Global;
 use std::thread::Threads;
 
@@ -22,15 +21,15 @@ use std::thread::Threads;
 #[derive(Drop)]
 pub struct Output {
     pub bytes: Result<List<u8>, Stop>,
-    /// The frame into which the scene was drawn; none where memory ran out.
+    /// The frame into which the scene was drawn; none where memory ran out, or where the image has more frames than one, or none.
     pub closed: Option<Closed>,
 }
 
 impl Output {
-    ghost use Rattle.std.specs.Prelude.{◌≡◌, Err, None, Some, Ok, MatchResult};
+    ghost use Rattle.std.specs.Prelude.{◌≡◌, Err, None, Ok, MatchResult};
     ghost use Rattle.abuf_top.specs.declared.stop.Stop.TheVariants as stop;
 
-    fn out_of_memory() -> Output
+    pub fn out_of_memory() -> Output
         ensures bytes { result.bytes ≡ Err stop.Memory }
         ensures closed { result.closed ≡ None }
     {
@@ -40,72 +39,28 @@ impl Output {
         }
     }
 
-    // There are more fragments than nodes.
-    fn full(fragments: u64, nodes: u32, closed: Closed) -> Output
-        ensures bytes { result.bytes ≡ Err (stop.PoolFull fragments nodes) }
-        ensures closed { result.closed ≡ Some closed }
+    /// There are more fragments than nodes.
+    pub fn full(pool: FullPool, closed: Option<Closed>) -> Output
+        ensures bytes { result.bytes ≡ Err (stop.PoolFull pool) }
+        ensures closed { result.closed ≡ closed }
     {
         Output {
-            bytes: Err(Stop::PoolFull(fragments, nodes)),
-            closed: Some(closed),
+            bytes: Err(Stop::PoolFull(pool)),
+            closed,
         }
     }
 
-    // What is written of a frame, where memory was enough.
-    fn of(bytes: Result<List<u8>, NoMemory>, closed: Closed) -> Output
-        ensures bytes { MatchResult bytes (λ b. (result.bytes ≡ Ok b) × (result.closed ≡ Some closed)) (λ _. (result.bytes ≡ Err stop.Memory) × (result.closed ≡ None)) }
+    /// What is written, where memory was enough, and the frame.
+    pub fn of(bytes: Result<List<u8>, NoMemory>, closed: Option<Closed>) -> Output
+        ensures bytes { MatchResult bytes (λ b. (result.bytes ≡ Ok b) × (result.closed ≡ closed)) (λ _. (result.bytes ≡ Err stop.Memory) × (result.closed ≡ None)) }
     {
         match bytes {
             Ok(bytes) => Output {
                 bytes: Ok(bytes),
-                closed: Some(closed),
+                closed,
             },
             Err(_) => Output::out_of_memory(),
         }
-    }
-}
-
-// The closed frame of a drawing whose fragments all have nodes, or how it stops.
-fn draw_whole<R: Threads + Sync, G: Gate + Sync>(
-    rt: &R,
-    alloc: Global,
-    job: &Job,
-    shown: &Projected,
-    gate: &G,
-) -> Result<Closed, Output>
-    requires job { IsJob job.now }
-    requires few { length shown.now.tris ≤ 2097152 }
-    ensures { MatchResult result (IsWholeFrameOf (drawing_by job.now shown.now)) (λ early. IsOutputOf (drawing_by job.now shown.now) early.bytes early.closed) }
-{
-    let Ok(closed) = draw_frame(rt, alloc, job, shown, gate) else {
-        return Err(Output::out_of_memory());
-    };
-    match closed.full() {
-        Some(full) => Err(Output::full(full.fragments, full.nodes, closed)),
-        None => Ok(closed),
-    }
-}
-
-// The image.
-fn render<R: Threads + Sync, G: Gate + Sync>(
-    rt: &R,
-    alloc: Global,
-    job: &Job,
-    shown: &Projected,
-    gate: &G,
-) -> Output
-    requires job { IsJob job.now }
-    requires what { job.now.what ≡ what.Render }
-    requires few { length shown.now.tris ≤ 2097152 }
-    requires one_length { length shown.now.tris ≡ length shown.now.paints }
-    ensures { IsOutputOf (drawing_by job.now shown.now) result.bytes result.closed }
-{
-    match draw_whole(rt, alloc, job, shown, gate) {
-        Ok(closed) => {
-            let image = image_of(rt, alloc, job, shown, &closed);
-            Output::of(image, closed)
-        }
-        Err(early) => early,
     }
 }
 
@@ -113,72 +68,69 @@ fn render<R: Threads + Sync, G: Gate + Sync>(
 fn pick<R: Threads + Sync, G: Gate + Sync>(
     rt: &R,
     alloc: Global,
-    job: &Job,
-    shown: &Projected,
+    drawing: &Drawing,
     x: u32,
     y: u32,
     gate: &G,
 ) -> Output
-    requires job { IsJob job.now }
-    requires what { job.now.what ≡ what.Pick x y }
-    requires few { length shown.now.tris ≤ 2097152 }
-    ensures { IsOutputOf (drawing_by job.now shown.now) result.bytes result.closed }
+    requires what { drawing.now.job.what ≡ what.Pick x y }
+    requires pixel { (x < drawing.now.job.camera.width) × (y < drawing.now.job.camera.height) }
+    requires not_banded { drawing.now.job.bands ≡ None }
+    requires not_peeled { drawing.now.job.peel ≡ false }
+    ensures { IsOutputOf drawing.now result.bytes result.closed }
 {
-    let Ok(sight) = draw_and_look(rt, alloc, job, shown, x, y, gate) else {
+    let place = y * drawing.job().camera.width() + x;
+    let target = drawing.target();
+    let Ok(sight) = draw_and_look(rt, alloc, &drawing.primitives(), target, place, gate) else {
         return Output::out_of_memory();
     };
     let Sight {
-        entries,
+        entries: fragments,
         words,
         closed,
     } = sight;
-    if entries > u64::from(job.nodes) {
-        return Output::full(entries, job.nodes, closed);
+    let nodes = drawing.job().nodes;
+    if fragments > u64::from(nodes) {
+        return Output::full(FullPool::Image { fragments, nodes }, Some(closed));
     }
-    let report = report_of(alloc, job, shown, x, y, words);
-    Output::of(report, closed)
+    let report = report_of(alloc, drawing, x, y, words);
+    Output::of(report, Some(closed))
 }
 
 // The summary of the demonstration scene.
 fn summarize<R: Threads + Sync, G: Gate + Sync>(
     rt: &R,
     alloc: Global,
-    job: &Job,
-    shown: &Projected,
+    drawing: &Drawing,
     number: u32,
     gate: &G,
 ) -> Output
-    requires job { IsJob job.now }
-    requires what { job.now.what ≡ what.Demo number }
-    requires few { length shown.now.tris ≤ 2097152 }
-    requires one_length { length shown.now.tris ≡ length shown.now.paints }
-    ensures { IsOutputOf (drawing_by job.now shown.now) result.bytes result.closed }
+    requires what { drawing.now.job.what ≡ what.Demo number }
+    requires not_banded { drawing.now.job.bands ≡ None }
+    requires not_peeled { drawing.now.job.peel ≡ false }
+    ensures { IsOutputOf drawing.now result.bytes result.closed }
 {
-    match draw_whole(rt, alloc, job, shown, gate) {
+    match draw_whole(rt, alloc, drawing, gate) {
         Ok(closed) => {
-            let summary = summary_of(rt, alloc, job, shown, &closed);
-            Output::of(summary, closed)
+            let summary = summary_of(rt, alloc, drawing, &closed);
+            Output::of(summary, Some(closed))
         }
         Err(early) => early,
     }
 }
 
-/// Draws the primitives into a frame, closes it, and makes the output of the job's command, unless the pool is full.
+/// Draws the primitives, and makes the output of the job's command, unless a pool is full.
 pub fn output_of<R: Threads + Sync, G: Gate + Sync>(
     rt: &R,
     alloc: Global,
-    job: &Job,
-    shown: &Projected,
+    drawing: &Drawing,
     gate: &G,
 ) -> Output
-    requires job { IsJob job.now }
-    requires few { length shown.now.tris ≤ 2097152 }
-    requires one_length { length shown.now.tris ≡ length shown.now.paints }
-    ensures { IsOutputOf (drawing_by job.now shown.now) result.bytes result.closed }
+    ensures { IsOutputOf drawing.now result.bytes result.closed }
 {
-    match job.what {
-        What::Render => render(rt, alloc, job, shown, gate),
-        What::Pick { x, y } => pick(rt, alloc, job, shown, x, y, gate),
-        What::Demo { number } => summarize(rt, alloc, job, shown, number, gate),
+    match drawing.job().what {
+        What::Render => render(rt, alloc, drawing, gate),
+        What::Pick { x, y } => pick(rt, alloc, drawing, x, y, gate),
+        What::Demo { number } => summarize(rt, alloc, drawing, number, gate),
     }
 }

@@ -1,5 +1,5 @@
 // The work before the drawing: the words, the scene, the libraries, the materials, and the view.
-ghost use Rattle.std.specs.Prelude.{◌≡◌, ◌⊎◌, ◌≤◌, ◌+◌, [], List as Items, ℕ, length, map, true, All, IfOk, IfErr, IsErr, OnOk, IfSome, None, Some, option_and_then};
+ghost use Rattle.std.specs.Prelude.{◌≡◌, ◌⊎◌, ◌≤◌, ◌+◌, [], List as Items, ℕ, length, map, true, All, IfOk, IfErr, IsErr, OnOk, IfSome, None, Some, Ok, option_and_then};
 ghost use Rattle.std.specs.String.{string_bytes};
 ghost use Rattle.abuf_io.specs.Causes.{Rose};
 ghost use Rattle.abuf_obj.specs.Sound.{IsScene};
@@ -16,6 +16,7 @@ ghost use Rattle.abuf_top.specs.Verdict.{material_line, library_line, fault_line
 ghost use Rattle.abuf_top.specs.Prepared.{Prepares, PreparesJob, told_by};
 
 use crate::demonstration::demonstrate;
+use crate::drawing::Drawing;
 use crate::libraries::{MOST_BYTES, read_libraries};
 use crate::stop::{Refusal, Stop};
 use abuf_cli::{Job, What, WordFault, read_words};
@@ -206,16 +207,14 @@ pub fn prepare<S: Source, H: Shelf>(
     words: &[String],
     scene: &mut S,
     shelf: &mut H,
-) -> Result<(Job, Projected), Stop>
+) -> Result<Drawing, Stop>
     ensures told { IfSome (drawing (map string_bytes words.now) (S.left scene.old) (told_by (H.tells shelf.old) (H.holds shelf.old))) (λ line. PreparesJob line (Rose (S.faults scene.old) (S.faults scene.new) ⊎ Rose (H.faults shelf.old) (H.faults shelf.new)) result) }
     ensures cause { IfErr result (HasReadCause (Rose (S.faults scene.old) (S.faults scene.new) ⊎ Rose (H.faults shelf.old) (H.faults shelf.new))) }
     ensures calls { IfSome (fetches (map string_bytes words.now) (S.left scene.old) (told_by (H.tells shelf.old) (H.holds shelf.old))) (CallsAtMost (H.calls shelf.old) (H.calls shelf.new) (H.faults shelf.old) (H.faults shelf.new)) }
     ensures source { NeedsNoSource (job (map string_bytes words.now)) → (S.left scene.new ≡ S.left scene.old) × (S.faults scene.new ≡ S.faults scene.old) }
-    ensures job { IfOk result (λ p. IsJob p.0) }
-    ensures one_length { IfOk result (λ p. length p.1.tris ≡ length p.1.paints) }
-    ensures few { IfOk result (λ p. length p.1.tris ≤ 2097152) }
+    ensures words { IfOk result (λ d. job (map string_bytes words.now) ≡ Ok d.job) }
 {
     let job = read_words(alloc, words)?;
     let shown = primitives_of(alloc, &job, scene, shelf)?;
-    Ok((job, shown))
+    Ok(Drawing::new(job, shown))
 }

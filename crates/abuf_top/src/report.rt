@@ -1,22 +1,20 @@
 // The report of one pixel's fragments.
 ghost use Rattle.std.specs.Prelude.{◌≡◌, ℕ, ◌≤◌, ◌<◌, ◌+◌, ◌*◌, ◌^◌, ◌++◌, length, map, flat_map, All, IfOk, OnOk};
 ghost use Rattle.std.specs.String.{string_bytes};
+ghost use Rattle.abuf_raster.specs.Hits.{all_fragments};
 ghost use Rattle.abuf_raster.specs.Packing.{unpacked};
+ghost use Rattle.abuf_raster.specs.Region.{IsRegion};
 ghost use Rattle.abuf_raster.specs.Samples.{offsets_of};
 ghost use Rattle.abuf_resolve.specs.Laws.{TellLayers};
 ghost use Rattle.abuf_resolve.specs.Words.{layer_of, AreWordsAt, IsFragmentAt};
-ghost use Rattle.abuf_cli.specs.Sound.{IsJob};
 ghost use Rattle.abuf_top.specs.Image.{fragments};
-ghost use Rattle.abuf_top.specs.Prepared.{drawing_by};
-ghost use Rattle.abuf_top.specs.Report.{fragment_line, fragments_text, layer_text, sample_line, line_of, samples_text, report};
+ghost use Rattle.abuf_top.specs.Report.{fragment_line, fragments_text, layer_text, sample_line, line_of, samples_text, pixel_report, report};
 
-use crate::drawing::whole_image;
-use abuf_cli::Job;
+use crate::drawing::Drawing;
 use abuf_num::{List, NoMemory};
-use abuf_raster::{Fragment, Pattern, ScreenTri, unpack};
+use abuf_raster::{Fragment, Pattern, Region, ScreenTri, unpack};
 use abuf_resolve::laws::{order_law, pixel_law};
 use abuf_resolve::{Pixel, Planes};
-use abuf_view::Projected;
 use std::alloc::{AllocError, Global};
 
 // One fragment's line.
@@ -137,39 +135,49 @@ fn pixel_text(
     pixel.text(alloc)
 }
 
-/// The report of pixel (x, y), from the words of its fragments in any order.
+// The report of a pixel of an image, from the words of its fragments in any order.
+fn pixel_report(
+    alloc: Global,
+    triangles: &[ScreenTri],
+    pattern: Pattern,
+    region: Region,
+    at: Pixel,
+    words: Vec<u64>,
+) -> Result<List<u8>, NoMemory>
+    requires few { length triangles.now ≤ 2097152 }
+    requires region { IsRegion region }
+    requires corner { (region.x0 ≡ 0) × (region.y0 ≡ 0) }
+    requires pixel { (at.x < region.w) × (at.y < region.h) }
+    requires words { AreWordsAt (all_fragments triangles.now 0 (offsets_of pattern) region) (at.y * region.w + at.x) words.items }
+    ensures { IfOk result (λ bytes. bytes ≡ pixel_report (offsets_of pattern) triangles.now at.x at.y) }
+{
+    let mut sorted = words;
+    sorted.sort_unstable();
+    order_law(&sorted, &sorted);
+    pixel_law(triangles, pattern, region, at.y * region.w + at.x, &sorted);
+    let text = pixel_text(alloc, triangles, &sorted, at, pattern)?;
+    Ok(List::from_vec(text.into_bytes()))
+}
+
+/// The report of pixel (x, y), from the words of its fragments in any order. An error means that memory ran out.
 #[tactic(auto, unfolding(crate::specs::Report::report))]
 pub fn report_of(
     alloc: Global,
-    job: &Job,
-    shown: &Projected,
+    drawing: &Drawing,
     x: u32,
     y: u32,
     words: Vec<u64>,
 ) -> Result<List<u8>, NoMemory>
-    requires job { IsJob job.now }
-    requires few { length shown.now.tris ≤ 2097152 }
-    requires pixel { (x < job.now.camera.width) × (y < job.now.camera.height) }
-    requires words { AreWordsAt (fragments (drawing_by job.now shown.now)) (y * job.now.camera.width + x) words.items }
-    ensures { IfOk result (λ bytes. bytes ≡ report (drawing_by job.now shown.now) x y) }
+    requires pixel { (x < drawing.now.job.camera.width) × (y < drawing.now.job.camera.height) }
+    requires words { AreWordsAt (fragments drawing.now) (y * drawing.now.job.camera.width + x) words.items }
+    ensures { IfOk result (λ bytes. bytes ≡ report drawing.now x y) }
 {
-    let mut sorted = words;
-    sorted.sort_unstable();
-    let region = whole_image(job);
-    order_law(&sorted, &sorted);
-    pixel_law(
-        shown.tris.as_slice(),
-        job.pattern,
-        region,
-        y * region.w + x,
-        &sorted,
-    );
-    let text = pixel_text(
+    pixel_report(
         alloc,
-        shown.tris.as_slice(),
-        &sorted,
+        drawing.shown().tris.as_slice(),
+        drawing.job().pattern,
+        drawing.region(),
         Pixel { x, y },
-        job.pattern,
-    )?;
-    Ok(List::from_vec(text.into_bytes()))
+        words,
+    )
 }

@@ -2,7 +2,8 @@
 ghost use Rattle.std.specs.Prelude.{◌≡◌, ◌++◌, ◌∷◌, [], IfOk, codes};
 ghost use Rattle.std.specs.String.{string_bytes};
 ghost use Rattle.std.specs.Fmt.{decimal};
-ghost use Rattle.abuf_top.specs.Refusals.{option_text, scene_cause, library_cause, line_text, refusal_status, refusal_text, pool_text};
+ghost use Rattle.abuf_top.specs.declared.stop.FullPool.TheVariants as full;
+ghost use Rattle.abuf_top.specs.Refusals.{option_text, scene_cause, library_cause, line_text, refusal_status, refusal_text, full_text};
 
 use abuf_cli::Opt;
 use abuf_mtl::MtlWhy;
@@ -30,18 +31,34 @@ pub enum Refusal {
     LibraryLine(usize, u32, MtlWhy),
 }
 
+/// A pool with fewer nodes than there are fragments.
+#[derive(Clone, Copy, Debug, PartialEq, Eq)]
+pub enum FullPool {
+    /// That of the whole image: how many fragments the scene has, and how many nodes the pool.
+    Image {
+        fragments: u64,
+        nodes: u32,
+    },
+    /// That of a band, counted from 1: how many fragments are in the band.
+    Band {
+        band: u32,
+        fragments: u64,
+        nodes: u32,
+    },
+}
+
 /// Why a run stops before its end.
 #[derive(Clone, Copy, Debug, PartialEq, Eq)]
 pub enum Stop {
     /// By the words, the scene or a library.
     Refused(Refusal),
-    /// The number of the scene's fragments, and of the pool's nodes, which are fewer.
-    PoolFull(u64, u32),
+    /// By a pool that has fewer nodes than there are fragments.
+    PoolFull(FullPool),
     /// The source or the shelf failed.
     ReadFault,
     /// The output failed before all of it was written.
     WriteFault,
-    /// Want of memory; it may come at any time before the output is written.
+    /// Memory ran out; this may come at any time before the output is written.
     Memory,
 }
 
@@ -59,6 +76,7 @@ fn option_text(option: Opt) -> &'static str
         Opt::Near => "near",
         Opt::Background => "background",
         Opt::Maxval => "maxval",
+        Opt::Bands => "bands",
         Opt::At => "at",
         Opt::Number => "number",
     }
@@ -122,11 +140,32 @@ fn at_library_line(alloc: Global, k: usize, line: u32, cause: &str) -> Result<St
     format!(in alloc; "library {k} line {line}: {cause}\n")
 }
 
-/// The text of a full pool, with its line feed.
-pub fn pool_full(alloc: Global, fragments: u64, nodes: u32) -> Result<String, AllocError>
-    ensures { IfOk result (λ text. string_bytes text ≡ pool_text fragments nodes ++ 10 ∷ []) }
+fn image_full(alloc: Global, fragments: u64, nodes: u32) -> Result<String, AllocError>
+    ensures { IfOk result (λ text. string_bytes text ≡ full_text (full.Image fragments nodes) ++ 10 ∷ []) }
 {
     format!(in alloc; "pool full: {fragments} fragments, {nodes} nodes\n")
+}
+
+fn band_full(alloc: Global, band: u32, fragments: u64, nodes: u32) -> Result<String, AllocError>
+    ensures { IfOk result (λ text. string_bytes text ≡ full_text (full.Band band fragments nodes) ++ 10 ∷ []) }
+{
+    format!(in alloc; "band {band} full: {fragments} fragments, {nodes} nodes\n")
+}
+
+impl FullPool {
+    /// The text, with its line feed. An error means that memory ran out.
+    pub fn line(self, alloc: Global) -> Result<String, AllocError>
+        ensures { IfOk result (λ line. string_bytes line ≡ full_text self ++ 10 ∷ []) }
+    {
+        match self {
+            FullPool::Image { fragments, nodes } => image_full(alloc, fragments, nodes),
+            FullPool::Band {
+                band,
+                fragments,
+                nodes,
+            } => band_full(alloc, band, fragments, nodes),
+        }
+    }
 }
 
 impl Refusal {
@@ -143,7 +182,7 @@ impl Refusal {
         }
     }
 
-    /// The text, with its line feed. The error is want of memory.
+    /// The text, with its line feed. An error means that memory ran out.
     pub fn line(self, alloc: Global) -> Result<String, AllocError>
         ensures { IfOk result (λ line. string_bytes line ≡ refusal_text self ++ 10 ∷ []) }
     {

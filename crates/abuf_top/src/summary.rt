@@ -1,19 +1,15 @@
 // The summary of a drawing, for the demonstration scene.
-ghost use Rattle.std.specs.Prelude.{◌≡◌, ◌≤◌, ◌+◌, ◌*◌, ◌-◌, ◌++◌, length, map, drop, sum, IfOk};
+ghost use Rattle.std.specs.Prelude.{◌≡◌, ◌≤◌, ◌+◌, ◌*◌, ◌-◌, ◌++◌, length, drop, sum, IfOk};
 ghost use Rattle.std.specs.String.{string_bytes};
-ghost use Rattle.abuf_cli.specs.Sound.{IsJob};
 ghost use Rattle.abuf_top.specs.Image.{total, size_of};
-ghost use Rattle.abuf_top.specs.Prepared.{drawing_by};
 ghost use Rattle.abuf_top.specs.Ending.{IsFrameOf};
 ghost use Rattle.abuf_top.specs.Summary.{summary_text, summary, values_in};
 
-use crate::drawing::whole_image;
-use crate::image::{Picture, picture_of};
-use abuf_cli::Job;
+use crate::drawing::Drawing;
+use crate::whole::{Image, image_in};
 use abuf_frame::Closed;
 use abuf_num::{List, NoMemory};
 use abuf_pam::pixel_size;
-use abuf_view::Projected;
 use std::alloc::{AllocError, Global};
 use std::thread::Threads;
 
@@ -29,14 +25,13 @@ fn sum_of(bytes: &[u8]) -> u64
     sum
 }
 
-// The sum of the bytes of an image behind its header.
-fn sum_of_values(job: &Job, bytes: &[u8]) -> u64
-    requires job { IsJob job.now }
-    requires size { length bytes.now ≡ size_of job.now }
-    ensures { result ≡ sum (values_in job.now bytes.now) }
+// The sum of the bytes of an image after its header.
+fn sum_of_values(drawing: &Drawing, bytes: &[u8]) -> u64
+    requires { length bytes.now ≡ size_of drawing.now.job }
+    ensures { result ≡ sum (values_in drawing.now.job bytes.now) }
 {
-    let region = whole_image(job);
-    let size = pixel_size(job.maxval) * (region.w * region.h) as usize;
+    let region = drawing.region();
+    let size = pixel_size(drawing.job().maxval) * (region.w * region.h) as usize;
     sum_of(&bytes[bytes.len() - size..])
 }
 
@@ -54,27 +49,23 @@ fn text_of(
     )
 }
 
-/// The summary of a drawing, from its closed frame.
+/// The summary of a drawing, from its closed frame. An error means that memory ran out.
 #[tactic(auto, unfolding(crate::specs::Summary::summary, crate::specs::Summary::values))]
 pub fn summary_of<R: Threads + Sync>(
     rt: &R,
     alloc: Global,
-    job: &Job,
-    shown: &Projected,
+    drawing: &Drawing,
     closed: &Closed,
 ) -> Result<List<u8>, NoMemory>
-    requires job { IsJob job.now }
-    requires few { length shown.now.tris ≤ 2097152 }
-    requires one_length { length shown.now.tris ≡ length shown.now.paints }
-    requires frame { IsFrameOf (drawing_by job.now shown.now) closed.now }
+    requires frame { IsFrameOf drawing.now closed.now }
     requires not_full { closed.now.fragments ≤ closed.now.nodes }
-    ensures { IfOk result (λ bytes. bytes ≡ summary (drawing_by job.now shown.now)) }
+    ensures { IfOk result (λ bytes. bytes ≡ summary drawing.now) }
 {
-    let Picture { bytes, longest } = picture_of(rt, alloc, job, shown, closed)?;
-    let sum = sum_of_values(job, bytes.as_slice());
+    let Image { bytes, longest } = image_in(rt, alloc, drawing, closed)?;
+    let sum = sum_of_values(drawing, bytes.as_slice());
     let text = text_of(
         alloc,
-        shown.tris.as_slice().len(),
+        drawing.shown().tris.as_slice().len(),
         closed.fragments(),
         longest,
         sum,

@@ -8,11 +8,11 @@ ghost use Rattle.abuf_top.specs.Verdict.{verdict, drawing};
 ghost use Rattle.abuf_top.specs.Fetches.{fetches, CallsAtMost, NeedsNoSource};
 ghost use Rattle.abuf_top.specs.Prepared.{told_by};
 ghost use Rattle.abuf_top.specs.Table.{IsAnswer, IsComplete};
-ghost use Rattle.abuf_top.specs.Ending.{Reports, IsFrameOfLine};
+ghost use Rattle.abuf_top.specs.Ending.{Reports, IsFrameOfLine, HasOneFrame};
 
 use crate::finish::{Ended, finish};
 use crate::prepare::prepare;
-use crate::stop::{Stop, pool_full};
+use crate::stop::Stop;
 use abuf_fan::{Gate, OpenGate};
 use abuf_frame::Closed;
 use abuf_io::{Shelf, Sink, Source, write_all};
@@ -24,7 +24,8 @@ use std::thread::Threads;
 pub struct Ran {
     /// The status of the process, from 0 to 8; 1 never comes.
     pub status: u8,
-    /// The frame into which the scene was drawn, after its closing: with the statuses 0, 5 and 7 alone.
+    /// The frame into which the scene was drawn, after its closing: with the statuses 0, 5 and 7 alone, and not where the image
+    /// is peeled or drawn band by band.
     pub closed: Option<Closed>,
 }
 
@@ -51,7 +52,7 @@ fn report<E: Sink>(alloc: Global, err: &mut E, stop: Stop) -> u8
                 8
             }
         },
-        Stop::PoolFull(fragments, nodes) => match pool_full(alloc, fragments, nodes) {
+        Stop::PoolFull(pool) => match pool.line(alloc) {
             Ok(line) => {
                 say(err, line.as_bytes());
                 5
@@ -124,14 +125,14 @@ pub fn run_with<R: Threads + Sync, S: Source, H: Shelf, O: Sink, E: Sink, G: Gat
     ensures complete { IsComplete (verdict (map string_bytes words.now) (S.left scene.old) (told_by (H.tells shelf.old) (H.holds shelf.old))) result.status
         (Rose (S.faults scene.old) (S.faults scene.new) ⊎ Rose (H.faults shelf.old) (H.faults shelf.new))
         (Rose (O.faults out.old) (O.faults out.new)) }
-    ensures handed { IsSome result.closed ↔ ((result.status ≡ 0) ⊎ ((result.status ≡ 5) ⊎ (result.status ≡ 7))) }
+    ensures handed { IsSome result.closed ↔ (((result.status ≡ 0) ⊎ ((result.status ≡ 5) ⊎ (result.status ≡ 7))) × HasOneFrame (job (map string_bytes words.now))) }
     ensures closed { IfSome result.closed (λ c. IfSome (drawing (map string_bytes words.now) (S.left scene.old) (told_by (H.tells shelf.old) (H.holds shelf.old))) (λ line. IsFrameOfLine line c)) }
     ensures source { NeedsNoSource (job (map string_bytes words.now)) → (S.left scene.new ≡ S.left scene.old) × (S.faults scene.new ≡ S.faults scene.old) }
     ensures calls { IfSome (fetches (map string_bytes words.now) (S.left scene.old) (told_by (H.tells shelf.old) (H.holds shelf.old))) (CallsAtMost (H.calls shelf.old) (H.calls shelf.new) (H.faults shelf.old) (H.faults shelf.new)) }
 {
     match prepare(alloc, words, scene, shelf) {
-        Ok((job, shown)) => {
-            let ended = finish(rt, alloc, &job, &shown, out, gate);
+        Ok(drawing) => {
+            let ended = finish(rt, alloc, &drawing, out, gate);
             conclude(alloc, ended, err)
         }
         Err(stop) => Ran {
@@ -141,11 +142,12 @@ pub fn run_with<R: Threads + Sync, S: Source, H: Shelf, O: Sink, E: Sink, G: Gat
     }
 }
 
-/// Reads the words behind the program's name and the scene, fetches its libraries, draws, and writes the output to `out` by
+/// Reads the words after the program's name and the scene, fetches its libraries, draws, and writes the output to `out` by
 /// one call, or a text to `err` that says why not. `demo` draws a scene of its own, and calls neither `scene` nor `shelf`.
 ///
 /// The status is 0 where all of the output was written; 2 where the words refuse, 3 the scene, 4 a library, 5 where the scene
-/// has more fragments than the pool has nodes; 6 after a fault of reading, 7 after one of writing; 8 after want of memory.
+/// has more fragments than the pool has nodes, or than one has with bands; 6 after a fault of reading, 7 after one of writing;
+/// 8 where memory ran out.
 pub fn run<R: Threads + Sync, S: Source, H: Shelf, O: Sink, E: Sink>(
     rt: &R,
     alloc: Global,
@@ -162,7 +164,7 @@ pub fn run<R: Threads + Sync, S: Source, H: Shelf, O: Sink, E: Sink>(
     ensures complete { IsComplete (verdict (map string_bytes words.now) (S.left scene.old) (told_by (H.tells shelf.old) (H.holds shelf.old))) result.status
         (Rose (S.faults scene.old) (S.faults scene.new) ⊎ Rose (H.faults shelf.old) (H.faults shelf.new))
         (Rose (O.faults out.old) (O.faults out.new)) }
-    ensures handed { IsSome result.closed ↔ ((result.status ≡ 0) ⊎ ((result.status ≡ 5) ⊎ (result.status ≡ 7))) }
+    ensures handed { IsSome result.closed ↔ (((result.status ≡ 0) ⊎ ((result.status ≡ 5) ⊎ (result.status ≡ 7))) × HasOneFrame (job (map string_bytes words.now))) }
     ensures closed { IfSome result.closed (λ c. IfSome (drawing (map string_bytes words.now) (S.left scene.old) (told_by (H.tells shelf.old) (H.holds shelf.old))) (λ line. IsFrameOfLine line c)) }
     ensures source { NeedsNoSource (job (map string_bytes words.now)) → (S.left scene.new ≡ S.left scene.old) × (S.faults scene.new ≡ S.faults scene.old) }
     ensures calls { IfSome (fetches (map string_bytes words.now) (S.left scene.old) (told_by (H.tells shelf.old) (H.holds shelf.old))) (CallsAtMost (H.calls shelf.old) (H.calls shelf.new) (H.faults shelf.old) (H.faults shelf.new)) }

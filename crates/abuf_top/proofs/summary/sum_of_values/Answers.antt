@@ -1,16 +1,17 @@
 use Rattle.std.proofs.Common.{◌≡◌, ◌∙◌, ◌+◌, ◌*◌, List, ℕ, length, sum, ap, ap₂, sym}
 use Rattle.abuf_raster.specs.declared.region.Region.{Region}
+use Rattle.abuf_cli.specs.declared.job.Job.{Job}
 use Rattle.abuf_pam.specs.Image.{header, pixel_size}
 use Rattle.abuf_top.proofs.Behind.{behind}
 use Rattle.abuf_top.proofs.summary.sum_of_values.Goals as goal
 
 pub returns : goal.returns
 returns c =
-    let job = c.args.job.now in
+    let job = c.args.drawing.now.job in
     let bytes : List ℕ = c.args.bytes.now in
     let front : ℕ = length (header job.camera.width job.camera.height job.maxval) in
-    let rest : ℕ = c.pixel_size.result * (c.whole_image-region.result.w * c.whole_image-region.result.h) in
+    let rest : ℕ = c.pixel_size.result * (c.region-region.result.w * c.region-region.result.h) in
     let same : pixel_size job.maxval * (job.camera.width * job.camera.height) ≡ rest =
-    ap₂ (λ (a b : ℕ). a * b) (sym c.pixel_size.ensures) (sym (ap (λ (r : Region). r.w * r.h) c.whole_image-region.ensures.value)) in
-    let size : length bytes ≡ front + rest = c.requires.size ∙ ap (λ (n : ℕ). front + n) same in
+    ap₂ (λ (a b : ℕ). a * b) (sym (c.pixel_size.ensures ∙ ap (λ (j : Job). pixel_size j.maxval) c.job.ensures.value)) (sym (ap (λ (r : Region). r.w * r.h) c.region-region.ensures.value)) in
+    let size : length bytes ≡ front + rest = c.requires ∙ ap (λ (n : ℕ). front + n) same in
     c.sum_of.ensures ∙ ap sum (behind bytes front rest size)

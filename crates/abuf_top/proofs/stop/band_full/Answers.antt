@@ -1,5 +1,5 @@
 use Rattle.std.proofs.Common.{append_assoc, rules}
-use Rattle.abuf_top.proofs.stop.pool_full.Goals as goal
+use Rattle.abuf_top.proofs.stop.band_full.Goals as goal
 
 pub returns : goal.returns
 returns c = search (rules, append_assoc)
