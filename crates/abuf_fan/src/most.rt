@@ -1,5 +1,5 @@
 // How many fragments triangles have at most.
-ghost use Rattle.std.specs.Prelude.{ℕ, ◌+◌, ◌*◌, ◌<◌, ◌≤◌, length};
+ghost use Rattle.std.specs.Prelude.{ℕ, ◌+◌, ◌*◌, ◌<◌, ◌≤◌, IsTrue, ◌↔◌, length};
 ghost use Rattle.abuf_raster.specs.Samples.{offsets_of};
 ghost use Rattle.abuf_raster.specs.Region.{IsRegion};
 ghost use Rattle.abuf_raster.specs.Hits.{all_fragments};
@@ -22,8 +22,20 @@ fn sum_of(tris: &[ScreenTri], region: Region, pattern: Pattern) -> u64
     sum
 }
 
+/// About how many pixels may be asked of one thread: where there are no more, starting another takes longer.
+const LITTLE: u64 = 1 << 22;
+
+/// One thread soon has asked so many triangles about the tiles of the region.
+fn is_little(count: usize, region: Region) -> bool
+    requires region { IsRegion region }
+    requires few { count ≤ 2097152 }
+    ensures { IsTrue result ↔ (count * (region.w * region.h + 64) ≤ 4194304) }
+{
+    count as u64 * u64::from(region.w * region.h + 64) <= LITTLE
+}
+
 /// At least as many as the triangles have fragments in the region, whatever number the first of them has: the sum of what each
-/// has at most, found on 1 to 64 threads. A frame of so many nodes loses none, so one of more would only take memory, and time
+/// has at most, found on 1 to 64 threads, or on one where that is soon done. A frame of so many nodes loses none, so one of more would only take memory, and time
 /// to clear it. The call takes no memory.
 pub fn most_fragments<R: Threads + Sync>(
     rt: &R,
@@ -38,7 +50,7 @@ pub fn most_fragments<R: Threads + Sync>(
     ensures bound { (first : ℕ) → length (all_fragments tris.now first (offsets_of pattern) region) ≤ result }
     ensures small { result ≤ length tris.now * 4194304 }
 {
-    if threads == 1 {
+    if threads == 1 || is_little(tris.len(), region) {
         return sum_of(tris, region, pattern);
     }
     let left = threads / 2;
