@@ -29,7 +29,7 @@ row_down rows w p some =
     let whole : rows * w + p ≡ (rows + p / w) * w + p % w = omega (arith, parts) in
     (ap (λ (k : ℕ). k % w) whole ∙ mod-mul-add (rows + p / w) w (p % w) below, ap (λ (k : ℕ). k / w) whole ∙ div-mul-add (rows + p / w) w (p % w) below)
 
--- The rows of a region from row y on.
+-- The pixels of h rows, from row y on, and of w columns, from column x on.
 abbrev pub region : ℕ → ℕ → ℕ → ℕ → Region
 region x y w h = record { x0 = x; y0 = y; w = w; h = h }
 
@@ -39,7 +39,7 @@ hit_of t n offsets p =
     let m : ℕ = mask t offsets p.0 p.1 in
     if m == 0 then None else Some (record { x = p.0; y = p.1; fragment = record { prim = n; mask = m } })
 
--- A filter over a map is one filter.
+-- A filter of what a map gives filters by both at once.
 filter_map-map : {X Y Z : Type 0} (h : Y → Option Z) (v : X → Y) (xs : List X) → filter_map h (map v xs) ≡ filter_map (λ (a : X). h (v a)) xs
 filter_map-map h v [] = refl
 filter_map-map h v (a ∷ xs) = ap (cons_option (h (v a))) (filter_map-map h v xs)
@@ -76,7 +76,7 @@ module _ (x y w : ℕ) (some : 0 < w) where
       ∙ ap (map pixel) (range_cut 0 (w * upper) (w * rows) ∙ ap (range_with_len 0) all))
 
   -- What a map of the pixels gives of the two regions, it gives of both.
-  pub map_stacked : {X : Type 0} (f : ℕ × ℕ → X) (upper rows : ℕ)
+  map_stacked : {X : Type 0} (f : ℕ × ℕ → X) (upper rows : ℕ)
       → map (λ (place : ℕ). f (x + place % w, y + place / w)) (range_with_len 0 (w * upper))
       ++ map (λ (place : ℕ). f (x + place % w, y + upper + place / w)) (range_with_len 0 (w * rows))
       ≡ map (λ (place : ℕ). f (x + place % w, y + place / w)) (range_with_len 0 (w * (upper + rows)))

@@ -20,6 +20,7 @@ abbrev pub above : ℕ → ℕ → ℕ → ℕ → Region
 above width height bands k = region 0 0 width (first_row height bands k)
 
 module _ (width height bands : ℕ) (size : IsImageSize width height) (some : 1 ≤ bands) (few : bands ≤ height) where
+  -- An image has a column at least.
   wide : 0 < width
   wide = omega (arith, size.width_some)
 
@@ -47,6 +48,7 @@ module _ (width height bands : ℕ) (size : IsImageSize width height) (some : 1 
         ∙ ap sums_of (next k))
 
   module _ (triangles : List Triangle) (pattern : Pattern) where
+    -- What band k and the rows above it have, the rows above the next have.
     total_next : (k : ℕ) → total triangles pattern (above width height bands k) + band_total triangles pattern width height bands k ≡ total triangles pattern (above width height bands (k + 1))
     total_next k =
         ap (λ (r : Region). total triangles pattern (above width height bands k) + total triangles pattern r) (below k)
@@ -59,6 +61,7 @@ module _ (width height bands : ℕ) (size : IsImageSize width height) (some : 1 
         let none : total triangles pattern (region 0 0 width 0) ≡ 0 = omega (arith, fragments_stacked 0 0 width wide triangles 0 (offsets_of pattern) 0 0) in
         ap (λ (h : ℕ). total triangles pattern (region 0 0 width h)) (first_row_zero height bands) ∙ none
 
+    -- The totals of the first k bands add up to that of the rows above band k.
     total_above : (k : ℕ) → sum (map (band_total triangles pattern width height bands) (range_with_len 0 k)) ≡ total triangles pattern (above width height bands k)
     total_above zero = sym total_none
     total_above (suc k) =

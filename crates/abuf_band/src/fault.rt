@@ -5,8 +5,8 @@ use std::alloc::AllocError;
 /// Why no sums are given.
 #[derive(Clone, Copy, Debug, PartialEq, Eq)]
 pub enum BandFault {
-    /// A band has more fragments than the pool has nodes: the first such band, counted from 1, how many fragments it has, and
-    /// the nodes of the pool.
+    /// Some band has more fragments than there are nodes: the first such band, counted from 1, how many fragments it has, and
+    /// the number of nodes that each band has.
     Full {
         band: u32,
         fragments: u64,

@@ -13,7 +13,7 @@ use abuf_view::Projected;
 use std::alloc::Global;
 use std::thread::Threads;
 
-/// The sums of the target's pixels, which are the band of this number.
+/// The sums of the target's pixels, which are the band of this number, counted from 1.
 fn band_sums<R: Threads + Sync>(
     rt: &R,
     alloc: Global,
@@ -35,10 +35,10 @@ fn band_sums<R: Threads + Sync>(
     Ok(resolved.sums)
 }
 
-/// For each pixel of an image of this size, in order, the sums over its samples, drawn in so many bands, which share the rows
-/// evenly: from 1 to as many as there are rows. The pool has room for 1 to 8388608 fragments, which each band has for itself,
-/// and 1 to 64 threads draw and resolve. An image whose fragments have nodes in each band has the same sums for every number
-/// of bands, of nodes and of threads.
+/// For each pixel of an image of this size, in order, the sums over its samples. The image is drawn in bands that share its
+/// rows evenly, from 1 band to as many as there are rows; besides the sums, memory holds the frame of one band at a time. Each
+/// band has nodes for 1 to 8388608 fragments, and 1 to 64 threads draw and resolve it. Where the nodes are enough for each band,
+/// the sums don't depend on the numbers of bands, nodes and threads; else the first band that is full is named.
 pub fn render_bands<R: Threads + Sync>(
     rt: &R,
     alloc: Global,

@@ -1,5 +1,5 @@
 -- What a step finds, and what a sample then takes.
-use Rattle.std.proofs.Common.{◌≡◌, ℕ, zero, suc, ◌+◌, ◌*◌, ◌%◌, ◌^◌, ◌<◌, ◌≤◌, min, ◌⊎◌, inl, inr, Bool, true, false, ◌&&◌, cond, if◌then◌else◌, ltb, eqb, not, List, [], ◌∷◌, ◌++◌, map, length, get_or, ℤ, Option, Some, None, is_some, refl, ap, ap₂, ◌∙◌, sym, subst, true≢false, arith}
+use Rattle.std.proofs.Common.{◌≡◌, ℕ, ◌+◌, ◌^◌, ◌<◌, ◌≤◌, min, ◌⊎◌, inl, inr, Bool, true, false, ◌&&◌, cond, if◌then◌else◌, ltb, List, [], ◌∷◌, ◌++◌, map, length, ℤ, Option, Some, None, is_some, refl, ap, ◌∙◌, sym, subst, true≢false, arith}
 use Rattle.std.specs.List.{filter, range_with_len}
 use Rattle.std.proofs.lemmas.Bool.{lt-ltb, le-ltb, eq-eqb, ne_eqb, cases_lt}
 use Rattle.std.proofs.lemmas.List.{append-nil, map-append, map-id}
@@ -98,11 +98,12 @@ pub finds_known : (count : ℕ) (o : Option ℕ) (best : ℕ) → Finds count o 
 finds_known count None best f = inl f
 finds_known count (Some w) best f = inr (subst (λ (v : ℕ). prim_of v < count) (sym f.0) f.1.known)
 
--- The mark of a sample, and its colour, are those of what is found.
+-- The mark of a sample is that of what is found.
 pub marked_is : (count : ℕ) (o : Option ℕ) (best from : ℕ) → Finds count o best → marked best from ≡ left_from o from
 marked_is count None best from f = rw (eq-eqb best no_word f) refl
 marked_is count (Some w) best from f = rw (ne_eqb best no_word (λ e. omega (arith, f.0, f.1.fits))) (omega (arith, f.0))
 
+-- So is its colour.
 pub painted_is : (count : ℕ) (paints : List Paint) (o : Option ℕ) (best : ℕ) (under : List ℕ) → Finds count o best → painted paints best under ≡ with_word paints o under
 painted_is count paints None best under f = ap (λ (b : Bool). if b then under else laid_over under (paint_of paints best)) (eq-eqb best no_word f)
 painted_is count paints (Some w) best under f =

@@ -1,9 +1,8 @@
 -- Hits, and the samples that they have.
-use Rattle.std.proofs.Common.{◌≡◌, ℕ, zero, suc, ◌+◌, ◌-◌, ◌*◌, ◌/◌, ◌%◌, ◌^◌, ◌<◌, ◌≤◌, ◌⊎◌, inl, inr, Bool, true, false, ◌&&◌, ◌||◌, cond, if◌then◌else◌, eqb, List, [], ◌∷◌, ◌++◌, length, get_or, ℤ, Some, None, IsPermutation, All, refl, ap, ap₂, ◌∙◌, sym, subst, true≢false, arith, mul-le-mul}
+use Rattle.std.proofs.Common.{◌≡◌, ℕ, zero, suc, ◌+◌, ◌-◌, ◌*◌, ◌/◌, ◌%◌, ◌<◌, ◌≤◌, ◌⊎◌, inl, inr, Bool, true, false, ◌&&◌, ◌||◌, if◌then◌else◌, eqb, List, [], ◌∷◌, length, ℤ, Some, None, IsPermutation, All, refl, ap, ap₂, ◌∙◌, sym, arith, mul-le-mul}
 use Rattle.std.specs.List.{filter_map, cons_option, range_with_len, list_any}
-use Rattle.std.specs.Int.{bit_at}
-use Rattle.std.proofs.lemmas.Bool.{eq-eqb, ne_eqb, eqb-true, cases_eq, cases_lt, and_parts}
-use Rattle.std.proofs.lemmas.Nat.{div-add-mod', div-mul-add, mod-mul-add, div_below, le-div, mod_below}
+use Rattle.std.proofs.lemmas.Bool.{eq-eqb, ne_eqb, eqb-true, cases_eq}
+use Rattle.std.proofs.lemmas.Nat.{div-add-mod', div-mul-add, mod-mul-add, div_below, mod_below}
 use Rattle.std.proofs.lemmas.List.Elements.{All-nil, All-cons}
 use Rattle.std.proofs.lemmas.List.Sorted.{All-permutation, IsPermutation-sym, list_any-IsPermutation}
 use Rattle.abuf_raster.specs.declared.region.Hit.{Hit}
@@ -15,7 +14,6 @@ use Rattle.abuf_raster.specs.Hits.{hit_at, hits, IsHitIn}
 use Rattle.abuf_raster.specs.Region.{IsRegion, place_of}
 use Rattle.abuf_raster.specs.Samples.{offsets_of}
 use Rattle.abuf_raster.proofs.Bits.{bit_covers, none_covered}
-use Rattle.abuf_peel.specs.Next.{Sample}
 use Rattle.abuf_peel.specs.Layers.{count_of, size_of, sample_at}
 use Rattle.abuf_peel.specs.Offers.{HasMask, has_at, has_sample, is_covered, is_covered_at}
 use Rattle.abuf_peel.proofs.Standing.{sample_is}

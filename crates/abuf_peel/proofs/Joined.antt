@@ -1,20 +1,17 @@
 -- Rows of workers that make an image.
-use Rattle.std.proofs.Common.{◌≡◌, ℕ, zero, suc, ◌+◌, ◌-◌, ◌*◌, ◌/◌, ◌%◌, ◌<◌, ◌≤◌, min, List, [], ◌∷◌, ◌++◌, map, length, get_or, slice_index_or, ℤ, All, Result, Ok, IfOk, refl, ap, ap₂, ◌∙◌, sym, subst, arith, mul-le-mul, IsPermutation}
+use Rattle.std.proofs.Common.{◌≡◌, ℕ, zero, suc, ◌+◌, ◌-◌, ◌*◌, ◌/◌, ◌%◌, ◌<◌, ◌≤◌, List, [], ◌∷◌, ◌++◌, map, length, get_or, ℤ, All, Result, Ok, IfOk, refl, ap, ap₂, ◌∙◌, sym, subst, arith, mul-le-mul}
 use Rattle.std.specs.List.{flat_map, range_with_len}
 use Rattle.std.proofs.lemmas.List.{append-nil, get_or-map, length-map, append_assoc, map-append}
 use Rattle.std.proofs.lemmas.List.Elements.{All-nil, All-append, All-push}
 use Rattle.std.proofs.lemmas.List.FromFn.{length-map-range_with_len, get_or-map-range_with_len, map-range_with_len_more}
-use Rattle.std.proofs.lemmas.Nat.{div-add-mod', div-mul-add, mod-mul-add, mod_below, div_below, le-div}
+use Rattle.std.proofs.lemmas.Nat.{div-add-mod', div-mul-add, mod-mul-add, mod_below, le-div}
 use Rattle.abuf_num.specs.declared.list.NoMemory.{NoMemory}
-use Rattle.abuf_num.specs.declared.plain.Paint.{Paint}
 use Rattle.abuf_num.specs.declared.plain.PixelSum.{PixelSum}
-use Rattle.abuf_raster.specs.Region.{whole_image}
 use Rattle.abuf_raster.specs.Samples.{offsets_of}
-use Rattle.abuf_raster.specs.Triangle.{Triangle}
-use Rattle.abuf_resolve.specs.Sums.{region_sums, sums_at, IsSmall}
+use Rattle.abuf_resolve.specs.Sums.{sums_at, IsSmall}
 use Rattle.abuf_peel.specs.Members.{IsSampleIn}
 use Rattle.abuf_peel.specs.Next.{Sample}
-use Rattle.abuf_peel.specs.Rows.{AreParts, AreRows, AreSmall, HaveRows, block_at, image_sums, joined, row_at, row_in, row_of, row_sums, rows_of}
+use Rattle.abuf_peel.specs.Rows.{AreParts, AreRows, AreSmall, HaveRows, block_at, image_sums, joined, row_at, row_in, row_of, row_sums, row_count}
 use Rattle.abuf_peel.specs.declared.scene.Scene.{Scene}
 use Rattle.abuf_peel.proofs.Found.{range_more}
 
@@ -43,27 +40,27 @@ count_all results all e = ap (λ (rs : List (Result (List (List PixelSum)) NoMem
 
 module _ (scene : Scene) (all : List (List (List PixelSum))) (results : List (Result (List (List PixelSum)) NoMemory)) (is : results ≡ map Ok all) (some : 0 < length all) (are : AreParts scene results) where
   -- The rows of each worker.
-  each_part : (w : ℕ) (d : List (List PixelSum)) → w < length all → AreRows scene (length all) w (rows_of scene.height (length all) w) (get_or all w d)
+  each_part : (w : ℕ) (d : List (List PixelSum)) → w < length all → AreRows scene (length all) w (row_count scene.height (length all) w) (get_or all w d)
   each_part w d l =
       let count : length results ≡ length all = count_all results all is in
       let here : get_or results w (Ok d) ≡ Ok (get_or all w d) = ap (λ (rs : List (Result (List (List PixelSum)) NoMemory)). get_or rs w (Ok d)) is ∙ get_or-map Ok all w d (Ok d) l in
-      subst (λ (n : ℕ). AreRows scene n w (rows_of scene.height n w) (get_or all w d)) count
-      (subst (λ (q : Result (List (List PixelSum)) NoMemory). IfOk q (λ rows. AreRows scene (length results) w (rows_of scene.height (length results) w) rows)) here (are w (Ok d) (omega arith)))
+      subst (λ (n : ℕ). AreRows scene n w (row_count scene.height n w) (get_or all w d)) count
+      (subst (λ (q : Result (List (List PixelSum)) NoMemory). IfOk q (λ rows. AreRows scene (length results) w (row_count scene.height (length results) w) rows)) here (are w (Ok d) (omega arith)))
 
   -- The worker of a row.
   turn : (y : ℕ) → y % length all < length all
   turn y = mod_below y (length all) some
 
   -- Its rows are so many that this one is among them.
-  among : (y : ℕ) → y < scene.height → y / length all < rows_of scene.height (length all) (y % length all)
+  among : (y : ℕ) → y < scene.height → y / length all < row_count scene.height (length all) (y % length all)
   among y l =
       let split : y / length all * length all + y % length all ≡ y = div-add-mod' y (length all) in
       let enough : (y / length all + 1) * length all ≤ scene.height + length all - 1 - y % length all = omega (arith, turn y) in
       omega (arith, le-div (y / length all + 1) (scene.height + length all - 1 - y % length all) (length all) some enough)
 
   -- How many rows a worker has.
-  rows_count : (w : ℕ) → w < length all → length (get_or all w []) ≡ rows_of scene.height (length all) w
-  rows_count w l = ap (λ (rows : List (List PixelSum)). length rows) (each_part w [] l).sums ∙ length-map-range_with_len (λ i. row_sums scene (row_at (length all) w i)) 0 (rows_of scene.height (length all) w)
+  rows_count : (w : ℕ) → w < length all → length (get_or all w []) ≡ row_count scene.height (length all) w
+  rows_count w l = ap (λ (rows : List (List PixelSum)). length rows) (each_part w [] l).sums ∙ length-map-range_with_len (λ i. row_sums scene (row_at (length all) w i)) 0 (row_count scene.height (length all) w)
 
   -- So each row has a worker who has summed it.
   pub have_rows : HaveRows all scene.height
@@ -74,7 +71,7 @@ module _ (scene : Scene) (all : List (List (List PixelSum))) (results : List (Re
   row_is y l =
       let w : ℕ = y % length all in
       ap (λ (rows : List (List PixelSum)). get_or rows (y / length all) []) (each_part (y % length all) [] (turn y)).sums
-      ∙ (get_or-map-range_with_len (λ i. row_sums scene (row_at (length all) (y % length all) i)) 0 (rows_of scene.height (length all) (y % length all)) (y / length all) (y / length all) [] (among y l) (omega arith)
+      ∙ (get_or-map-range_with_len (λ i. row_sums scene (row_at (length all) (y % length all) i)) 0 (row_count scene.height (length all) (y % length all)) (y / length all) (y / length all) [] (among y l) (omega arith)
       ∙ ap (row_sums scene) (div-add-mod' y (length all)))
 
   -- No sum of it is too great.
@@ -137,9 +134,9 @@ module _ (scene : Scene) where
 
 -- ---- a worker's rows
 -- A worker's row is one of the image.
-pub row_below : (height threads worker i : ℕ) → worker < threads → i < rows_of height threads worker → row_at threads worker i < height
+pub row_below : (height threads worker i : ℕ) → worker < threads → i < row_count height threads worker → row_at threads worker i < height
 row_below height threads worker i h l =
-    let m : (i + 1) * threads ≤ rows_of height threads worker * threads = mul-le-mul (let k : i + 1 ≤ rows_of height threads worker = omega arith in k) (let k : threads ≤ threads = omega arith in k) in
+    let m : (i + 1) * threads ≤ row_count height threads worker * threads = mul-le-mul (let k : i + 1 ≤ row_count height threads worker = omega arith in k) (let k : threads ≤ threads = omega arith in k) in
     omega (arith, div-add-mod' (height + threads - 1 - worker) threads)
 
 -- It lies in the block that begins at its first of 16.

@@ -1,6 +1,5 @@
--- Layers that stand for steps, and the sums of their colours.
-use Rattle.std.proofs.Common.{◌≡◌, ℕ, zero, suc, ◌+◌, ◌*◌, ◌/◌, ◌%◌, ◌^◌, ◌<◌, ◌≤◌, List, [], ◌∷◌, ℤ, map, length, get_or, Option, None, refl, ap, ap₂, ◌∙◌, sym, subst, arith, mul-le-mul}
-use Rattle.std.specs.List.{range_with_len}
+-- Peeled that stand for steps, and the sums of their colours.
+use Rattle.std.proofs.Common.{◌≡◌, ℕ, suc, ◌+◌, ◌*◌, ◌/◌, ◌%◌, ◌^◌, ◌<◌, ◌≤◌, List, [], ℤ, length, get_or, Option, None, refl, ap, ap₂, ◌∙◌, sym, subst, arith, mul-le-mul}
 use Rattle.std.proofs.lemmas.List.{get_or-replicate}
 use Rattle.std.proofs.lemmas.Nat.{div-mul-add, mod-mul-add}
 use Rattle.abuf_num.specs.declared.plain.Paint.{Paint}
@@ -9,10 +8,10 @@ use Rattle.abuf_raster.specs.declared.pattern.Pattern.{Pattern}
 use Rattle.abuf_raster.specs.Triangle.{Triangle}
 use Rattle.abuf_raster.specs.Samples.{offsets_of}
 use Rattle.abuf_resolve.specs.Colour.{colour, covering}
-use Rattle.abuf_resolve.specs.Sums.{summed, sums_at, region_sums}
+use Rattle.abuf_resolve.specs.Sums.{sums_at, region_sums}
 use Rattle.abuf_resolve.proofs.Totals.{summed_same, same_on_range}
 use Rattle.abuf_peel.specs.Next.{Sample, next_word, with_word}
-use Rattle.abuf_peel.specs.Layers.{Layers, Seen, seen_at, taken, after, started, Takes, StandsFor, HaveLayer, AreWhole, count_of, size_of, sample_at, next_at, sum_of_place, layer_sums, whole_colour}
+use Rattle.abuf_peel.specs.Layers.{Peeled, Seen, seen_at, taken, after, started, Takes, StandsFor, HaveLayer, AreWhole, count_of, size_of, sample_at, next_at, sum_of_place, layer_sums, whole_colour}
 use Rattle.abuf_peel.proofs.Steps.{after-layer, after-none, after-many}
 
 -- Sample k of the pixel at a place.
@@ -30,7 +29,7 @@ module _ (background : List ℕ) (tris : List Triangle) (paints : List Paint) wh
   stands_start r pattern = record { each = λ j l i. record { from = get_or-replicate (count_of r pattern) j 0 0 l i; colour = get_or-replicate (count_of r pattern) j background [] l i } }
 
   -- Once every sample takes its next primitive, it stands for one more.
-  pub stands_next : (n : ℕ) (old new : Layers) → Takes tris paints old new → StandsFor background tris paints n old → StandsFor background tris paints (suc n) new
+  pub stands_next : (n : ℕ) (old new : Peeled) → Takes tris paints old new → StandsFor background tris paints n old → StandsFor background tris paints (suc n) new
   stands_next n old new t p = record {
     each = λ j l.
         let here : j < count_of old.region old.pattern = subst (λ (k : ℕ). j < k) (ap₂ count_of t.region t.pattern) l in
@@ -41,11 +40,11 @@ module _ (background : List ℕ) (tris : List Triangle) (paints : List Paint) wh
 
   module _ (few : length tris ≤ 2 ^ 24) where
     -- Then it has the layer of that number.
-    pub layers_are : (n : ℕ) (l : Layers) → StandsFor background tris paints n l → HaveLayer background tris paints n l
+    pub layers_are : (n : ℕ) (l : Peeled) → StandsFor background tris paints n l → HaveLayer background tris paints n l
     layers_are n l p j m = ap (λ (v : Seen). v.colour) (p.each j m) ∙ after-layer (offsets_of l.pattern) background tris paints (sample_at l.region (size_of l.pattern) j) few n
 
     -- Where no primitive was left, the colours are whole.
-    pub whole_none : (n : ℕ) (old new : Layers) → Takes tris paints old new → StandsFor background tris paints n old
+    pub whole_none : (n : ℕ) (old new : Peeled) → Takes tris paints old new → StandsFor background tris paints n old
         → ((j : ℕ) → j < count_of old.region old.pattern → next_at old.region old.pattern tris old.from j ≡ None) → AreWhole background tris paints new
     whole_none n old new t p none = record {
       each = λ j l.
@@ -62,7 +61,7 @@ module _ (background : List ℕ) (tris : List Triangle) (paints : List Paint) wh
     }
 
     -- So they are after as many steps as primitives cover a sample.
-    pub whole_many : (n : ℕ) (l : Layers)
+    pub whole_many : (n : ℕ) (l : Peeled)
         → ((j : ℕ) → j < count_of l.region l.pattern → (let s : Sample = sample_at l.region (size_of l.pattern) j in length (covering (offsets_of l.pattern) tris s.x s.y s.k) ≤ n))
         → StandsFor background tris paints n l → AreWhole background tris paints l
     whole_many n l h p = record {
@@ -70,7 +69,7 @@ module _ (background : List ℕ) (tris : List Triangle) (paints : List Paint) wh
     }
 
   -- The sums of whole colours are those of the region.
-  pub sums_whole : (l : Layers) → AreWhole background tris paints l → layer_sums l ≡ region_sums (offsets_of l.pattern) background tris paints l.region
+  pub sums_whole : (l : Peeled) → AreWhole background tris paints l → layer_sums l ≡ region_sums (offsets_of l.pattern) background tris paints l.region
   sums_whole l w =
       same_on_range (sum_of_place l.colours (size_of l.pattern)) (λ place. sums_at (offsets_of l.pattern) background tris paints (l.region.x0 + place % l.region.w) (l.region.y0 + place / l.region.w))
       0 (l.region.w * l.region.h) (λ p z i.

@@ -1,7 +1,7 @@
 -- Steps take the primitives of a sample from the lowest to the topmost.
-use Rattle.std.proofs.Common.{◌≡◌, ℕ, zero, suc, ◌+◌, ◌*◌, ◌^◌, ◌%◌, ◌<◌, ◌≤◌, ◌⊎◌, inl, inr, Bool, true, false, cond, if◌then◌else◌, ltb, eqb, List, [], ◌∷◌, ◌++◌, map, take, drop, length, ℤ, Option, Some, None, refl, ap, ap₂, ◌∙◌, sym, subst, arith}
+use Rattle.std.proofs.Common.{◌≡◌, ℕ, zero, suc, ◌+◌, ◌^◌, ◌<◌, ◌≤◌, ◌⊎◌, inl, inr, Bool, true, false, cond, if◌then◌else◌, ltb, eqb, List, [], ◌∷◌, map, take, drop, length, ℤ, Option, Some, None, refl, ap, ap₂, ◌∙◌, sym, arith}
 use Rattle.std.specs.List.{filter, range_with_len}
-use Rattle.std.proofs.lemmas.Bool.{ne_eqb, eq-eqb, eqb-true, cases_eq}
+use Rattle.std.proofs.lemmas.Bool.{ne_eqb, eq-eqb, cases_eq}
 use Rattle.std.proofs.lemmas.List.{length-map, map-append, take-map, take_all}
 use Rattle.std.proofs.lemmas.List.Sums.{fold-append}
 use Rattle.abuf_num.specs.declared.plain.Paint.{Paint}
@@ -18,11 +18,12 @@ use Rattle.abuf_peel.specs.Next.{Sample, next_word, next_among, left_from, with_
 use Rattle.abuf_peel.specs.Layers.{Seen, taken, after, layer, whole_colour}
 use Rattle.abuf_peel.proofs.Words.{Climbs, Climbs-from, all_reach, none_below, one_more, no_more, first, least-left, left_next}
 
--- A list put in order is as long as it was.
+-- A list with one number put in its place is one longer.
 length-put : (before : ℕ → ℕ → Bool) (x : ℕ) (ys : List ℕ) → length (put_in_order before x ys) ≡ suc (length ys)
 length-put before x [] = refl
 length-put before x (y ∷ ys) = elim (before x y) as (λ (v : Bool). length (if v then x ∷ y ∷ ys else y ∷ put_in_order before x ys) ≡ suc (suc (length ys))) [ true ↦ refl | false ↦ ap suc (length-put before x ys) ]
 
+-- A list put in order is as long as it was.
 pub length-in_order : (before : ℕ → ℕ → Bool) (xs : List ℕ) → length (in_order before xs) ≡ length xs
 length-in_order before [] = refl
 length-in_order before (x ∷ xs) = length-put before x (in_order before xs) ∙ ap suc (length-in_order before xs)
@@ -58,10 +59,11 @@ module _ (os : List (ℤ × ℤ)) (background : List ℕ) (tris : List Triangle)
   abbrev word : ℕ → ℕ
   word n = layer_word os tris s.x s.y s.k n
 
-  -- The primitives that cover the sample, and their order.
+  -- The primitives that cover the sample.
   abbrev these : List ℕ
   these = covering os tris s.x s.y s.k
 
+  -- Their order.
   abbrev beneath : ℕ → ℕ → Bool
   beneath = is_beneath os tris s.x s.y s.k
 

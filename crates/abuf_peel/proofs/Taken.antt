@@ -1,17 +1,15 @@
 -- Every sample takes what was found for it.
-use Rattle.std.proofs.Common.{◌≡◌, ℕ, ◌+◌, ◌*◌, ◌<◌, ◌≤◌, ◌⊎◌, inl, inr, List, [], length, get_or, Bool, true, false, refl, ap, ap₂, ◌∙◌, sym, arith, is_some}
+use Rattle.std.proofs.Common.{◌≡◌, ℕ, ◌<◌, ◌⊎◌, inl, inr, List, [], length, get_or, refl, ◌∙◌, arith}
 use Rattle.abuf_num.specs.declared.plain.Paint.{Paint}
-use Rattle.abuf_raster.specs.declared.region.Region.{Region}
-use Rattle.abuf_raster.specs.declared.pattern.Pattern.{Pattern}
 use Rattle.abuf_raster.specs.Triangle.{Triangle}
 use Rattle.abuf_resolve.specs.Words.{prim_of}
-use Rattle.abuf_peel.specs.Layers.{Layers, Seen, Takes, count_of, next_at, has_left}
+use Rattle.abuf_peel.specs.Layers.{NoneLeft, Peeled, SomeLeft, Takes, count_of, next_at}
 use Rattle.abuf_peel.specs.Offers.{AreNext}
 use Rattle.abuf_peel.specs.Rewrites.{Rewrites}
 use Rattle.abuf_peel.specs.Taking.{marked, no_word, painted}
 use Rattle.abuf_peel.proofs.Found.{finds_known, finds_nothing, finds_some, marked_is, painted_is}
 
-module _ (tris : List Triangle) (paints : List Paint) (l : Layers) (best : List ℕ) (next : AreNext tris l.region l.pattern l.from best) where
+module _ (tris : List Triangle) (paints : List Paint) (l : Peeled) (best : List ℕ) (next : AreNext tris l.region l.pattern l.from best) where
   -- The paint of each word is known.
   pub all_known : length paints ≡ length tris → (j : ℕ) → j < length best → (get_or best j 0 ≡ no_word) ⊎ (prim_of (get_or best j 0) < length paints)
   all_known e j m =
@@ -34,11 +32,11 @@ module _ (tris : List Triangle) (paints : List Paint) (l : Layers) (best : List 
   }
 
   -- No sample has a primitive left where there is no word,
-  pub none_left : ((j : ℕ) → j < length best → get_or best j 0 ≡ no_word) → (j : ℕ) → j < count_of l.region l.pattern → has_left tris l j ≡ false
+  pub none_left : ((j : ℕ) → j < length best → get_or best j 0 ≡ no_word) → NoneLeft tris l
   none_left h j m = finds_nothing (length tris) (next_at l.region l.pattern tris l.from j) (get_or best j 0) (next.each j m) (h j (omega (arith, next.size)))
 
   -- and one has where there is one.
-  pub some_left : (j : ℕ) × (j < length best) × (get_or best j 0 < no_word) → (j : ℕ) × (j < count_of l.region l.pattern) × (has_left tris l j ≡ true)
+  pub some_left : (j : ℕ) × (j < length best) × (get_or best j 0 < no_word) → SomeLeft tris l
   some_left h =
       let inside : h.0 < count_of l.region l.pattern = omega (arith, next.size, h.1) in
       (h.0, inside, finds_some (length tris) (next_at l.region l.pattern tris l.from h.0) (get_or best h.0 0) (next.each h.0 inside) h.2)

@@ -1,7 +1,7 @@
 -- Rising lists of words, and the least of those that are left.
-use Rattle.std.proofs.Common.{◌≡◌, ℕ, zero, suc, ◌+◌, ◌<◌, ◌≤◌, min, ◌⊎◌, inl, inr, Bool, true, false, cond, if◌then◌else◌, not, ltb, eqb, List, [], ◌∷◌, ◌++◌, map, take, drop, length, Option, Some, None, get_or, refl, ap, ap₂, ◌∙◌, sym, subst, true≢false, arith}
+use Rattle.std.proofs.Common.{◌≡◌, ℕ, zero, suc, ◌+◌, ◌<◌, ◌≤◌, min, ◌⊎◌, inl, inr, Bool, true, false, cond, if◌then◌else◌, ltb, eqb, List, [], ◌∷◌, ◌++◌, take, drop, length, Option, Some, None, get_or, refl, ap, ◌∙◌, sym, subst, true≢false, arith}
 use Rattle.std.specs.List.{filter}
-use Rattle.std.proofs.lemmas.Bool.{lt-ltb, le-ltb, eq-eqb, ne_eqb, ltb-true, cases_lt, cases_order}
+use Rattle.std.proofs.lemmas.Bool.{lt-ltb, le-ltb, eq-eqb, ne_eqb, cases_lt, cases_order}
 use Rattle.std.proofs.lemmas.List.Elements.{filter_passes}
 use Rattle.abuf_resolve.specs.Order.{put_in_order, in_order}
 use Rattle.abuf_resolve.specs.Words.{reaches}

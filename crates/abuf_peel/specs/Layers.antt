@@ -1,5 +1,5 @@
 -- The samples of a region, as peeling goes on.
-use Rattle.std.specs.Prelude.{◌≡◌, ℕ, zero, suc, ◌+◌, ◌*◌, ◌/◌, ◌%◌, ◌<◌, ℤ, List, [], Bool, Option, is_some, length, slice_index_or, replicate, map, take}
+use Rattle.std.specs.Prelude.{◌≡◌, ℕ, zero, suc, ◌+◌, ◌*◌, ◌/◌, ◌%◌, ◌<◌, ℤ, List, [], Bool, true, false, Option, is_some, length, slice_index_or, replicate, map, take}
 use Rattle.std.specs.List.{range_with_len}
 use Rattle.abuf_num.specs.declared.plain.Paint.{Paint}
 use Rattle.abuf_num.specs.declared.plain.PixelSum.{PixelSum}
@@ -21,12 +21,13 @@ layer offsets background triangles paints s n =
 -- What is seen of a layer: its region and pattern; and for each sample, pixel after pixel by ascending place, the word from
 -- which on primitives are left, and its colour. That word is 0 where no primitive was taken yet, and else one above the word
 -- of the last one taken.
-pub record Layers : Type 0 where
+pub record Peeled : Type 0 where
   pub region : Region
   pub pattern : Pattern
   pub from : List ℕ
   pub colours : List (List ℕ)
 
+-- How many samples a pixel has.
 abbrev pub size_of : Pattern → ℕ
 size_of pattern = length (offsets_of pattern)
 
@@ -39,17 +40,18 @@ abbrev pub sample_at : Region → ℕ → ℕ → Sample
 sample_at r size j = record { x = r.x0 + j / size % r.w; y = r.y0 + j / size / r.w; k = j % size }
 
 -- What is seen of a layer of this region and pattern, with these words and colours.
-abbrev pub layers_of : Region → Pattern → List ℕ → List (List ℕ) → Layers
-layers_of r pattern from colours = record { region = r; pattern = pattern; from = from; colours = colours }
+abbrev pub peeled_of : Region → Pattern → List ℕ → List (List ℕ) → Peeled
+peeled_of r pattern from colours = record { region = r; pattern = pattern; from = from; colours = colours }
 
--- What a layer keeps to.
-pub record AreLayers (l : Layers) : Type 0 where
-  pub region : IsRegion l.region
-  pub from : length l.from ≡ count_of l.region l.pattern
-  pub colours : length l.colours ≡ count_of l.region l.pattern
+-- What the parts of a layer keep to.
+pub record IsLayer (r : Region) (pattern : Pattern) (words found : List ℕ) (colours : List (List ℕ)) : Type 0 where
+  pub region : IsRegion r
+  pub from_size : length words ≡ count_of r pattern
+  pub best_size : length found ≡ count_of r pattern
+  pub colours_size : length colours ≡ count_of r pattern
 
 -- Nothing is taken yet.
-abbrev pub started : Region → Pattern → List ℕ → Layers
+abbrev pub started : Region → Pattern → List ℕ → Peeled
 started r pattern background = record {
   region = r;
   pattern = pattern;
@@ -75,11 +77,11 @@ after offsets background triangles paints s zero = record { from = 0; colour = b
 after offsets background triangles paints s (suc n) = taken offsets triangles paints s (after offsets background triangles paints s n)
 
 -- What is seen of the sample at an index.
-abbrev pub seen_at : Layers → ℕ → Seen
+abbrev pub seen_at : Peeled → ℕ → Seen
 seen_at l j = record { from = slice_index_or l.from j 0; colour = slice_index_or l.colours j [] }
 
 -- Every sample takes its next primitive.
-pub record Takes (triangles : List Triangle) (paints : List Paint) (old new : Layers) : Type 0 where
+pub record Takes (triangles : List Triangle) (paints : List Paint) (old new : Peeled) : Type 0 where
   pub region : new.region ≡ old.region
   pub pattern : new.pattern ≡ old.pattern
   pub each : (j : ℕ) → j < count_of old.region old.pattern
@@ -90,16 +92,33 @@ abbrev pub next_at : Region → Pattern → List Triangle → List ℕ → ℕ �
 next_at r pattern triangles from j = next_word (offsets_of pattern) triangles (sample_at r (size_of pattern) j) (slice_index_or from j 0)
 
 -- The sample at an index has a primitive left.
-abbrev pub has_left : List Triangle → Layers → ℕ → Bool
+abbrev pub has_left : List Triangle → Peeled → ℕ → Bool
 has_left triangles l j = is_some (next_at l.region l.pattern triangles l.from j)
 
+-- No sample has one left,
+abbrev pub NoneLeft : List Triangle → Peeled → Type 0
+NoneLeft triangles l = (j : ℕ) → j < count_of l.region l.pattern → has_left triangles l j ≡ false
+
+-- or some sample has.
+abbrev pub SomeLeft : List Triangle → Peeled → Type 0
+SomeLeft triangles l = (j : ℕ) × (j < count_of l.region l.pattern) × (has_left triangles l j ≡ true)
+
 -- The layer stands for n steps over these lists.
-pub record StandsFor (background : List ℕ) (triangles : List Triangle) (paints : List Paint) (n : ℕ) (l : Layers) : Type 0 where
+pub record StandsFor (background : List ℕ) (triangles : List Triangle) (paints : List Paint) (n : ℕ) (l : Peeled) : Type 0 where
   pub each : (j : ℕ) → j < count_of l.region l.pattern
       → seen_at l j ≡ after (offsets_of l.pattern) background triangles paints (sample_at l.region (size_of l.pattern) j) n
 
+-- It stands for no step over whatever lists.
+abbrev pub StandsForNone : List ℕ → Peeled → Type 0
+StandsForNone background l = (triangles : List Triangle) (paints : List Paint) → StandsFor background triangles paints 0 l
+
+-- It stands for one step more than before.
+abbrev pub OneStepMore : List Triangle → List Paint → Peeled → Peeled → Type 0
+OneStepMore triangles paints old new =
+    (background : List ℕ) (n : ℕ) → StandsFor background triangles paints n old → StandsFor background triangles paints (suc n) new
+
 -- Its colours are those of the lowest n primitives.
-abbrev pub HaveLayer : List ℕ → List Triangle → List Paint → ℕ → Layers → Type 0
+abbrev pub HaveLayer : List ℕ → List Triangle → List Paint → ℕ → Peeled → Type 0
 HaveLayer background triangles paints n l =
     (j : ℕ) → j < count_of l.region l.pattern
     → slice_index_or l.colours j [] ≡ layer (offsets_of l.pattern) background triangles paints (sample_at l.region (size_of l.pattern) j) n
@@ -109,7 +128,7 @@ abbrev pub whole_colour : List (ℤ × ℤ) → List ℕ → List Triangle → L
 whole_colour offsets background triangles paints s = colour offsets background triangles paints s.x s.y s.k
 
 -- The colours of the layer are those that all primitives give.
-pub record AreWhole (background : List ℕ) (triangles : List Triangle) (paints : List Paint) (l : Layers) : Type 0 where
+pub record AreWhole (background : List ℕ) (triangles : List Triangle) (paints : List Paint) (l : Peeled) : Type 0 where
   pub each : (j : ℕ) → j < count_of l.region l.pattern
       → slice_index_or l.colours j [] ≡ whole_colour (offsets_of l.pattern) background triangles paints (sample_at l.region (size_of l.pattern) j)
 
@@ -118,5 +137,5 @@ abbrev pub sum_of_place : List (List ℕ) → ℕ → ℕ → PixelSum
 sum_of_place colours size place = summed (λ k. slice_index_or colours (place * size + k) []) size
 
 -- Those of all pixels of a layer, by ascending place.
-abbrev pub layer_sums : Layers → List PixelSum
+abbrev pub layer_sums : Peeled → List PixelSum
 layer_sums l = map (sum_of_place l.colours (size_of l.pattern)) (range_with_len 0 (l.region.w * l.region.h))

@@ -43,7 +43,11 @@ is_covered_at t r pattern j = is_covered t (offsets_of pattern) (sample_at r (si
 abbrev pub has_sample : Hit → ℕ → Bool
 has_sample h k = bit_at h.fragment.mask k == 1
 
--- It has the sample at an index.
+-- The word of primitive number n in sample k of a hit's pixel.
+abbrev pub word_in : Triangle → ℕ → Pattern → Hit → ℕ → ℕ
+word_in t n pattern h k = word_of t n (offsets_of pattern) (record { x = h.x; y = h.y; k = k })
+
+-- The hit has the sample at an index.
 unfoldable pub has_at : Region → ℕ → ℕ → Hit → Bool
 has_at r size j h = (place_of r h.x h.y == j / size) && has_sample h (j % size)
 

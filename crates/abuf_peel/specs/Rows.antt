@@ -19,8 +19,8 @@ abbrev pub row_at : ℕ → ℕ → ℕ → ℕ
 row_at threads worker i = i * threads + worker
 
 -- How many of the rows a worker has.
-abbrev pub rows_of : ℕ → ℕ → ℕ → ℕ
-rows_of height threads worker = (height + threads - 1 - worker) / threads
+abbrev pub row_count : ℕ → ℕ → ℕ → ℕ
+row_count height threads worker = (height + threads - 1 - worker) / threads
 
 -- From one row of a worker on, the rows of the image down to the 16th of the worker's, or to the last of all.
 abbrev pub block_at : ℕ → ℕ → ℕ → ℕ → Region
@@ -29,6 +29,11 @@ block_at width height threads y = record { x0 = 0; y0 = y; w = width; h = min (1
 -- Among these are all primitives that cover a sample of a region of the scene's image.
 abbrev pub HaveAllIn : Scene → Region → List ℕ → Type 0
 HaveAllIn scene r members = HaveAll (offsets_of scene.pattern) scene.tris.now r members
+
+-- Among these are all that cover a sample of 16 of a worker's rows, of which the row with this number is one.
+abbrev pub HaveBlock : Scene → ℕ → ℕ → ℕ → List ℕ → Type 0
+HaveBlock scene threads worker i members =
+    HaveAllIn scene (block_at scene.width scene.height threads (row_at threads worker (i - i % 16))) members
 
 -- The sums of the pixels of one row of the scene's image.
 abbrev pub row_sums : Scene → ℕ → List PixelSum
@@ -51,7 +56,7 @@ pub record AreRows (scene : Scene) (threads worker count : ℕ) (rows : List (Li
 abbrev pub AreParts : Scene → List (Result (List (List PixelSum)) NoMemory) → Type 0
 AreParts scene parts =
     (w : ℕ) (d : Result (List (List PixelSum)) NoMemory) → w < length parts
-    → IfOk (get_or parts w d) (λ rows. AreRows scene (length parts) w (rows_of scene.height (length parts) w) rows)
+    → IfOk (get_or parts w d) (λ rows. AreRows scene (length parts) w (row_count scene.height (length parts) w) rows)
 
 -- Each row has a worker who has summed it.
 abbrev pub HaveRows : List (List (List PixelSum)) → ℕ → Type 0

@@ -13,9 +13,10 @@ abbrev pub Finds : ℕ → Option ℕ → ℕ → Type 0
 Finds count None best = best ≡ no_word
 Finds count (Some word) best = (best ≡ word) × IsDepthWord count word
 
--- The word from which on primitives are left, and the colour, once the primitive of this word is taken.
+-- The word from which on primitives are left, once the primitive of this word is taken;
 abbrev pub marked : ℕ → ℕ → ℕ
 marked best from = if best == no_word then from else best + 1
 
+-- and the colour.
 abbrev pub painted : List Paint → ℕ → List ℕ → List ℕ
 painted paints best under = if best == no_word then under else laid_over under (paint_of paints best)

@@ -1,9 +1,9 @@
 // The samples of a region, peeled layer by layer.
-ghost use Rattle.std.specs.Prelude.{◌≡◌, ℕ, suc, List as Items, ◌<◌, ◌≤◌, false, true, length, IfOk};
+ghost use Rattle.std.specs.Prelude.{◌≡◌, ◌≤◌, false, true, length, IfOk};
 ghost use Rattle.std.specs.List.{All};
 ghost use Rattle.abuf_raster.specs.Region.{IsRegion};
 ghost use Rattle.abuf_resolve.specs.Sums.{IsSmall};
-ghost use Rattle.abuf_peel.specs.Layers.{started, Takes, StandsFor, count_of, has_left, layer_sums, size_of};
+ghost use Rattle.abuf_peel.specs.Layers.{NoneLeft, OneStepMore, SomeLeft, StandsForNone, Takes, layer_sums, size_of, started};
 ghost use Rattle.abuf_peel.specs.Members.{HaveAll};
 ghost use Rattle.abuf_raster.specs.Samples.{offsets_of};
 
@@ -29,19 +29,32 @@ pub struct Layer {
 }
 
 impl Model for Layer {
-    ghost use Rattle.std.specs.Prelude.{◌≡◌, length};
-    ghost use Rattle.abuf_peel.specs.Layers.{Layers, AreLayers, count_of};
+    ghost use Rattle.abuf_peel.specs.Layers.{IsLayer, Peeled};
 
-    ghost Value = { Layers };
+    ghost Value = { Peeled };
 
     ghost view = { λ l. record { region = l.region; pattern = l.pattern; from = l.from.items; colours = l.colours.items } };
 
-    ghost invariant = { λ l. AreLayers (record { region = l.region; pattern = l.pattern; from = l.from.items; colours = l.colours.items }) × (length l.best.items ≡ count_of l.region l.pattern) };
+    ghost invariant = { λ l. IsLayer l.region l.pattern l.from.items l.best.items l.colours.items };
 }
 
 impl Layer {
-    /// The samples of the region in the background's colour, with nothing taken yet.
+    /// The samples of the region in the background's colour, with nothing taken yet. An error means that memory ran out.
     pub fn start(
+        alloc: Global,
+        region: Region,
+        pattern: Pattern,
+        background: [u16; 3],
+    ) -> Result<Layer, NoMemory>
+        requires { IsRegion region }
+        ensures value { IfOk result (λ l. l ≡ started region pattern background) }
+        ensures layers { IfOk result (StandsForNone background) }
+    {
+        Layer::untouched(alloc, region, pattern, background)
+    }
+
+    /// The same, as it is seen.
+    fn untouched(
         alloc: Global,
         region: Region,
         pattern: Pattern,
@@ -65,14 +78,14 @@ impl Layer {
 
     /// Every sample takes the lowest primitive above the last one taken that covers it, by its depth key there and then by its
     /// number, and lays its paint over the colour. A sample without such a primitive stays. True exactly where some sample took
-    /// one. Takes no memory.
+    /// one. There is a paint for each of at most 2097152 triangles. Takes no memory.
     pub fn step(&mut self, tris: &[ScreenTri], paints: &[Paint]) -> bool
         requires few { length tris.now ≤ 2097152 }
         requires paints { length paints.now ≡ length tris.now }
         ensures takes { Takes tris.now paints.now self.old self.new }
-        ensures layers { (background : Items ℕ) (n : ℕ) → StandsFor background tris.now paints.now n self.old → StandsFor background tris.now paints.now (suc n) self.new }
-        ensures none { result ≡ false → (j : ℕ) → j < count_of self.old.region self.old.pattern → has_left tris.now self.old j ≡ false }
-        ensures some { result ≡ true → (j : ℕ) × (j < count_of self.old.region self.old.pattern) × (has_left tris.now self.old j ≡ true) }
+        ensures layers { OneStepMore tris.now paints.now self.old self.new }
+        ensures none { result ≡ false → NoneLeft tris.now self.old }
+        ensures some { result ≡ true → SomeLeft tris.now self.old }
     {
         let samples = Samples {
             region: self.region,
@@ -93,7 +106,7 @@ impl Layer {
         requires paints { length paints.now ≡ length tris.now }
         requires members { HaveAll (offsets_of self.old.pattern) tris.now self.old.region members.now }
         ensures takes { Takes tris.now paints.now self.old self.new }
-        ensures none { result ≡ false → (j : ℕ) → j < count_of self.old.region self.old.pattern → has_left tris.now self.old j ≡ false }
+        ensures none { result ≡ false → NoneLeft tris.now self.old }
     {
         let samples = Samples {
             region: self.region,

@@ -78,9 +78,10 @@ impl<'a, 'b> Scene<'a, 'b> {
     }
 }
 
-/// For each pixel of the image, in order, the sums over the samples of the pattern: per channel the sum of the samples' colours.
-/// Each row is a layer of its own, which takes primitives until none is left. The rows are shared among 1 to 64 workers in turn,
-/// and the sums are the same for every number of them. An error means that memory ran out.
+/// For each pixel of an image, in order, the sums over the samples of the pattern: per channel the sum of the samples' colours.
+/// There is a paint for each of at most 2097152 primitives; the image is 1 to 4096 pixels wide and high, with at most 4194304 in
+/// all. Each row is a layer of its own, which takes primitives until none is left. The rows are shared among 1 to 64 workers in
+/// turn, and the sums are the same for every number of them. An error means that memory ran out.
 pub fn peel<R: Threads + Sync>(
     rt: &R,
     alloc: Global,

@@ -5,7 +5,7 @@ ghost use Rattle.abuf_raster.specs.Region.{IsRegion};
 ghost use Rattle.abuf_raster.specs.Samples.{offsets_of};
 ghost use Rattle.abuf_peel.specs.Layers.{AreWhole, StandsFor};
 ghost use Rattle.abuf_peel.specs.Members.{HaveAll};
-ghost use Rattle.abuf_peel.specs.Rows.{AreRows, AreSmall, HaveAllIn, block_at, row_at, row_of, row_sums, rows_of};
+ghost use Rattle.abuf_peel.specs.Rows.{AreRows, AreSmall, HaveAllIn, HaveBlock, block_at, row_at, row_of, row_sums, row_count};
 
 use crate::layer::Layer;
 use crate::members::numbers;
@@ -36,7 +36,7 @@ impl Share {
     /// How many of so many rows it has.
     fn count(self, height: u32) -> u32
         requires { height ≤ 4096 }
-        ensures { result ≡ rows_of height self.threads self.worker }
+        ensures { result ≡ row_count height self.threads self.worker }
     {
         (height + self.threads - 1 - self.worker) / self.threads
     }
@@ -121,8 +121,8 @@ impl<'a, 'b> Scene<'a, 'b> {
         requires i { i < 4096 }
         requires row { row_at share.threads share.worker i < self.now.height }
         requires all { all.now ≡ range_with_len 0 (length self.now.tris.now) }
-        requires held { 0 < i % 16 → HaveAllIn self.now (block_at self.now.width self.now.height share.threads (row_at share.threads share.worker (i - i % 16))) block.old.items }
-        ensures { IfOk result (λ _. HaveAllIn self.now (block_at self.now.width self.now.height share.threads (row_at share.threads share.worker (i - i % 16))) block.new.items) }
+        requires held { 0 < i % 16 → HaveBlock self.now share.threads share.worker i block.old.items }
+        ensures { IfOk result (λ _. HaveBlock self.now share.threads share.worker i block.new.items) }
     {
         if i % 16 == 0 {
             self.keep(block, all, self.block_at(share, share.row(i)))?;
@@ -132,7 +132,7 @@ impl<'a, 'b> Scene<'a, 'b> {
 
     /// The sums of a worker's rows.
     pub(crate) fn rows(&self, alloc: Global, share: Share) -> Result<List<List<PixelSum>>, NoMemory>
-        ensures { IfOk result (λ rows. AreRows self.now share.threads share.worker (rows_of self.now.height share.threads share.worker) rows) }
+        ensures { IfOk result (λ rows. AreRows self.now share.threads share.worker (row_count self.now.height share.threads share.worker) rows) }
     {
         let all = numbers(alloc, self.tris.len())?;
         let mut block = Vec::new(alloc);

@@ -2,10 +2,11 @@
 ghost use Rattle.std.specs.Prelude.{◌≡◌, ℕ, ◌+◌, ◌^◌, ◌<◌, ◌≤◌, ◌⊎◌, false, true, length, slice_index_or};
 ghost use Rattle.abuf_resolve.specs.Words.{prim_of};
 ghost use Rattle.abuf_raster.specs.Samples.{offsets_of};
-ghost use Rattle.abuf_peel.specs.Layers.{Takes, count_of, has_left, layers_of};
+ghost use Rattle.abuf_peel.specs.Layers.{NoneLeft, SomeLeft, Takes, count_of};
 ghost use Rattle.abuf_peel.specs.Members.{HaveAll};
 ghost use Rattle.abuf_peel.specs.Taking.{marked, no_word, painted};
 ghost use Rattle.abuf_peel.specs.Rewrites.{Rewrites};
+ghost use Rattle.abuf_peel.specs.Seen.{seen_of};
 
 use crate::offering::{NO_WORD, Samples};
 use crate::scene::Primitives;
@@ -70,9 +71,9 @@ impl Samples {
         requires best { length best.old ≡ count_of self.region self.pattern }
         requires colours { length colours.old ≡ count_of self.region self.pattern }
         ensures sizes { (length from.new ≡ length from.old) × (length best.new ≡ length best.old) × (length colours.new ≡ length colours.old) }
-        ensures takes { Takes drawn.now.tris.now drawn.now.paints.now (layers_of self.region self.pattern from.old colours.old) (layers_of self.region self.pattern from.new colours.new) }
-        ensures none { result ≡ false → (j : ℕ) → j < count_of self.region self.pattern → has_left drawn.now.tris.now (layers_of self.region self.pattern from.old colours.old) j ≡ false }
-        ensures some { result ≡ true → (j : ℕ) × (j < count_of self.region self.pattern) × (has_left drawn.now.tris.now (layers_of self.region self.pattern from.old colours.old) j ≡ true) }
+        ensures takes { Takes drawn.now.tris.now drawn.now.paints.now (seen_of self from.old colours.old) (seen_of self from.new colours.new) }
+        ensures none { result ≡ false → NoneLeft drawn.now.tris.now (seen_of self from.old colours.old) }
+        ensures some { result ≡ true → SomeLeft drawn.now.tris.now (seen_of self from.old colours.old) }
     {
         self.offer_all(drawn.tris, from, best);
         take_colours(drawn.paints, best, colours);
@@ -93,8 +94,8 @@ impl Samples {
         requires best { length best.old ≡ count_of self.region self.pattern }
         requires colours { length colours.old ≡ count_of self.region self.pattern }
         ensures sizes { (length from.new ≡ length from.old) × (length best.new ≡ length best.old) × (length colours.new ≡ length colours.old) }
-        ensures takes { Takes drawn.now.tris.now drawn.now.paints.now (layers_of self.region self.pattern from.old colours.old) (layers_of self.region self.pattern from.new colours.new) }
-        ensures none { result ≡ false → (j : ℕ) → j < count_of self.region self.pattern → has_left drawn.now.tris.now (layers_of self.region self.pattern from.old colours.old) j ≡ false }
+        ensures takes { Takes drawn.now.tris.now drawn.now.paints.now (seen_of self from.old colours.old) (seen_of self from.new colours.new) }
+        ensures none { result ≡ false → NoneLeft drawn.now.tris.now (seen_of self from.old colours.old) }
     {
         self.offer_members(drawn.tris, members, from, best);
         take_colours(drawn.paints, best, colours);

@@ -1,24 +1,24 @@
-use Rattle.std.proofs.Common.{◌≡◌, ◌∙◌, ◌<◌, ℕ, Bool, false, true, suc, sym, subst}
+use Rattle.std.proofs.Common.{◌≡◌, ◌∙◌, sym, subst}
 use Rattle.std.specs.Vec.{with_items}
 use Rattle.std.proofs.lemmas.List.{with_items_is}
-use Rattle.abuf_peel.specs.Layers.{Layers, StandsFor, Takes, count_of, has_left, layers_of}
+use Rattle.abuf_peel.specs.Layers.{NoneLeft, Peeled, SomeLeft, Takes, peeled_of}
 use Rattle.abuf_peel.proofs.Standing.{stands_next}
 use Rattle.abuf_peel.proofs.layer.Layer.step.Goals as goal
 use Rattle.abuf_peel.proofs.layer.Layer.step.Goals.{After-take_next}
 
 -- What the parts of the layer show is what was seen of it.
-seen : (c : After-take_next) → layers_of c.self.inside.region c.self.inside.pattern c.deref_mut.result.now c.deref_mut-3.result.now ≡ c.args.self.now
-seen c = (λ i. layers_of c.self.inside.region c.self.inside.pattern (c.deref_mut.ensures.value i) (c.deref_mut-3.ensures.value i)) ∙ c.self.view_is
+seen : (c : After-take_next) → peeled_of c.self.inside.region c.self.inside.pattern c.deref_mut.result.now c.deref_mut-3.result.now ≡ c.args.self.now
+seen c = (λ i. peeled_of c.self.inside.region c.self.inside.pattern (c.deref_mut.ensures.value i) (c.deref_mut-3.ensures.value i)) ∙ c.self.view_is
 
 -- So it is after the step.
-after : (c : After-take_next) → layers_of c.self.inside.region c.self.inside.pattern c.take_next.new.from c.take_next.new.colours ≡ layers_of c.self.inside.region c.self.inside.pattern (with_items c.self.inside.from c.take_next.new.from).items (with_items c.self.inside.colours c.take_next.new.colours).items
-after c = λ i. layers_of c.self.inside.region c.self.inside.pattern (sym (with_items_is c.self.inside.from c.take_next.new.from (c.take_next.ensures.sizes.0 ∙ c.deref_mut.ensures.len)) i) (sym (with_items_is c.self.inside.colours c.take_next.new.colours (c.take_next.ensures.sizes.2 ∙ c.deref_mut-3.ensures.len)) i)
+after : (c : After-take_next) → peeled_of c.self.inside.region c.self.inside.pattern c.take_next.new.from c.take_next.new.colours ≡ peeled_of c.self.inside.region c.self.inside.pattern (with_items c.self.inside.from c.take_next.new.from).items (with_items c.self.inside.colours c.take_next.new.colours).items
+after c = λ i. peeled_of c.self.inside.region c.self.inside.pattern (sym (with_items_is c.self.inside.from c.take_next.new.from (c.take_next.ensures.sizes.0 ∙ c.deref_mut.ensures.len)) i) (sym (with_items_is c.self.inside.colours c.take_next.new.colours (c.take_next.ensures.sizes.2 ∙ c.deref_mut-3.ensures.len)) i)
 
 -- Every sample takes its next primitive.
-takes : (c : After-take_next) → Takes c.args.tris.now c.args.paints.now c.args.self.now (layers_of c.self.inside.region c.self.inside.pattern (with_items c.self.inside.from c.take_next.new.from).items (with_items c.self.inside.colours c.take_next.new.colours).items)
+takes : (c : After-take_next) → Takes c.args.tris.now c.args.paints.now c.args.self.now (peeled_of c.self.inside.region c.self.inside.pattern (with_items c.self.inside.from c.take_next.new.from).items (with_items c.self.inside.colours c.take_next.new.colours).items)
 takes c =
     subst (Takes c.args.tris.now c.args.paints.now c.args.self.now) (after c)
-    (subst (λ (l : Layers). Takes c.args.tris.now c.args.paints.now l (layers_of c.self.inside.region c.self.inside.pattern c.take_next.new.from c.take_next.new.colours)) (seen c) c.take_next.ensures.takes)
+    (subst (λ (l : Peeled). Takes c.args.tris.now c.args.paints.now l (peeled_of c.self.inside.region c.self.inside.pattern c.take_next.new.from c.take_next.new.colours)) (seen c) c.take_next.ensures.takes)
 
 pub returns-clause-takes : goal.returns-clause-takes
 returns-clause-takes c = takes ((goal.at.returns-clause-takes c).After-take_next)
@@ -26,7 +26,7 @@ returns-clause-takes c = takes ((goal.at.returns-clause-takes c).After-take_next
 pub returns-clause-none : goal.returns-clause-none
 returns-clause-none c = λ e.
     let d = (goal.at.returns-clause-none c).After-take_next in
-    subst (λ (l : Layers). (j : ℕ) → j < count_of l.region l.pattern → has_left c.args.tris.now l j ≡ false) (seen d) (c.take_next.ensures.none e)
+    subst (NoneLeft c.args.tris.now) (seen d) (c.take_next.ensures.none e)
 
 pub returns-clause-layers : goal.returns-clause-layers
 returns-clause-layers c = λ background n p. stands_next background c.args.tris.now c.args.paints.now n c.args.self.now _ (takes ((goal.at.returns-clause-layers c).After-take_next)) p
@@ -34,4 +34,4 @@ returns-clause-layers c = λ background n p. stands_next background c.args.tris.
 pub returns-clause-some : goal.returns-clause-some
 returns-clause-some c = λ e.
     let d = (goal.at.returns-clause-some c).After-take_next in
-    subst (λ (l : Layers). (j : ℕ) × (j < count_of l.region l.pattern) × (has_left c.args.tris.now l j ≡ true)) (seen d) (c.take_next.ensures.some e)
+    subst (SomeLeft c.args.tris.now) (seen d) (c.take_next.ensures.some e)

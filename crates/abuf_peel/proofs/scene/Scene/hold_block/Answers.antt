@@ -1,4 +1,4 @@
-use Rattle.std.proofs.Common.{◌≡◌, ◌∙◌, ◌<◌, List, ℕ, length, All, sym, subst}
+use Rattle.std.proofs.Common.{◌<◌, List, ℕ, length, All, sym, subst}
 use Rattle.abuf_raster.specs.Samples.{offsets_of}
 use Rattle.abuf_peel.proofs.Chosen.{all_numbers}
 use Rattle.abuf_peel.proofs.scene.Scene.hold_block.Goals as goal

@@ -1,9 +1,9 @@
-use Rattle.std.proofs.Common.{◌≡◌, ◌∙◌, ap, ap₂, sym}
+use Rattle.std.proofs.Common.{◌≡◌, ◌∙◌, ap, ap₂}
 use Rattle.abuf_raster.specs.declared.region.Region.{Region}
 use Rattle.abuf_raster.specs.declared.pattern.Pattern.{Pattern}
 use Rattle.abuf_raster.specs.Samples.{offsets_of}
 use Rattle.abuf_resolve.specs.Sums.{region_sums}
-use Rattle.abuf_peel.specs.Layers.{Layers}
+use Rattle.abuf_peel.specs.Layers.{Peeled}
 use Rattle.abuf_peel.specs.Rows.{row_of}
 use Rattle.abuf_peel.proofs.Standing.{sums_whole}
 use Rattle.abuf_peel.proofs.scene.Scene.row_sums.Goals as goal
@@ -12,9 +12,9 @@ pub returns-clause-value : goal.returns-clause-value
 returns-clause-value c =
     let a = c.args in
     let scene = a.self.now in
-    let l : Layers = c.exhaust.new.layer in
-    let region : l.region ≡ row_of scene.width a.y = c.exhaust.ensures.region ∙ (ap (λ (k : Layers). k.region) c.in_ok-layer.ensures ∙ c.row_of-row.ensures.value) in
-    let pattern : l.pattern ≡ scene.pattern = c.exhaust.ensures.pattern ∙ ap (λ (k : Layers). k.pattern) c.in_ok-layer.ensures in
+    let l : Peeled = c.exhaust.new.layer in
+    let region : l.region ≡ row_of scene.width a.y = c.exhaust.ensures.region ∙ (ap (λ (k : Peeled). k.region) c.in_ok-layer.ensures.value ∙ c.row_of-row.ensures.value) in
+    let pattern : l.pattern ≡ scene.pattern = c.exhaust.ensures.pattern ∙ ap (λ (k : Peeled). k.pattern) c.in_ok-layer.ensures.value in
     c.in_ok-sums.ensures.value
     ∙ (sums_whole scene.background scene.tris.now scene.paints.now l c.exhaust.ensures.whole
     ∙ ap₂ (λ (q : Pattern) (r : Region). region_sums (offsets_of q) scene.background scene.tris.now scene.paints.now r) pattern region)
