@@ -1,9 +1,8 @@
 -- When a run hands its frame back.
-use Rattle.std.proofs.Common.{◌≡◌, ◌⊎◌, inl, inr, ℕ, Bool, true, false, List, Option, Some, None, Result, Ok, Err, MatchResult, refl, sym, subst, ◌∙◌, true≢false, arith}
+use Rattle.std.proofs.Common.{◌≡◌, ◌⊎◌, inl, inr, ℕ, Bool, true, false, Option, None, Result, Ok, Err, MatchResult, refl, sym, subst, ◌∙◌, true≢false, arith}
 use Rattle.std.specs.Prelude.{IsSome, IsNone, ◌↔◌}
 use Rattle.std.specs.Io.KnownBytes.{Keeps}
 use Rattle.abuf_frame.specs.Closing.{Ended}
-use Rattle.abuf_top.specs.Image.{Drawing}
 use Rattle.abuf_top.specs.Verdict.{Verdict}
 use Rattle.abuf_top.specs.Table.{Taken}
 use Rattle.abuf_top.specs.Ending.{Finished, StopsDrawing, HasFrame, HandsBack, Reports}

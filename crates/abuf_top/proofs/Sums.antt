@@ -1,7 +1,6 @@
 -- The sums of a drawing: one for each pixel.
 use Rattle.std.proofs.Common.{◌≡◌, ◌*◌, length}
 use Rattle.std.proofs.lemmas.List.FromFn.{length-map-range_with_len}
-use Rattle.abuf_raster.specs.Samples.{offsets_of}
 use Rattle.abuf_top.specs.Image.{Drawing, sums}
 
 pub sums_long : (d : Drawing) → length (sums d) ≡ d.job.camera.width * d.job.camera.height

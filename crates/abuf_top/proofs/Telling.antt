@@ -1,5 +1,5 @@
 -- What is told of the source and of the shelf, and what follows for the lines of the verdict.
-use Rattle.std.proofs.Common.{◌≡◌, ◌⊎◌, inl, inr, ◌+◌, ◌++◌, ◌∷◌, [], ◌≤◌, ℕ, Bool, true, false, List, Option, Some, None, option_map, option_and_then, Result, Ok, Err, IfSome, refl, sym, ap, ◌∙◌, subst, append-nil, arith}
+use Rattle.std.proofs.Common.{◌≡◌, ◌+◌, ◌++◌, ◌∷◌, [], ◌≤◌, ℕ, Bool, true, false, List, Option, Some, None, option_map, option_and_then, Result, Ok, Err, IfSome, refl, sym, ap, ◌∙◌, subst, append-nil, arith}
 use Rattle.std.specs.Io.KnownBytes.{Consumes, IsAtEnd}
 use Rattle.abuf_io.specs.Causes.{Rose}
 use Rattle.abuf_obj.specs.Scene.{names}

@@ -2,6 +2,7 @@
 ghost use Rattle.std.specs.Prelude.{◌≡◌, ◌≤◌, ◌∷◌, [], IfOk, IfErr, IfSome, Some, length, codes};
 ghost use Rattle.abuf_io.specs.Memory.{steady_pairs};
 ghost use Rattle.abuf_scene.specs.Demo.{obj};
+ghost use Rattle.abuf_cli.specs.Sound.{IsJob};
 ghost use Rattle.abuf_top.specs.Demonstration.{demo_shelf};
 ghost use Rattle.abuf_top.specs.Stopped.{HasReadCause};
 ghost use Rattle.abuf_top.specs.Verdict.{scene_line};
@@ -15,6 +16,7 @@ use abuf_num::{List, NoMemory};
 use abuf_scene::make;
 use abuf_view::Projected;
 use std::alloc::Global;
+use std::thread::Threads;
 
 // A shelf of one library, under the name that the scene has for it.
 fn library_shelf(alloc: Global, library: List<u8>) -> Result<SteadyShelf, NoMemory>
@@ -27,8 +29,14 @@ fn library_shelf(alloc: Global, library: List<u8>) -> Result<SteadyShelf, NoMemo
 }
 
 /// The primitives of the demonstration scene of so many triangles.
-pub fn demonstrate(alloc: Global, job: &Job, number: u32) -> Result<Projected, Stop>
-    requires { (1 ≤ number) × (number ≤ 200000) }
+pub fn demonstrate<R: Threads + Sync>(
+    rt: &R,
+    alloc: Global,
+    job: &Job,
+    number: u32,
+) -> Result<Projected, Stop>
+    requires job { IsJob job.now }
+    requires number { (1 ≤ number) × (number ≤ 200000) }
     ensures told { IfSome (scene_line job.now (Some demo_shelf) (obj number)) (λ line. Prepares line ⊥ job.now result) }
     ensures cause { IfErr result (HasReadCause ⊥) }
     ensures one_length { IfOk result (λ p. length p.tris ≡ length p.paints) }
@@ -40,5 +48,5 @@ pub fn demonstrate(alloc: Global, job: &Job, number: u32) -> Result<Projected, S
     let Ok(mut shelf) = library_shelf(alloc, made.library) else {
         return Err(Stop::Memory);
     };
-    read_text(alloc, job, made.obj, &mut shelf)
+    read_text(rt, alloc, job, made.obj, &mut shelf)
 }

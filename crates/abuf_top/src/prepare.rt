@@ -27,6 +27,7 @@ use abuf_obj::{Obj, ObjFault, read_obj};
 use abuf_scene::SceneFault;
 use abuf_view::{Projected, project_faces};
 use std::alloc::Global;
+use std::thread::Threads;
 
 impl From<ReadEnd> for Stop {
     ghost use Rattle.abuf_top.specs.Ends.{read_stop};
@@ -83,19 +84,33 @@ impl From<WordFault> for Stop {
 }
 
 // The primitives of a scene whose libraries are read. What was read of the file is then let go.
-fn show(alloc: Global, job: &Job, obj: Obj, materials: &Materials) -> Result<Projected, Stop>
+fn show<R: Threads + Sync>(
+    rt: &R,
+    alloc: Global,
+    job: &Job,
+    obj: Obj,
+    materials: &Materials,
+) -> Result<Projected, Stop>
+    requires job { IsJob job.now }
     requires scene { IsScene obj }
     ensures told { (libraries : Items (Items ℕ)) → StandsFor libraries materials.now → Prepares (material_line job.now obj libraries) ⊥ job.now result }
     ensures cause { IfErr result (HasReadCause ⊥) }
     ensures one_length { IfOk result (λ p. length p.tris ≡ length p.paints) }
     ensures few { IfOk result (λ p. length p.tris ≤ 2097152) }
 {
-    let shown = project_faces(alloc, &obj, materials, &job.camera)?;
+    let shown = project_faces(rt, alloc, &obj, materials, &job.camera, job.threads)?;
     Ok(shown)
 }
 
 // The primitives of a scene whose libraries are yet to be read.
-fn furnish<H: Shelf>(alloc: Global, job: &Job, obj: Obj, shelf: &mut H) -> Result<Projected, Stop>
+fn furnish<R: Threads + Sync, H: Shelf>(
+    rt: &R,
+    alloc: Global,
+    job: &Job,
+    obj: Obj,
+    shelf: &mut H,
+) -> Result<Projected, Stop>
+    requires job { IsJob job.now }
     requires scene { IsScene obj }
     ensures told { H.tells shelf.old ≡ true → Prepares (library_line job.now obj (H.holds shelf.old)) (Rose (H.faults shelf.old) (H.faults shelf.new)) job.now result }
     ensures none { obj.libraries ≡ [] → Prepares (material_line job.now obj []) ⊥ job.now result }
@@ -107,7 +122,7 @@ fn furnish<H: Shelf>(alloc: Global, job: &Job, obj: Obj, shelf: &mut H) -> Resul
     ensures few { IfOk result (λ p. length p.tris ≤ 2097152) }
 {
     let materials = read_libraries(alloc, shelf, obj.libraries.as_slice())?;
-    show(alloc, job, obj, &materials)
+    show(rt, alloc, job, obj, &materials)
 }
 
 // The scene that these bytes define. They are let go once they are read.
@@ -125,13 +140,15 @@ fn read_list(alloc: Global, bytes: List<u8>) -> Result<Obj, ObjFault>
 }
 
 // The primitives of the scene that these bytes define.
-fn read_bytes<H: Shelf>(
+fn read_bytes<R: Threads + Sync, H: Shelf>(
+    rt: &R,
     alloc: Global,
     job: &Job,
     bytes: List<u8>,
     shelf: &mut H,
 ) -> Result<Projected, Stop>
-    requires { length bytes ≤ 67108864 }
+    requires job { IsJob job.now }
+    requires size { length bytes ≤ 67108864 }
     ensures told { IfSome (fault_line job.now (scene_of bytes) (told_by (H.tells shelf.old) (H.holds shelf.old)) (obj_fault bytes)) (λ line. Prepares line (Rose (H.faults shelf.old) (H.faults shelf.new)) job.now result) }
     ensures cause { IfErr result (HasReadCause (Rose (H.faults shelf.old) (H.faults shelf.new))) }
     ensures calls { IfSome (fault_fetches (libraries bytes) (told_by (H.tells shelf.old) (H.holds shelf.old)) (obj_fault bytes)) (CallsAtMost (H.calls shelf.old) (H.calls shelf.new) (H.faults shelf.old) (H.faults shelf.new)) }
@@ -140,16 +157,18 @@ fn read_bytes<H: Shelf>(
     ensures few { IfOk result (λ p. length p.tris ≤ 2097152) }
 {
     let obj = read_list(alloc, bytes)?;
-    furnish(alloc, job, obj, shelf)
+    furnish(rt, alloc, job, obj, shelf)
 }
 
 /// The primitives of the scene that these bytes define, unless they are too many.
-pub fn read_text<H: Shelf>(
+pub fn read_text<R: Threads + Sync, H: Shelf>(
+    rt: &R,
     alloc: Global,
     job: &Job,
     bytes: List<u8>,
     shelf: &mut H,
 ) -> Result<Projected, Stop>
+    requires { IsJob job.now }
     ensures told { IfSome (scene_line job.now (told_by (H.tells shelf.old) (H.holds shelf.old)) bytes) (λ line. Prepares line (Rose (H.faults shelf.old) (H.faults shelf.new)) job.now result) }
     ensures cause { IfErr result (HasReadCause (Rose (H.faults shelf.old) (H.faults shelf.new))) }
     ensures one_length { IfOk result (λ p. length p.tris ≡ length p.paints) }
@@ -158,16 +177,18 @@ pub fn read_text<H: Shelf>(
     if bytes.as_slice().len() as u64 > MOST_BYTES {
         return Err(Stop::Refused(Refusal::SceneTooLong));
     }
-    read_bytes(alloc, job, bytes, shelf)
+    read_bytes(rt, alloc, job, bytes, shelf)
 }
 
 /// The primitives of the scene that the source has left.
-pub fn read_scene<S: Source, H: Shelf>(
+pub fn read_scene<R: Threads + Sync, S: Source, H: Shelf>(
+    rt: &R,
     alloc: Global,
     job: &Job,
     scene: &mut S,
     shelf: &mut H,
 ) -> Result<Projected, Stop>
+    requires { IsJob job.now }
     ensures told { IfSome (option_and_then (scene_line job.now (told_by (H.tells shelf.old) (H.holds shelf.old))) (S.left scene.old)) (λ line. Prepares line (Rose (S.faults scene.old) (S.faults scene.new) ⊎ Rose (H.faults shelf.old) (H.faults shelf.new)) job.now result) }
     ensures cause { IfErr result (HasReadCause (Rose (S.faults scene.old) (S.faults scene.new) ⊎ Rose (H.faults shelf.old) (H.faults shelf.new))) }
     ensures calls { IfSome (option_and_then (scene_fetches (told_by (H.tells shelf.old) (H.holds shelf.old))) (S.left scene.old)) (CallsAtMost (H.calls shelf.old) (H.calls shelf.new) (H.faults shelf.old) (H.faults shelf.new)) }
@@ -175,11 +196,12 @@ pub fn read_scene<S: Source, H: Shelf>(
     ensures few { IfOk result (λ p. length p.tris ≤ 2097152) }
 {
     let bytes = read_all(alloc, scene, MOST_BYTES)?;
-    read_bytes(alloc, job, bytes, shelf)
+    read_bytes(rt, alloc, job, bytes, shelf)
 }
 
 // The primitives of the job's scene: `demo` has its own, and calls neither the source nor the shelf.
-fn primitives_of<S: Source, H: Shelf>(
+fn primitives_of<R: Threads + Sync, S: Source, H: Shelf>(
+    rt: &R,
     alloc: Global,
     job: &Job,
     scene: &mut S,
@@ -194,15 +216,16 @@ fn primitives_of<S: Source, H: Shelf>(
     ensures few { IfOk result (λ p. length p.tris ≤ 2097152) }
 {
     match job.what {
-        What::Render | What::Pick { .. } => read_scene(alloc, job, scene, shelf),
-        What::Demo { number } => demonstrate(alloc, job, number),
+        What::Render | What::Pick { .. } => read_scene(rt, alloc, job, scene, shelf),
+        What::Demo { number } => demonstrate(rt, alloc, job, number),
     }
 }
 
 /// Reads the words, the scene and its libraries, and projects the scene: all that comes before the drawing, up to the first
 /// refusal. Where the words give no job, and for `demo`, the source isn't called.
 #[tactic(auto, unfolding(crate::specs::Verdict::drawing, crate::specs::Fetches::fetches))]
-pub fn prepare<S: Source, H: Shelf>(
+pub fn prepare<R: Threads + Sync, S: Source, H: Shelf>(
+    rt: &R,
     alloc: Global,
     words: &[String],
     scene: &mut S,
@@ -215,6 +238,6 @@ pub fn prepare<S: Source, H: Shelf>(
     ensures words { IfOk result (λ d. job (map string_bytes words.now) ≡ Ok d.job) }
 {
     let job = read_words(alloc, words)?;
-    let shown = primitives_of(alloc, &job, scene, shelf)?;
+    let shown = primitives_of(rt, alloc, &job, scene, shelf)?;
     Ok(Drawing::new(job, shown))
 }

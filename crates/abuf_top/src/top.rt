@@ -130,7 +130,7 @@ pub fn run_with<R: Threads + Sync, S: Source, H: Shelf, O: Sink, E: Sink, G: Gat
     ensures source { NeedsNoSource (job (map string_bytes words.now)) → (S.left scene.new ≡ S.left scene.old) × (S.faults scene.new ≡ S.faults scene.old) }
     ensures calls { IfSome (fetches (map string_bytes words.now) (S.left scene.old) (told_by (H.tells shelf.old) (H.holds shelf.old))) (CallsAtMost (H.calls shelf.old) (H.calls shelf.new) (H.faults shelf.old) (H.faults shelf.new)) }
 {
-    match prepare(alloc, words, scene, shelf) {
+    match prepare(rt, alloc, words, scene, shelf) {
         Ok(drawing) => {
             let ended = finish(rt, alloc, &drawing, out, gate);
             conclude(alloc, ended, err)

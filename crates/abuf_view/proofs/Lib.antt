@@ -5,3 +5,4 @@ pub mod Cutting
 pub mod Ring
 pub mod Quotients
 pub mod Fans
+pub mod Together

@@ -1,15 +1,13 @@
-// The primitives of a file's faces, without a list of their triangles.
-ghost use Rattle.std.specs.Prelude.{◌≡◌, ◌≤◌, ◌<◌, ◌++◌, All, List as Items, ℕ, length, map, None, OnOk, IfOk, IfErr};
-ghost use Rattle.abuf_obj.specs.Sound.{IsFace, IsNear, IsScene};
-ghost use Rattle.abuf_mtl.specs.StandsFor.{StandsFor};
-ghost use Rattle.abuf_scene.specs.Triangles.{fan, paint_by, triangles_of, triangles_by, unknown_by, triangles, unknown, Tells};
+// The primitives of faces, without a list of their triangles.
+ghost use Rattle.std.specs.Prelude.{◌≡◌, ◌≤◌, ◌<◌, ◌++◌, All, length, flat_map, None, OnOk, IfOk, IfErr};
+ghost use Rattle.abuf_obj.specs.Sound.{IsFace, IsNear};
+ghost use Rattle.abuf_scene.specs.Triangles.{fan, paint_by, triangles_of, Tells};
 ghost use Rattle.abuf_scene.specs.Lookup.{look_up, line_if_none};
 ghost use Rattle.abuf_view.specs.Eye.{IsEye, tris_by, paints_by};
-ghost use Rattle.abuf_view.specs.Primitives.{prims};
+ghost use Rattle.abuf_view.specs.Runs.{unknown_in};
 
 use crate::projection::Projected;
 use crate::seeing::Eye;
-use crate::viewpoint::Camera;
 use abuf_mtl::Materials;
 use abuf_num::{List, NoMemory, Paint};
 use abuf_obj::{Face, Obj};
@@ -65,48 +63,28 @@ impl Projected {
     }
 }
 
-// The primitives of all faces as the eye sees them, by the paints that the materials have.
-fn all_faces(
+// The primitives of a run of the file's faces as the eye sees them, by the paints that the materials have.
+pub fn project_run(
     alloc: Global,
     eye: &Eye,
     obj: &Obj,
     materials: &Materials,
+    faces: &[Face],
 ) -> Result<Projected, SceneFault>
     requires eye { IsEye eye.now }
-    requires faces { All (IsFace (length obj.now.points) (length obj.now.names)) obj.now.faces }
+    requires faces { All (IsFace (length obj.now.points) (length obj.now.names)) faces.now }
     requires near { All IsNear obj.now.points }
-    ensures fault { IfErr result (Tells (unknown_by (look_up materials.now) obj.now)) }
-    ensures known { OnOk result (unknown_by (look_up materials.now) obj.now ≡ None) }
-    ensures tris { IfOk result (λ p. p.tris ≡ tris_by eye.now (triangles_by (look_up materials.now) obj.now)) }
-    ensures paints { IfOk result (λ p. p.paints ≡ paints_by eye.now (triangles_by (look_up materials.now) obj.now)) }
+    ensures fault { IfErr result (Tells (unknown_in (look_up materials.now) obj.now.names faces.now)) }
+    ensures known { OnOk result (unknown_in (look_up materials.now) obj.now.names faces.now ≡ None) }
+    ensures tris { IfOk result (λ p. p.tris ≡ tris_by eye.now (flat_map (triangles_of (look_up materials.now) obj.now) faces.now)) }
+    ensures paints { IfOk result (λ p. p.paints ≡ paints_by eye.now (flat_map (triangles_of (look_up materials.now) obj.now) faces.now)) }
 {
     let mut made = Projected {
         tris: List::new(alloc),
         paints: List::new(alloc),
     };
-    for face in obj.faces.as_slice() {
+    for face in faces {
         made.push_face(eye, obj, materials, face)?;
     }
-    Ok(made)
-}
-
-/// What [`assemble`](abuf_scene::assemble) and then [`project`](crate::project) give: the primitives of the faces' triangles, in order,
-/// or the line of the first face whose name has no material. No list of the triangles is made, which would take 80 bytes each.
-pub fn project_faces(
-    alloc: Global,
-    obj: &Obj,
-    materials: &Materials,
-    camera: &Camera,
-) -> Result<Projected, SceneFault>
-    requires { IsScene obj.now }
-    ensures fault { (libraries : Items (Items ℕ)) → StandsFor libraries materials.now → IfErr result (Tells (unknown libraries obj.now)) }
-    ensures known { (libraries : Items (Items ℕ)) → StandsFor libraries materials.now → OnOk result (unknown libraries obj.now ≡ None) }
-    ensures tris { (libraries : Items (Items ℕ)) → StandsFor libraries materials.now → IfOk result (λ p. p.tris ≡ map (λ q. q.triangle) (prims camera.now (triangles libraries obj.now))) }
-    ensures paints { (libraries : Items (Items ℕ)) → StandsFor libraries materials.now → IfOk result (λ p. p.paints ≡ map (λ q. q.paint) (prims camera.now (triangles libraries obj.now))) }
-    ensures one_length { IfOk result (λ p. length p.tris ≡ length p.paints) }
-    ensures few { IfOk result (λ p. length p.tris ≤ 2097152) }
-{
-    let eye = camera.eye();
-    let made = all_faces(alloc, &eye, obj, materials)?;
     Ok(made)
 }

@@ -7,13 +7,15 @@ pub mod laws;
 mod numbers;
 mod projection;
 mod quotient;
+mod runs;
 mod screen;
 mod seeing;
 #[cfg(test)]
 mod tests;
+mod threads;
 mod viewpoint;
 
 pub use clipping::{Corners, Seen};
-pub use faces::project_faces;
 pub use projection::{Projected, project};
+pub use threads::project_faces;
 pub use viewpoint::Camera;

@@ -4,6 +4,7 @@ ghost use Rattle.abuf_obj.specs.Sound.{IsNear};
 ghost use Rattle.abuf_scene.specs.Triangles.{IsNearTriangle};
 ghost use Rattle.abuf_raster.specs.Region.{IsRegion};
 
+use crate::threads::{all_faces, faces_per_run};
 use crate::{Camera, Projected, project, project_faces};
 use abuf_mtl::{Materials, read_mtl};
 use abuf_num::{List, NoMemory, Paint};
@@ -12,6 +13,7 @@ use abuf_raster::{Pattern, Region, TileWalk, depth_at, mask_at};
 use abuf_scene::{Scene, SceneFault, Triangle};
 use std::alloc::Global;
 use std::test::Fail;
+use std::thread::Threads;
 
 const WHITE: Paint = Paint {
     colour: [65535; 3],
@@ -190,7 +192,8 @@ fn farthest_shifts(rt: HostRuntime) -> Result<(), Fail> {
 const SQUARE: &[u8] = b"v -4 4 0\nv 4 4 0\nv 4 -4 0\nv -4 -4 0\nf 1 2 4\nusemtl red\nf 2 3 4";
 
 // What a camera sees of the square, by the materials of this library.
-fn seen_by_faces(
+fn seen_by_faces<R: Threads + Sync>(
+    rt: &R,
     alloc: Global,
     camera: &Camera,
     library: &[u8],
@@ -200,7 +203,7 @@ fn seen_by_faces(
         return None;
     }
     match read_obj(alloc, SQUARE) {
-        Ok(obj) => Some(project_faces(alloc, &obj, &materials, camera)),
+        Ok(obj) => Some(project_faces(rt, alloc, &obj, &materials, camera, 2)),
         Err(_) => None,
     }
 }
@@ -208,7 +211,7 @@ fn seen_by_faces(
 #[test]
 fn faces_have_the_paint_of_their_material(rt: HostRuntime) -> Result<(), Fail> {
     let camera = front().ok_or("camera")?;
-    match seen_by_faces(rt.alloc(), &camera, b"newmtl red\nKd 1 0 0\nd 0.5") {
+    match seen_by_faces(&rt, rt.alloc(), &camera, b"newmtl red\nKd 1 0 0\nd 0.5") {
         Some(Ok(shown)) => {
             let red = Paint {
                 colour: [65535, 0, 0],
@@ -231,8 +234,81 @@ fn faces_have_the_paint_of_their_material(rt: HostRuntime) -> Result<(), Fail> {
 #[test]
 fn face_of_an_unknown_material_is_told(rt: HostRuntime) -> Result<(), Fail> {
     let camera = front().ok_or("camera")?;
-    match seen_by_faces(rt.alloc(), &camera, b"newmtl blue") {
+    match seen_by_faces(&rt, rt.alloc(), &camera, b"newmtl blue") {
         Some(Err(fault)) => assert!(rt; fault == SceneFault::UnknownMaterial { line: 7 }),
+        _ => assert!(rt; false),
+    }
+    Ok(())
+}
+
+// Five faces, each with a material of its own. The second has two triangles.
+const FIVE: &[u8] =
+    b"v -4 4 0\nv 4 4 0\nv 4 -4 0\nv -4 -4 0\nusemtl a\nf 1 2 4\nusemtl b\nf 2 3 4 1\nusemtl c\nf 2 3 4\nusemtl d\nf 1 2 3\nusemtl e\nf 1 3 4";
+
+// What a camera sees of the five faces in runs of so many, by the materials of this library.
+fn seen_in_runs<R: Threads + Sync>(
+    rt: &R,
+    alloc: Global,
+    camera: &Camera,
+    library: &[u8],
+    per_run: usize,
+) -> Option<Result<Projected, SceneFault>>
+    requires { 1 ≤ per_run }
+{
+    let mut materials = Materials::new(alloc);
+    if library.len() > 1000 || read_mtl(alloc, library, &mut materials).is_err() {
+        return None;
+    }
+    match read_obj(alloc, FIVE) {
+        Ok(obj) => Some(all_faces(rt, alloc, &camera.eye(), &obj, &materials, per_run)),
+        Err(_) => None,
+    }
+}
+
+fn grey(level: u16) -> Paint {
+    Paint {
+        colour: [level; 3],
+        alpha: 65535,
+    }
+}
+
+const GREYS: &[u8] =
+    b"newmtl a\nKd 0 0 0\nnewmtl b\nKd 0.2 0.2 0.2\nnewmtl c\nKd 0.4 0.4 0.4\nnewmtl d\nKd 0.6 0.6 0.6\nnewmtl e\nKd 0.8 0.8 0.8";
+
+// The faces cover the square three times.
+#[test]
+fn three_workers_give_all_primitives_in_order(rt: HostRuntime) -> Result<(), Fail> {
+    let camera = front().ok_or("camera")?;
+    let per_run = faces_per_run(5, 1, 3);
+    assert!(rt; per_run == 2);
+    match seen_in_runs(&rt, rt.alloc(), &camera, GREYS, per_run) {
+        Some(Ok(shown)) => {
+            let paints = [
+                grey(0),
+                grey(13107),
+                grey(13107),
+                grey(26214),
+                grey(39321),
+                grey(52428),
+            ];
+            assert!(rt; shown.paints.as_slice() == paints.as_slice());
+            assert!(rt; shown.tris.as_slice().len() == 6);
+            for x in 0..4 {
+                for y in 0..4 {
+                    assert!(rt; covering(&shown, x, y) == 3);
+                }
+            }
+        }
+        _ => assert!(rt; false),
+    }
+    Ok(())
+}
+
+#[test]
+fn first_of_several_unknown_materials_is_told(rt: HostRuntime) -> Result<(), Fail> {
+    let camera = front().ok_or("camera")?;
+    match seen_in_runs(&rt, rt.alloc(), &camera, b"newmtl a\nnewmtl b\nnewmtl c", 2) {
+        Some(Err(fault)) => assert!(rt; fault == SceneFault::UnknownMaterial { line: 12 }),
         _ => assert!(rt; false),
     }
     Ok(())

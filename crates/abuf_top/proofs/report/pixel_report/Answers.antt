@@ -1,10 +1,10 @@
-use Rattle.std.proofs.Common.{◌≡◌, ◌+◌, ◌*◌, ◌/◌, ◌%◌, ◌∙◌, All, List, ℕ, sym, subst}
+use Rattle.std.proofs.Common.{◌+◌, ◌*◌, ◌/◌, ◌%◌, ◌∙◌, All, List, ℕ, sym, subst}
 use Rattle.std.specs.List.Sorted.{IsNonDecreasing, IsPermutation}
 use Rattle.std.proofs.lemmas.List.Sorted.{IsPermutation-sym, IsPermutation-trans, IsNonDecreasingBy-from_sort}
 use Rattle.abuf_raster.specs.Samples.{offsets_of}
 use Rattle.abuf_resolve.specs.Laws.{TellLayers}
 use Rattle.abuf_resolve.specs.Words.{IsFragmentAt}
-use Rattle.abuf_top.proofs.Lines.{column_is, row_is, place_within}
+use Rattle.abuf_top.proofs.Lines.{column_is, row_is}
 use Rattle.abuf_top.proofs.report.pixel_report.Goals as goal
 
 pub order_law-requires-clause-ascending : goal.order_law-requires-clause-ascending

@@ -1,5 +1,5 @@
 use Rattle.std.proofs.Common.{◌≡◌, Result, sym, subst}
-use Rattle.std.specs.Prelude.{IsSome, ◌↔◌, ◌⊎◌, true}
+use Rattle.std.specs.Prelude.{IsSome, ◌↔◌, ◌⊎◌}
 use Rattle.abuf_cli.specs.declared.job.Job.{Job}
 use Rattle.abuf_cli.specs.declared.job.WordFault.{WordFault}
 use Rattle.abuf_top.specs.Image.{has_one_frame}

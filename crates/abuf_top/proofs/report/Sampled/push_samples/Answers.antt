@@ -1,4 +1,4 @@
-use Rattle.std.proofs.Common.{◌≡◌, ◌∙◌, ◌++◌, ◌+◌, ℕ, List, ap, append_assoc}
+use Rattle.std.proofs.Common.{◌∙◌, ◌++◌, ℕ, List, ap, append_assoc}
 use Rattle.std.specs.String.{string_bytes}
 use Rattle.abuf_raster.specs.Samples.{offsets_of}
 use Rattle.abuf_top.specs.Report.{line_of, samples_text}

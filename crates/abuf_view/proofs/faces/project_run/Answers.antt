@@ -6,7 +6,7 @@ use Rattle.abuf_scene.specs.declared.triangles.Triangle.{Triangle}
 use Rattle.abuf_view.specs.declared.clipping.Corners.{Corners}
 use Rattle.abuf_view.specs.Eye.{clipped_by, shown_by}
 use Rattle.abuf_view.proofs.Fans.{both_made}
-use Rattle.abuf_view.proofs.faces.all_faces.Goals as goal
+use Rattle.abuf_view.proofs.faces.project_run.Goals as goal
 
 pub loop-face-preserved : goal.loop-face-preserved
 loop-face-preserved c =
@@ -14,7 +14,7 @@ loop-face-preserved c =
     let before = c.loop-face.invariant in
     let done = c.in_ok-push_face.ensures in
     let f = triangles_of (look_up c.args.materials.now) c.args.obj.now in
-    let faces = c.args.obj.now.faces in
+    let faces = c.args.faces.now in
     record {
       known = grind (arith, common_steps);
       tris = both_made (λ (t : Triangle). map (shown_by eye) (clipped_by eye t)) (flat_map f (take c.loop-face.face-index faces)) _ _ _ _ (grind (arith, common_steps)) before.tris done.tris;

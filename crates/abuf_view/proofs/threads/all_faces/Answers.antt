@@ -1,0 +1,31 @@
+use Rattle.std.proofs.Common.{List, subst, IfErr}
+use Rattle.abuf_obj.specs.declared.face.Face.{Face}
+use Rattle.abuf_scene.specs.Triangles.{Tells}
+use Rattle.abuf_scene.specs.Lookup.{look_up}
+use Rattle.abuf_view.specs.Runs.{IsRun, unknown_in}
+use Rattle.abuf_view.proofs.Together.{together}
+use Rattle.abuf_view.proofs.threads.all_faces.Goals as goal
+use Rattle.abuf_view.proofs.threads.all_faces.Goals.{After-put_together}
+use Rattle.abuf_view.proofs.threads.all_faces.Given.{Over}
+
+pub returns-then-faces-per_run-clause-fault : goal.returns-then-faces-per_run-clause-fault
+returns-then-faces-per_run-clause-fault g c =
+    subst (λ (faces : List Face). IfErr c.project_run.result (Tells (unknown_in (look_up c.args.materials.now) c.args.obj.now.names faces))) c.as_slice-faces.ensures c.project_run.ensures.fault
+
+-- The workers' runs, put together, are the run of all faces.
+all : (g : Over) (c : After-put_together g) → IsRun (look_up c.args.materials.now) c.args.obj.now c.args.eye.now c.args.obj.now.faces c.put_together.result
+all g c =
+    let put = c.put_together.ensures in
+    together (look_up c.args.materials.now) c.args.obj.now c.args.eye.now c.args.per_run c.args.obj.now.faces c.in_ok-runs.runs.items c.put_together.result c.in_ok-runs.ensures put.fault put.known put.tris put.paints
+
+pub returns-clause-fault : goal.returns-clause-fault
+returns-clause-fault g c = (all g c).fault
+
+pub returns-clause-known : goal.returns-clause-known
+returns-clause-known g c = (all g c).known
+
+pub returns-clause-tris : goal.returns-clause-tris
+returns-clause-tris g c = (all g c).tris
+
+pub returns-clause-paints : goal.returns-clause-paints
+returns-clause-paints g c = (all g c).paints

@@ -1,0 +1,115 @@
+// The primitives of a file's faces, on threads.
+ghost use Rattle.std.specs.Prelude.{◌≡◌, ◌*◌, ◌≤◌, ◌<◌, All, List as Items, ℕ, length, map, None, OnOk, IfOk, IfErr};
+ghost use Rattle.abuf_obj.specs.Sound.{IsScene};
+ghost use Rattle.abuf_mtl.specs.StandsFor.{StandsFor};
+ghost use Rattle.abuf_scene.specs.Triangles.{triangles_by, unknown_by, triangles, unknown, Tells};
+ghost use Rattle.abuf_scene.specs.Lookup.{look_up};
+ghost use Rattle.abuf_view.specs.Eye.{IsEye, tris_by, paints_by};
+ghost use Rattle.abuf_view.specs.Primitives.{prims};
+ghost use Rattle.abuf_view.specs.Runs.{AreRuns};
+
+use crate::faces::project_run;
+use crate::projection::Projected;
+use crate::runs::put_together;
+use crate::seeing::Eye;
+use crate::viewpoint::Camera;
+use abuf_mtl::Materials;
+use abuf_num::NoMemory;
+use abuf_obj::Obj;
+use abuf_scene::SceneFault;
+use std::alloc::Global;
+use std::thread::{Threads, map_chunks};
+
+// The least number of faces for each of several workers. Starting a thread takes as long as making the primitives of some
+// hundred faces.
+const LEAST_RUN: usize = 4096;
+
+// How many faces a run has, so that no worker has two runs: the longest is as short as whole faces allow, and there is one run
+// alone where two workers would have fewer than the least number each.
+pub fn faces_per_run(faces: usize, least: usize, threads: u32) -> usize
+    requires least { 1 ≤ least }
+    requires threads { (1 ≤ threads) × (threads ≤ 64) }
+    ensures some { 1 ≤ result }
+    ensures workers { faces ≤ result * threads }
+    ensures few { faces < 2 * least → faces ≤ result }
+{
+    let workers = (faces / least).clamp(1, threads as usize);
+    faces.div_ceil(workers).max(1)
+}
+
+// What the workers give of all faces, each of a run of so many.
+fn project_runs<R: Threads + Sync>(
+    rt: &R,
+    alloc: Global,
+    eye: &Eye,
+    obj: &Obj,
+    materials: &Materials,
+    per_run: usize,
+) -> Result<Vec<Result<Projected, SceneFault>>, NoMemory>
+    requires eye { IsEye eye.now }
+    requires scene { IsScene obj.now }
+    requires per_run { 1 ≤ per_run }
+    ensures { IfOk result (λ runs. AreRuns (look_up materials.now) obj.now eye.now per_run obj.now.faces runs.items) }
+{
+    let runs = map_chunks(
+        rt,
+        alloc,
+        obj.faces.as_slice(),
+        per_run,
+        &|_, run| project_run(alloc, eye, obj, materials, run),
+    )?;
+    Ok(runs)
+}
+
+// The primitives of all faces as the eye sees them, by the paints that the materials have. Where one run of so many faces has all
+// of them, no thread is started.
+pub fn all_faces<R: Threads + Sync>(
+    rt: &R,
+    alloc: Global,
+    eye: &Eye,
+    obj: &Obj,
+    materials: &Materials,
+    per_run: usize,
+) -> Result<Projected, SceneFault>
+    requires eye { IsEye eye.now }
+    requires scene { IsScene obj.now }
+    requires per_run { 1 ≤ per_run }
+    ensures fault { IfErr result (Tells (unknown_by (look_up materials.now) obj.now)) }
+    ensures known { OnOk result (unknown_by (look_up materials.now) obj.now ≡ None) }
+    ensures tris { IfOk result (λ p. p.tris ≡ tris_by eye.now (triangles_by (look_up materials.now) obj.now)) }
+    ensures paints { IfOk result (λ p. p.paints ≡ paints_by eye.now (triangles_by (look_up materials.now) obj.now)) }
+{
+    let faces = obj.faces.as_slice();
+    if faces.len() <= per_run {
+        return project_run(alloc, eye, obj, materials, faces);
+    }
+    let runs = project_runs(rt, alloc, eye, obj, materials, per_run)?;
+    put_together(alloc, runs)
+}
+
+/// What [`assemble`](abuf_scene::assemble) and then [`project`](crate::project) give: the primitives of the faces' triangles, in order,
+/// or the line of the first face whose name has no material. No list of the triangles is made, which would take 80 bytes each.
+/// The faces are shared among 1 to 64 workers, and the answer is the same for every number of them; where there are few, one
+/// worker has them all. Memory may run out at any time.
+pub fn project_faces<R: Threads + Sync>(
+    rt: &R,
+    alloc: Global,
+    obj: &Obj,
+    materials: &Materials,
+    camera: &Camera,
+    threads: u32,
+) -> Result<Projected, SceneFault>
+    requires scene { IsScene obj.now }
+    requires threads { (1 ≤ threads) × (threads ≤ 64) }
+    ensures fault { (libraries : Items (Items ℕ)) → StandsFor libraries materials.now → IfErr result (Tells (unknown libraries obj.now)) }
+    ensures known { (libraries : Items (Items ℕ)) → StandsFor libraries materials.now → OnOk result (unknown libraries obj.now ≡ None) }
+    ensures tris { (libraries : Items (Items ℕ)) → StandsFor libraries materials.now → IfOk result (λ p. p.tris ≡ map (λ q. q.triangle) (prims camera.now (triangles libraries obj.now))) }
+    ensures paints { (libraries : Items (Items ℕ)) → StandsFor libraries materials.now → IfOk result (λ p. p.paints ≡ map (λ q. q.paint) (prims camera.now (triangles libraries obj.now))) }
+    ensures one_length { IfOk result (λ p. length p.tris ≡ length p.paints) }
+    ensures few { IfOk result (λ p. length p.tris ≤ 2097152) }
+{
+    let eye = camera.eye();
+    let per_run = faces_per_run(obj.faces.as_slice().len(), LEAST_RUN, threads);
+    let made = all_faces(rt, alloc, &eye, obj, materials, per_run)?;
+    Ok(made)
+}
