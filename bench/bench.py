@@ -4,6 +4,7 @@
     bench.py [OPTIONS]              draws each scene on 1 and on 4 threads; with --shares, tells where the time goes
     bench.py --growth [OPTIONS]     doubles the work step by step, and prints the time for a unit of it
     bench.py --reading [OPTIONS]    reads several kinds of text and draws nothing
+    bench.py --stored [OPTIONS]     draws scenes in one frame, in bands, and layer by layer
 
 The scenes are written into a new folder, and of several rounds the best counts. Beside another program, which is given the same
 words and the same scene on standard input, both run in turn, and the ratio of their times is printed. README.md here tells what
@@ -253,17 +254,38 @@ def measure_reading(bench, given):
     return each(given.only or scenes.TEXTS, one)
 
 
+def measure_stored(bench, given):
+    table = Table(["scene", "threads", "stored in", "time", "of the first", "peak"], given.table)
+
+    def one(name):
+        stored = scenes.STORED[name]
+        scene = scenes.demonstration(bench.folder, stored.number)
+        outputs = set()
+        for threads in given.threads:
+            first = None
+            for way, words, nodes in stored.ways:
+                run = bench.best(scenes.Task(stored.words + words, scene, nodes), threads)[0]
+                first = first or run
+                outputs.add(run.output)
+                table.row([name, str(threads), way, milliseconds(run.seconds), f"{run.seconds / first.seconds:.2f}",
+                           mebibytes(run)])
+        if len(outputs) > 1:
+            raise Failed("the images aren't the same")
+
+    return each(given.only or scenes.STORED, one)
+
+
 # ---- words
 
 # For each kind of bench, what measures it and the names that it has.
 KINDS = {"scenes": (measure_scenes, scenes.SCENES), "growth": (measure_growth, scenes.SERIES),
-         "reading": (measure_reading, scenes.TEXTS)}
+         "reading": (measure_reading, scenes.TEXTS), "stored": (measure_stored, scenes.STORED)}
 
 
 def read_words():
     ask = argparse.ArgumentParser(description=__doc__, formatter_class=argparse.RawDescriptionHelpFormatter)
     kind = ask.add_mutually_exclusive_group()
-    for name in ("growth", "reading"):
+    for name in ("growth", "reading", "stored"):
         kind.add_argument("--" + name, dest="kind", action="store_const", const=name, default="scenes")
     ask.add_argument("--shares", action="store_true", help="print besides how the time of the scenes is shared; perf is needed")
     ask.add_argument("--functions", metavar="N", type=int, default=0, help="with --shares: and the N greatest functions of each")

@@ -9,11 +9,13 @@ import os
 import random
 import re
 import shutil
+import sys
 from typing import NamedTuple
 
 import obj_files
 
-EXAMPLES = os.path.join(os.path.dirname(os.path.dirname(os.path.abspath(__file__))), "examples")
+TOP = os.path.dirname(os.path.dirname(os.path.abspath(__file__)))
+EXAMPLES = os.path.join(TOP, "examples")
 EMPTY = "empty.obj"
 LIBRARY = "four.mtl"
 MOST_NODES = 8388608
@@ -123,6 +125,46 @@ SCENES = {
     "text": lambda folder: Task("render --size 1x1", write(folder, "text.obj", write_text), MOST_NODES),
     "lantern": lambda folder: Task(words_of("lantern"), example(folder, "lantern")),
     "white": lambda folder: Task("render --size 4x4", example(folder, "white")),
+}
+
+
+# ---- bands and layers
+
+
+def demonstration(folder, number):
+    """Writes the demonstration scene of so many triangles, with its library, and gives its name."""
+    sys.path.insert(0, os.path.join(TOP, "tools"))
+    import reference
+
+    scene, library = reference.demonstration(number)
+    for name, data in ((f"demo{number}.obj", scene), ("demo.mtl", library)):
+        with open(os.path.join(folder, name), "wb") as file:
+            file.write(data)
+    return f"demo{number}.obj"
+
+
+class Stored(NamedTuple):
+    """A scene, and the ways to store its fragments that are compared, the first of them with the others: for each its name,
+    further words, and the nodes of its pool."""
+
+    number: int
+    words: str
+    ways: list
+
+
+WHOLE = ("one frame", "", MOST_NODES)
+SIXTEEN = ("16 bands", " --bands 16", 600000)
+SIXTEEN_LARGER = ("16 bands", " --bands 16", 650000)  # the eighth has 614,215 fragments with 8 samples
+PEELED = ("layers", " --peel", 1)
+
+# Each scene: its name, and what is compared.
+STORED = {
+    "demo-1000": Stored(1000, "render --size 640x480", [WHOLE, SIXTEEN]),
+    "demo-1000-by-8": Stored(1000, "render --size 640x480 --samples 8", [WHOLE, SIXTEEN_LARGER]),
+    "demo-500": Stored(500, "render --size 160x120", [WHOLE, SIXTEEN, PEELED]),
+    "demo-500-by-8": Stored(500, "render --size 160x120 --samples 8", [WHOLE, SIXTEEN, PEELED]),
+    "demo-20000": Stored(20000, "render --size 640x480", [("32 bands", " --bands 32", MOST_NODES),
+                                                          ("120 bands", " --bands 120", MOST_NODES)]),
 }
 
 

@@ -43,7 +43,7 @@ USUAL_CASES = 2000
 MOST_FAILED = 20  # of one job, which then ends
 
 # The table of statuses, as expressions.
-VALUES = "|".join([*reference.OPTIONS, "at", "number"]).encode()
+VALUES = "|".join([*reference.OPTIONS, *reference.RENDER_OPTIONS, "at", "number"]).encode()
 CAUSES = rb"bad number|no name|too many materials"
 SCENE_CAUSES = CAUSES + rb"|unknown keyword|bad index|too few elements|too many elements" \
     rb"|too many triangles|too many points|too many libraries|unknown material"
@@ -52,7 +52,7 @@ TEXTS = {
     2: rb"words not understood|bad value: (" + VALUES + rb")",
     3: rb"scene too long|" + LINE + rb"(" + SCENE_CAUSES + rb")",
     4: rb"library [1-9][0-9]* (missing|too long|" + LINE + rb"(" + CAUSES + rb"|no material))",
-    5: rb"pool full: [1-9][0-9]* fragments, [1-9][0-9]* nodes",
+    5: rb"(pool|band [1-9][0-9]*) full: [1-9][0-9]* fragments, [1-9][0-9]* nodes",
     6: rb"read fault",
     7: rb"write fault",
     8: rb"no memory",
@@ -175,9 +175,11 @@ def fault_of(answer, job, refusal):
     if refusal is None and status != 5:
         return f"{err!r}, where the words and all lines are right"
     if status == 5:
-        fragments, nodes = map(int, re.findall(rb"[0-9]+", err))
-        if nodes != job.nodes or fragments <= nodes:
+        *band, fragments, nodes = map(int, re.findall(rb"[0-9]+", err))
+        if nodes != job.nodes or fragments <= nodes or job.peel:
             return f"{err!r} with {job.nodes} nodes"
+        if not all(job.bands and number <= job.bands for number in band) or job.bands and not band:
+            return f"{err!r} with {job.bands or 'no'} bands"
     return None
 
 

@@ -49,6 +49,7 @@ VALUES = {
     "background": ["1,1,1", "-1,2,1e3", "0.5,.5,5e-1", "32768,32768,32768", "32769,0,0", "1,1",
                    "1,1,1,1", "#fff", ""],
     "maxval": ["255", "65535", "256", "0", "0255", "65536", ""],
+    "bands": ["1", "0001", "00001", "0", "17", "4096", "4097", "9999", "-1", "1.0", ""],
 }
 POSITIONALS = {
     b"pick": ["0,0", "3,3", "0000,0", "00000,0", "4095,4095", "9999,9999", "1", "1,1,1", "1;1",
@@ -138,6 +139,8 @@ class Maker:
                 self.options.setdefault(name, self.value(name))
         if not self.chance(2):
             self.options.setdefault("nodes", self.value("nodes"))
+        if self.command == b"render" and self.chance(15):
+            self.options.setdefault("bands", str(rng.randint(1, self.height)))
         if self.chance(8):
             name = rng.choice(list(VALUES))
             self.options[name] = rng.choice(VALUES[name])
@@ -147,6 +150,8 @@ class Maker:
                 words.append(f"--{name}={value}".encode())
             else:
                 words += [f"--{name}".encode(), value.encode()]
+        if self.command == b"render" and self.chance(1 if "bands" in self.options else 12):
+            words.append(b"--peel")
         if self.command != b"render":
             self.put(words, self.positional().encode())
         words.insert(0, self.command)

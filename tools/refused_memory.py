@@ -78,7 +78,10 @@ def cases():
         yield Case(f"pick 0,0 --size 4x4 {few}", "a square", SQUARE)
         yield Case(f"render --size 4x4 {few}", "a cube", *cube)
         yield Case(f"demo 1 --size 1x1 --move 0,0.3,-4 {few}", "")
+        yield Case(f"render --size 4x4 --bands 3 {few}", "a square in bands", SQUARE)
+        yield Case(f"render --size 4x4 --peel {few}", "a square in layers", SQUARE)
     yield Case("render --size 4x4 --nodes 15", "a square, for which the pool is full", SQUARE)
+    yield Case("render --size 4x4 --bands 2 --nodes 7", "a square, whose first band is full", SQUARE)
     yield Case("render --size 4x4 --nodes 16", "a faulty library", b"mtllib a.mtl\n",
                {"a.mtl": b"newmtl red\nd 1\nnewmtl blue\nKd\n"})
 

@@ -54,6 +54,16 @@ def cases():
     yield from full_and_one_more(drawing, 9, "The pool holds the fragments of all pixels, though "
                                  "the picked one has none.", command="pick 7,7")
 
+    drawing = Drawing("bands", 8, 8)
+    for i, film in enumerate(("red_film", "green_film", "blue_film")):
+        drawing.paint(film)
+        drawing.square(1 + i, 1 + i, 5 + i, 5 + i)
+    shows = "Three squares of 16 pixels in three bands, of 2, 3 and 3 rows."
+    yield drawing.case(f"{shows} 32 nodes are just enough for the second.", nodes=32, more="--bands 3")
+    yield drawing.case(f"{shows} One node less isn't enough for it.", "bands-one-more", nodes=31, status=5,
+                       error="band 2 full: 32 fragments, 31 nodes", more="--bands 3")
+    yield drawing.case("The same squares in layers, which need no nodes.", "layers", nodes=1, more="--peel")
+
     yield Case("demo", "The scene of 200 triangles that demo makes.",
                "abuf demo 200 --size 64x48 --samples 4 --nodes 8192")
     yield Case("demo-one-more", "The same with a pool that is too small.",
