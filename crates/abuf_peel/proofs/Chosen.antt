@@ -1,6 +1,6 @@
 -- The primitives that are offered to a region.
-use Rattle.std.proofs.Common.{◌≡◌, ℕ, ◌*◌, ◌/◌, ◌%◌, ◌<◌, ◌≤◌, Bool, false, cond, List, [], ◌∷◌, ◌++◌, length, map, ℤ, All, ap, ◌∙◌, sym, arith}
-use Rattle.std.specs.List.{filter, range_with_len}
+use Rattle.std.proofs.Common.{◌≡◌, ℕ, ◌*◌, ◌/◌, ◌%◌, ◌<◌, ◌≤◌, Bool, false, cond, List, [], ◌∷◌, ◌++◌, length, ℤ, All, ap, ◌∙◌, sym, arith}
+use Rattle.std.specs.List.{range_with_len}
 use Rattle.std.proofs.lemmas.List.{append-nil}
 use Rattle.std.proofs.lemmas.List.Elements.{filter-append}
 use Rattle.std.proofs.lemmas.List.FromFn.{length-range_with_len, get_or-range_with_len}
@@ -13,10 +13,9 @@ use Rattle.abuf_raster.specs.Coverage.{covers}
 use Rattle.abuf_raster.specs.Region.{IsRegion}
 use Rattle.abuf_raster.specs.Samples.{offsets_of}
 use Rattle.abuf_resolve.specs.Colour.{triangle_at, covering}
-use Rattle.abuf_resolve.specs.Words.{layer_word, reaches}
 use Rattle.abuf_peel.specs.Layers.{count_of, sample_at, size_of}
 use Rattle.abuf_peel.specs.Members.{HaveAll, IsSampleIn, Keep}
-use Rattle.abuf_peel.specs.Next.{Sample, covering_among, least, next_among, next_word}
+use Rattle.abuf_peel.specs.Next.{Sample, covering_among}
 
 -- The samples of a region lie in it.
 pub sample_in : (r : Region) (pattern : Pattern) (j : ℕ) → IsRegion r → 0 < size_of pattern → j < count_of r pattern → IsSampleIn r (offsets_of pattern) (sample_at r (size_of pattern) j)
@@ -26,11 +25,6 @@ sample_in r pattern j is some l =
     let row : j / size_of pattern / r.w < r.h = div_below (j / size_of pattern) r.w r.h w (omega arith) in
     let column : j / size_of pattern % r.w < r.w = mod_below (j / size_of pattern) r.w w in
     record { x_low = omega arith; x_high = omega arith; y_low = omega arith; y_high = omega arith; known = mod_below j (size_of pattern) some }
-
--- Among the members a sample finds the same as among all.
-pub members_next : (os : List (ℤ × ℤ)) (tris : List Triangle) (r : Region) (members : List ℕ) (s : Sample) (from : ℕ) → HaveAll os tris r members → IsSampleIn r os s → next_among os tris s from members ≡ next_word os tris s from
-unfolding next_among
-members_next os tris r members s from have is = ap (λ (ns : List ℕ). least (filter (reaches from) (map (layer_word os tris s.x s.y s.k) ns))) (have.each s is)
 
 -- No more primitives cover a sample than there are members.
 pub covering_few : (os : List (ℤ × ℤ)) (tris : List Triangle) (r : Region) (members : List ℕ) (s : Sample) → HaveAll os tris r members → IsSampleIn r os s → length (covering os tris s.x s.y s.k) ≤ length members

@@ -11,7 +11,7 @@ use Rattle.abuf_raster.specs.Coverage.{covers}
 use Rattle.abuf_resolve.specs.Colour.{triangle_at}
 use Rattle.abuf_resolve.specs.Over.{laid_over}
 use Rattle.abuf_resolve.specs.Words.{layer_word, paint_of, prim_of, reaches, IsDepthWord}
-use Rattle.abuf_peel.specs.Next.{Sample, least, lower_of, left_from, next_among, with_word, words_among}
+use Rattle.abuf_peel.specs.Next.{Sample, least, lower_of, left_among, left_from, next_among, with_word, words_among}
 use Rattle.abuf_peel.specs.Offers.{is_covered, lowered, offered, word_of}
 use Rattle.abuf_peel.specs.Taking.{Finds, marked, no_word, painted}
 
@@ -47,11 +47,11 @@ finds_word count from w xs best is f = go (reaches from w) where
 module _ (os : List (ℤ × ℤ)) (tris : List Triangle) (s : Sample) (from : ℕ) where
   -- Among no primitives nothing is found.
   pub finds_none : (count best : ℕ) → best ≡ no_word → Finds count (next_among os tris s from []) best
-  unfolding next_among
+  unfolding next_among left_among
   finds_none count best e = e
 
   -- The words of some primitives and one more.
-  words_more : (ns : List ℕ) (n : ℕ) → words_among os tris s (ns ++ n ∷ []) ≡ words_among os tris s ns ++ (if covers (triangle_at tris n) os s.x s.y s.k then layer_word os tris s.x s.y s.k n ∷ [] else [])
+  pub words_more : (ns : List ℕ) (n : ℕ) → words_among os tris s (ns ++ n ∷ []) ≡ words_among os tris s ns ++ (if covers (triangle_at tris n) os s.x s.y s.k then layer_word os tris s.x s.y s.k n ∷ [] else [])
   words_more ns n =
       ap (map (layer_word os tris s.x s.y s.k)) (filter-append (λ m. covers (triangle_at tris m) os s.x s.y s.k) ns (n ∷ []))
       ∙ (map-append (layer_word os tris s.x s.y s.k) (filter (λ m. covers (triangle_at tris m) os s.x s.y s.k) ns) (filter (λ m. covers (triangle_at tris m) os s.x s.y s.k) (n ∷ []))
@@ -64,7 +64,7 @@ module _ (os : List (ℤ × ℤ)) (tris : List Triangle) (s : Sample) (from : �
       → new ≡ offered (is_covered (triangle_at tris n) os s) from (word_of (triangle_at tris n) n os s) best
       → (is_covered (triangle_at tris n) os s ≡ true → word_of (triangle_at tris n) n os s < 2 ^ 48)
       → Finds (length tris) (next_among os tris s from (ns ++ n ∷ [])) new
-  unfolding next_among is_covered word_of
+  unfolding next_among left_among is_covered word_of
   finds_more ns n best new known few f e fit =
       subst (λ (ws : List ℕ). Finds (length tris) (least (filter (reaches from) ws)) new) (sym (words_more ns n))
       (subst (λ (b : ℕ). Finds (length tris) (least (filter (reaches from) (words_among os tris s ns ++ (if covers (triangle_at tris n) os s.x s.y s.k then layer_word os tris s.x s.y s.k n ∷ [] else [])))) b) (sym e)

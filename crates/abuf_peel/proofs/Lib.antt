@@ -7,4 +7,6 @@ pub mod Offered
 pub mod Found
 pub mod Taken
 pub mod Chosen
+pub mod Tells
+pub mod Left
 pub mod Joined

@@ -14,7 +14,7 @@ use Rattle.abuf_resolve.specs.Over.{layered, laid_over}
 use Rattle.abuf_resolve.specs.Words.{layer_word, paint_of, prim_of, folded, reaches}
 use Rattle.abuf_resolve.proofs.Orders.{kept, kept-in_order, Rises-in_order}
 use Rattle.abuf_resolve.proofs.Words.{Below, Below-range, Below-filter, Below-in_order, map-in_order, words_ordered}
-use Rattle.abuf_peel.specs.Next.{Sample, next_word, next_among, left_from, with_word}
+use Rattle.abuf_peel.specs.Next.{Sample, left_among, next_word, next_among, left_from, with_word}
 use Rattle.abuf_peel.specs.Layers.{Seen, taken, after, layer, whole_colour}
 use Rattle.abuf_peel.proofs.Words.{Climbs, Climbs-from, all_reach, none_below, one_more, no_more, first, least-left, left_next}
 
@@ -112,7 +112,7 @@ module _ (os : List (ℤ × ℤ)) (background : List ℕ) (tris : List Triangle)
 
   -- The next word is the first in order that is left.
   next_is : (from : ℕ) → next_word os tris s from ≡ first (filter (reaches from) sorted)
-  unfolding next_among
+  unfolding next_among left_among
   next_is from = least-left from (map word these)
 
   -- A sample that has taken the lowest n primitives, or all where there are fewer.

@@ -52,7 +52,7 @@ none_below [] = refl
 none_below (x ∷ xs) = rw (le-ltb x 0 (omega arith)) (omega (arith, none_below xs))
 
 -- Of those from one bound on, those from a higher one on are those of all.
-narrower : (a b : ℕ) (xs : List ℕ) → a ≤ b → filter (reaches b) (filter (reaches a) xs) ≡ filter (reaches b) xs
+pub narrower : (a b : ℕ) (xs : List ℕ) → a ≤ b → filter (reaches b) (filter (reaches a) xs) ≡ filter (reaches b) xs
 narrower a b [] h = refl
 narrower a b (x ∷ xs) h = go (narrower a b xs h) (cases_lt x a) (cases_lt x b) where
   go : filter (reaches b) (filter (reaches a) xs) ≡ filter (reaches b) xs → (x < a) ⊎ (a ≤ x) → (x < b) ⊎ (b ≤ x) → filter (reaches b) (filter (reaches a) (x ∷ xs)) ≡ filter (reaches b) (x ∷ xs)

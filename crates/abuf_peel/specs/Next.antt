@@ -32,9 +32,13 @@ abbrev pub least : List ℕ → Option ℕ
 least [] = None
 least (word ∷ words) = Some (lower_of word (least words))
 
--- Of the primitives with these numbers that cover the sample, the word of the lowest that isn't below `from`.
+-- Those of them that aren't below `from`.
+unfoldable pub left_among : List (ℤ × ℤ) → List Triangle → Sample → ℕ → List ℕ → List ℕ
+left_among offsets triangles s from ns = filter (reaches from) (words_among offsets triangles s ns)
+
+-- The lowest of these, if there is one.
 unfoldable pub next_among : List (ℤ × ℤ) → List Triangle → Sample → ℕ → List ℕ → Option ℕ
-next_among offsets triangles s from ns = least (filter (reaches from) (words_among offsets triangles s ns))
+next_among offsets triangles s from ns = least (left_among offsets triangles s from ns)
 
 -- The same of all primitives: the next one that the sample takes.
 abbrev pub next_word : List (ℤ × ℤ) → List Triangle → Sample → ℕ → Option ℕ

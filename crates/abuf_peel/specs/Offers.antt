@@ -1,5 +1,5 @@
 -- Primitives offered to the samples of a region.
-use Rattle.std.specs.Prelude.{◌≡◌, ℕ, ◌/◌, ◌%◌, ◌^◌, ◌<◌, Bool, true, ◌&&◌, ◌==◌, nat_lt, if◌then◌else◌, ℤ, List, length, slice_index_or}
+use Rattle.std.specs.Prelude.{◌≡◌, ℕ, ◌/◌, ◌%◌, ◌^◌, ◌<◌, Bool, true, false, ◌&&◌, ◌==◌, nat_lt, if◌then◌else◌, ℤ, List, length, slice_index_or}
 use Rattle.std.specs.List.{list_any}
 use Rattle.std.specs.Int.{bit_at}
 use Rattle.abuf_raster.specs.declared.region.Hit.{Hit}
@@ -55,20 +55,30 @@ has_at r size j h = (place_of r h.x h.y == j / size) && has_sample h (j % size)
 abbrev pub HasMask : Triangle → List (ℤ × ℤ) → Hit → Type 0
 HasMask t offsets h = h.fragment.mask ≡ mask t offsets h.x h.y
 
--- Primitive number n was offered to those samples that pass the test.
-pub record Offers (t : Triangle) (n : ℕ) (r : Region) (pattern : Pattern) (from : List ℕ) (covered : ℕ → Bool) (old new : List ℕ) : Type 0 where
+-- The answer tells whether a number below `count` passes the test.
+pub record Tells (test : ℕ → Bool) (count : ℕ) (answer : Bool) : Type 0 where
+  pub none : answer ≡ false → (j : ℕ) → j < count → test j ≡ false
+  pub some : answer ≡ true → (j : ℕ) × (j < count) × (test j ≡ true)
+
+-- The sample has something left of what is offered: it is covered, and the word isn't below `from`.
+abbrev pub is_left : Bool → ℕ → ℕ → Bool
+is_left covered from word = covered && reaches from word
+
+-- Primitive number n was offered to those samples that pass the test, and `left` tells whether one of them still takes it.
+pub record Offers (t : Triangle) (n : ℕ) (r : Region) (pattern : Pattern) (from : List ℕ) (covered : ℕ → Bool) (old new : List ℕ) (left : Bool) : Type 0 where
   pub size : length new ≡ length old
   pub each : (j : ℕ) → j < count_of r pattern
       → slice_index_or new j 0 ≡ offered (covered j) (slice_index_or from j 0) (word_at t n r pattern j) (slice_index_or old j 0)
   pub fits : (j : ℕ) → j < count_of r pattern → covered j ≡ true → word_at t n r pattern j < 2 ^ 48
+  pub tells : Tells (λ j. is_left (covered j) (slice_index_or from j 0) (word_at t n r pattern j)) (count_of r pattern) left
 
 -- It was offered to the samples of these hits, in any order;
-abbrev pub OffersHits : Triangle → ℕ → Region → Pattern → List ℕ → List Hit → List ℕ → List ℕ → Type 0
-OffersHits t n r pattern from hits old new = Offers t n r pattern from (λ j. list_any (has_at r (size_of pattern) j) hits) old new
+abbrev pub OffersHits : Triangle → ℕ → Region → Pattern → List ℕ → List Hit → List ℕ → List ℕ → Bool → Type 0
+OffersHits t n r pattern from hits old new left = Offers t n r pattern from (λ j. list_any (has_at r (size_of pattern) j) hits) old new left
 
 -- and to all samples that it covers.
-abbrev pub OffersAll : Triangle → ℕ → Region → Pattern → List ℕ → List ℕ → List ℕ → Type 0
-OffersAll t n r pattern from old new = Offers t n r pattern from (is_covered_at t r pattern) old new
+abbrev pub OffersAll : Triangle → ℕ → Region → Pattern → List ℕ → List ℕ → List ℕ → Bool → Type 0
+OffersAll t n r pattern from old new left = Offers t n r pattern from (is_covered_at t r pattern) old new left
 
 -- The words are those of the next primitives of all samples.
 pub record AreNext (triangles : List Triangle) (r : Region) (pattern : Pattern) (from best : List ℕ) : Type 0 where

@@ -4,8 +4,7 @@ ghost use Rattle.std.specs.List.{All};
 ghost use Rattle.abuf_raster.specs.Region.{IsRegion};
 ghost use Rattle.abuf_resolve.specs.Sums.{IsSmall};
 ghost use Rattle.abuf_peel.specs.Layers.{NoneLeft, OneStepMore, SomeLeft, StandsForNone, Takes, layer_sums, size_of, started};
-ghost use Rattle.abuf_peel.specs.Members.{HaveAll};
-ghost use Rattle.abuf_raster.specs.Samples.{offsets_of};
+ghost use Rattle.abuf_peel.specs.Members.{HaveLeft};
 
 use crate::offering::{NO_WORD, Samples};
 use crate::scene::Primitives;
@@ -95,17 +94,19 @@ impl Layer {
         samples.take_next(&drawn, &mut self.from, &mut self.best, &mut self.colours)
     }
 
-    /// The same, where the members are all primitives that cover a sample of the region.
+    /// The same, where the members are all primitives that a sample still takes. Drops members of which
+    /// nothing was left.
     pub(crate) fn step_over(
         &mut self,
         tris: &[ScreenTri],
         paints: &[Paint],
-        members: &[u32],
+        members: &mut Vec<u32>,
     ) -> bool
         requires few { length tris.now ≤ 2097152 }
         requires paints { length paints.now ≡ length tris.now }
-        requires members { HaveAll (offsets_of self.old.pattern) tris.now self.old.region members.now }
+        requires members { HaveLeft tris.now self.old.region self.old.pattern self.old.from members.old.items }
         ensures takes { Takes tris.now paints.now self.old self.new }
+        ensures members { HaveLeft tris.now self.new.region self.new.pattern self.new.from members.new.items }
         ensures none { result ≡ false → NoneLeft tris.now self.old }
     {
         let samples = Samples {

@@ -51,10 +51,11 @@ impl Share {
 }
 
 impl<'a, 'b> Scene<'a, 'b> {
-    /// Steps until no sample has a primitive left: no more often than there are members.
-    fn exhaust(&self, layer: &mut Layer, members: &[u32])
+    /// Steps until no sample has a primitive left: no more often than there are members. Each step drops members that
+    /// are done with, so that later steps offer fewer.
+    fn exhaust(&self, layer: &mut Layer, members: &mut Vec<u32>)
         requires region { IsRegion layer.old.region }
-        requires members { HaveAll (offsets_of layer.old.pattern) self.now.tris.now layer.old.region members.now }
+        requires members { HaveAll (offsets_of layer.old.pattern) self.now.tris.now layer.old.region members.old.items }
         requires start { StandsFor self.now.background self.now.tris.now self.now.paints.now 0 layer.old }
         ensures region { layer.new.region ≡ layer.old.region }
         ensures pattern { layer.new.pattern ≡ layer.old.pattern }
@@ -67,10 +68,16 @@ impl<'a, 'b> Scene<'a, 'b> {
         }
     }
 
-    /// The sums of one row of pixels, from the primitives that cover one of its samples.
-    fn row_sums(&self, alloc: Global, members: &[u32], y: u32) -> Result<List<PixelSum>, NoMemory>
+    /// The sums of one row of pixels, from the primitives that cover one of its samples. Drops members that
+    /// are done with.
+    fn row_sums(
+        &self,
+        alloc: Global,
+        members: &mut Vec<u32>,
+        y: u32,
+    ) -> Result<List<PixelSum>, NoMemory>
         requires y { y < self.now.height }
-        requires members { HaveAllIn self.now (row_of self.now.width y) members.now }
+        requires members { HaveAllIn self.now (row_of self.now.width y) members.old.items }
         ensures value { IfOk result (λ sums. sums ≡ row_sums self.now y) }
         ensures small { IfOk result (λ sums. AreSmall self.now sums) }
     {
@@ -142,7 +149,7 @@ impl<'a, 'b> Scene<'a, 'b> {
             let y = share.row(i);
             self.hold_block(&mut block, &all, share, i)?;
             self.keep(&mut members, &block, self.row_of(y))?;
-            rows.push(self.row_sums(alloc, &members, y)?)?;
+            rows.push(self.row_sums(alloc, &mut members, y)?)?;
         }
         Ok(rows)
     }

@@ -1,9 +1,8 @@
 // Samples take the primitives that were found for them.
 ghost use Rattle.std.specs.Prelude.{◌≡◌, ℕ, ◌+◌, ◌^◌, ◌<◌, ◌≤◌, ◌⊎◌, false, true, length, slice_index_or};
 ghost use Rattle.abuf_resolve.specs.Words.{prim_of};
-ghost use Rattle.abuf_raster.specs.Samples.{offsets_of};
 ghost use Rattle.abuf_peel.specs.Layers.{NoneLeft, SomeLeft, Takes, count_of};
-ghost use Rattle.abuf_peel.specs.Members.{HaveAll};
+ghost use Rattle.abuf_peel.specs.Members.{HaveLeft};
 ghost use Rattle.abuf_peel.specs.Taking.{marked, no_word, painted};
 ghost use Rattle.abuf_peel.specs.Rewrites.{Rewrites};
 ghost use Rattle.abuf_peel.specs.Seen.{seen_of};
@@ -80,24 +79,27 @@ impl Samples {
         take_words(best, from)
     }
 
-    /// The same, where the members are all primitives that cover one of the samples.
+    /// The same, where the members are all primitives that a sample still takes. Drops members of which
+    /// nothing was left.
     pub(crate) fn take_next_of(
         self,
         drawn: &Primitives,
-        members: &[u32],
+        members: &mut Vec<u32>,
         from: &mut [u64],
         best: &mut [u64],
         colours: &mut [[u16; 3]],
     ) -> bool
-        requires members { HaveAll (offsets_of self.pattern) drawn.now.tris.now self.region members.now }
+        requires members { HaveLeft drawn.now.tris.now self.region self.pattern from.old members.old.items }
         requires from { length from.old ≡ count_of self.region self.pattern }
         requires best { length best.old ≡ count_of self.region self.pattern }
         requires colours { length colours.old ≡ count_of self.region self.pattern }
         ensures sizes { (length from.new ≡ length from.old) × (length best.new ≡ length best.old) × (length colours.new ≡ length colours.old) }
         ensures takes { Takes drawn.now.tris.now drawn.now.paints.now (seen_of self from.old colours.old) (seen_of self from.new colours.new) }
+        ensures members { HaveLeft drawn.now.tris.now self.region self.pattern from.new members.new.items }
         ensures none { result ≡ false → NoneLeft drawn.now.tris.now (seen_of self from.old colours.old) }
     {
-        self.offer_members(drawn.tris, members, from, best);
+        let kept = self.offer_members(drawn.tris, members, from, best);
+        members.truncate(kept);
         take_colours(drawn.paints, best, colours);
         take_words(best, from)
     }

@@ -1,6 +1,7 @@
 use Rattle.std.proofs.Common.{◌≡◌, ◌∙◌, sym, subst}
 use Rattle.std.specs.Vec.{with_items}
 use Rattle.std.proofs.lemmas.List.{with_items_is}
+use Rattle.abuf_peel.specs.Members.{HaveLeft}
 use Rattle.abuf_peel.specs.Layers.{NoneLeft, Peeled, Takes, peeled_of}
 use Rattle.abuf_peel.proofs.layer.Layer.step_over.Goals as goal
 use Rattle.abuf_peel.proofs.layer.Layer.step_over.Goals.{After-take_next_of}
@@ -26,3 +27,14 @@ pub returns-clause-none : goal.returns-clause-none
 returns-clause-none c = λ e.
     let d = (goal.at.returns-clause-none c).After-take_next_of in
     subst (NoneLeft c.args.tris.now) (seen d) (c.take_next_of.ensures.none e)
+
+pub returns-clause-members : goal.returns-clause-members
+returns-clause-members c =
+    let d = (goal.at.returns-clause-members c).After-take_next_of in
+    subst (λ (l : Peeled). HaveLeft c.args.tris.now l.region l.pattern l.from c.take_next_of.new.members.items) (after d) c.take_next_of.ensures.members
+
+pub take_next_of-requires-clause-members : goal.take_next_of-requires-clause-members
+take_next_of-requires-clause-members c =
+    let parts : peeled_of c.self.inside.region c.self.inside.pattern c.deref_mut.result.now c.self.inside.colours.items ≡ c.args.self.now
+    = (λ i. peeled_of c.self.inside.region c.self.inside.pattern (c.deref_mut.ensures.value i) c.self.inside.colours.items) ∙ c.self.view_is in
+    subst (λ (l : Peeled). HaveLeft c.args.tris.now l.region l.pattern l.from c.args.members.now.items) (sym parts) c.requires.members

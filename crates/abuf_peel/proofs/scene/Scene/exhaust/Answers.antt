@@ -1,4 +1,4 @@
-use Rattle.std.proofs.Common.{◌≡◌, ◌∙◌, ◌+◌, ℕ, suc, sym, subst, arith}
+use Rattle.std.proofs.Common.{◌≡◌, ◌∙◌, ◌+◌, ℕ, suc, refl, sym, subst, arith}
 use Rattle.abuf_raster.proofs.Masks.{offsets_some}
 use Rattle.abuf_raster.specs.declared.pattern.Pattern.{Pattern}
 use Rattle.abuf_raster.specs.declared.region.Region.{Region}
@@ -8,6 +8,7 @@ use Rattle.abuf_peel.specs.Layers.{next_at, sample_at, size_of, StandsFor}
 use Rattle.abuf_peel.specs.Members.{HaveAll}
 use Rattle.abuf_peel.proofs.Chosen.{covering_few, sample_in}
 use Rattle.abuf_peel.proofs.Found.{none_from}
+use Rattle.abuf_peel.proofs.Left.{all_left}
 use Rattle.abuf_peel.proofs.Standing.{whole_none, whole_many, stands_next}
 use Rattle.abuf_peel.proofs.scene.Scene.exhaust.Goals as goal
 
@@ -21,7 +22,7 @@ pub returns-clause-whole : goal.returns-clause-whole
 returns-clause-whole c =
     let scene = c.args.self.now in
     let l = c.loop-n.layer in
-    let members = c.args.members.now in
+    let members = c.args.members.now.items in
     let have : HaveAll (offsets_of c.loop-n.layer.pattern) scene.tris.now c.loop-n.layer.region members =
     subst (λ (p : Pattern). HaveAll (offsets_of p) scene.tris.now c.loop-n.layer.region members) (sym c.loop-n.invariant.pattern)
     (subst (λ (r : Region). HaveAll (offsets_of c.args.layer.now.pattern) scene.tris.now r members) (sym c.loop-n.invariant.region) c.requires.members) in
@@ -39,11 +40,11 @@ loop-n-preserved c =
           (stands_next scene.background scene.tris.now scene.paints.now c.loop-n._n c.loop-n.layer c.step_over.new.self c.step_over.ensures.takes c.loop-n.invariant.stands);
       region = c.step_over.ensures.takes.region ∙ c.loop-n.invariant.region;
       pattern = c.step_over.ensures.takes.pattern ∙ c.loop-n.invariant.pattern;
+      members = c.step_over.ensures.members;
     }
 
-pub step_over-requires-clause-members : goal.step_over-requires-clause-members
-step_over-requires-clause-members c =
+pub loop-n-init : goal.loop-n-init
+loop-n-init c =
     let scene = c.args.self.now in
-    let members = c.args.members.now in
-    subst (λ (p : Pattern). HaveAll (offsets_of p) scene.tris.now c.loop-n.layer.region members) (sym c.loop-n.invariant.pattern)
-    (subst (λ (r : Region). HaveAll (offsets_of c.args.layer.now.pattern) scene.tris.now r members) (sym c.loop-n.invariant.region) c.requires.members)
+    let l = c.args.layer.now in
+    record { stands = c.requires.start; region = refl; pattern = refl; members = all_left scene.tris.now l.region l.pattern l.from c.args.members.now.items c.requires.region c.requires.members }

@@ -22,8 +22,7 @@ row_sums-requires-clause-members c =
     let have : HaveAllIn scene (row_of scene.width (row_at share.threads share.worker i)) c.keep.new.members.items =
     kept_have os scene.tris.now (block_at scene.width scene.height share.threads (row_at share.threads share.worker (i - i % 16))) (row_of scene.width (row_at share.threads share.worker i)) c.hold_block.new.block.items c.keep.new.members.items
     (row_in_block scene.width scene.height share.threads share.worker i os below) c.in_ok-hold_block.ensures keep in
-    subst (λ (k : ℕ). HaveAllIn scene (row_of scene.width k) c.deref-in-loop-i-2.result.now) (sym c.row-y.ensures)
-    (subst (HaveAllIn scene (row_of scene.width (row_at share.threads share.worker i))) (sym c.deref-in-loop-i-2.ensures.value) have)
+    subst (λ (k : ℕ). HaveAllIn scene (row_of scene.width k) c.keep.new.members.items) (sym c.row-y.ensures) have
 
 pub loop-i-preserved : goal.loop-i-preserved
 loop-i-preserved c =

@@ -1,0 +1,165 @@
+-- The primitives that samples still take.
+use Rattle.std.proofs.Common.{◌≡◌, ℕ, ◌+◌, ◌<◌, ◌≤◌, ◌⊎◌, inl, inr, Bool, true, false, ◌&&◌, if◌then◌else◌, List, [], ◌∷◌, ◌++◌, map, take, length, get_or, set, ℤ, Option, Some, None, All, refl, ap, ◌∙◌, sym, subst, arith}
+use Rattle.std.specs.List.{filter}
+use Rattle.std.proofs.lemmas.Bool.{lt-ltb, le-ltb, cases_lt}
+use Rattle.std.proofs.lemmas.List.{append-nil, length-set, get_or-set_other, take-set, take_more, take_more_set, take_all}
+use Rattle.std.proofs.lemmas.List.Elements.{filter-append, All-nil, All-push}
+use Rattle.abuf_num.specs.declared.plain.Paint.{Paint}
+use Rattle.abuf_raster.specs.declared.region.Region.{Region}
+use Rattle.abuf_raster.specs.declared.pattern.Pattern.{Pattern}
+use Rattle.abuf_raster.specs.Triangle.{Triangle}
+use Rattle.abuf_raster.specs.Coverage.{covers}
+use Rattle.abuf_raster.specs.Region.{IsRegion}
+use Rattle.abuf_raster.specs.Samples.{offsets_of}
+use Rattle.abuf_raster.proofs.Masks.{offsets_some}
+use Rattle.abuf_resolve.specs.Colour.{triangle_at, numbers}
+use Rattle.abuf_resolve.specs.Words.{layer_word, reaches}
+use Rattle.abuf_peel.specs.Layers.{Seen, Takes, count_of, next_at, sample_at, size_of}
+use Rattle.abuf_peel.specs.Members.{HaveAll, HaveLeft, left_at}
+use Rattle.abuf_peel.specs.Next.{Sample, least, lower_of, left_among, left_from, next_among, next_word, words_among}
+use Rattle.abuf_peel.specs.Offers.{Tells, is_covered, is_covered_at, is_left, word_at, word_of}
+use Rattle.abuf_peel.proofs.Chosen.{sample_in}
+use Rattle.abuf_peel.proofs.Found.{words_more}
+use Rattle.abuf_peel.proofs.Words.{narrower}
+
+-- ---- the words from which on a sample takes only rise
+-- The word above the lower of two isn't below a bound that neither is below.
+lower_rises : (from x : ℕ) (o : Option ℕ) → from ≤ x → from ≤ left_from o from → from ≤ lower_of x o + 1
+lower_rises from x None l h = omega arith
+lower_rises from x (Some w) l h = omega arith
+
+-- The word above the least of those that aren't below a bound isn't below it.
+least_rises : (from : ℕ) (xs : List ℕ) → from ≤ left_from (least (filter (reaches from) xs)) from
+least_rises from [] = omega arith
+least_rises from (x ∷ xs) = go (least_rises from xs) (cases_lt x from) where
+  go : from ≤ left_from (least (filter (reaches from) xs)) from → (x < from) ⊎ (from ≤ x) → from ≤ left_from (least (filter (reaches from) (x ∷ xs))) from
+  go r (inl l) = rw (lt-ltb x from l) r
+  go r (inr l) = rw (le-ltb x from l) (lower_rises from x (least (filter (reaches from) xs)) l r)
+
+-- So it is once a sample takes its next primitive.
+next_rises : (os : List (ℤ × ℤ)) (tris : List Triangle) (s : Sample) (from : ℕ) → from ≤ left_from (next_word os tris s from) from
+unfolding next_among left_among
+next_rises os tris s from = least_rises from (words_among os tris s (numbers tris))
+
+-- ---- what is left of some primitives
+module _ (os : List (ℤ × ℤ)) (tris : List Triangle) (s : Sample) where
+  -- What is left of some primitives and one more.
+  left_more : (from : ℕ) (ns : List ℕ) (n : ℕ)
+      → left_among os tris s from (ns ++ n ∷ [])
+      ≡ left_among os tris s from ns ++ (if is_left (is_covered (triangle_at tris n) os s) from (word_of (triangle_at tris n) n os s) then word_of (triangle_at tris n) n os s ∷ [] else [])
+  unfolding left_among is_covered word_of
+  left_more from ns n =
+      ap (filter (reaches from)) (words_more os tris s from ns n)
+      ∙ (filter-append (reaches from) (words_among os tris s ns) (if covers (triangle_at tris n) os s.x s.y s.k then layer_word os tris s.x s.y s.k n ∷ [] else [])
+      ∙ ap (λ (ws : List ℕ). filter (reaches from) (words_among os tris s ns) ++ ws)
+      (elim (covers (triangle_at tris n) os s.x s.y s.k) as (λ (v : Bool).
+      filter (reaches from) (if v then layer_word os tris s.x s.y s.k n ∷ [] else []) ≡ (if v && reaches from (layer_word os tris s.x s.y s.k n) then layer_word os tris s.x s.y s.k n ∷ [] else []))
+      [ true ↦ refl | false ↦ refl ]))
+
+  -- A primitive of which nothing is left may be dropped.
+  pub left_dropped : (from : ℕ) (ns : List ℕ) (n : ℕ) (t : Triangle) → t ≡ triangle_at tris n → is_left (is_covered t os s) from (word_of t n os s) ≡ false
+      → left_among os tris s from ns ≡ left_among os tris s from (ns ++ n ∷ [])
+  left_dropped from ns n t same none =
+      let off : is_left (is_covered (triangle_at tris n) os s) from (word_of (triangle_at tris n) n os s) ≡ false = subst (λ (u : Triangle). is_left (is_covered u os s) from (word_of u n os s) ≡ false) same none in
+      sym (left_more from ns n
+      ∙ (ap (λ (v : Bool). left_among os tris s from ns ++ (if v then word_of (triangle_at tris n) n os s ∷ [] else [])) off
+      ∙ append-nil (left_among os tris s from ns)))
+
+  -- Where as much is left of some as of others, so it is with one more.
+  pub left_kept : (from : ℕ) (ms ns : List ℕ) (n : ℕ) → left_among os tris s from ms ≡ left_among os tris s from ns → left_among os tris s from (ms ++ n ∷ []) ≡ left_among os tris s from (ns ++ n ∷ [])
+  left_kept from ms ns n e =
+      left_more from ms n
+      ∙ (ap (λ (ws : List ℕ). ws ++ (if is_left (is_covered (triangle_at tris n) os s) from (word_of (triangle_at tris n) n os s) then word_of (triangle_at tris n) n os s ∷ [] else [])) e
+      ∙ sym (left_more from ns n))
+
+  -- So it is from a higher word on.
+  pub left_rises : (a b : ℕ) (ms ns : List ℕ) → a ≤ b → left_among os tris s a ms ≡ left_among os tris s a ns → left_among os tris s b ms ≡ left_among os tris s b ns
+  unfolding left_among
+  left_rises a b ms ns h e = sym (narrower a b (words_among os tris s ms) h) ∙ (ap (filter (reaches b)) e ∙ narrower a b (words_among os tris s ns) h)
+
+  -- Then the next is the same.
+  pub left_same : (from : ℕ) (ms ns : List ℕ) → left_among os tris s from ms ≡ left_among os tris s from ns → next_among os tris s from ms ≡ next_among os tris s from ns
+  unfolding next_among
+  left_same from ms ns e = ap least e
+
+-- ---- members of which something is left
+-- All that cover a sample of a region are all that its samples still take, whatever they have taken.
+pub all_left : (tris : List Triangle) (r : Region) (pattern : Pattern) (from members : List ℕ) → IsRegion r → HaveAll (offsets_of pattern) tris r members → HaveLeft tris r pattern from members
+unfolding left_among
+all_left tris r pattern from members is have = record {
+  known = have.known;
+  each = λ j l.
+      let s : Sample = sample_at r (size_of pattern) j in
+      ap (λ (ns : List ℕ). filter (reaches (get_or from j 0)) (map (layer_word (offsets_of pattern) tris s.x s.y s.k) ns)) (have.each s (sample_in r pattern j is (offsets_some pattern) l));
+}
+
+-- They are still all once each sample takes its next.
+pub left_after : (tris : List Triangle) (paints : List Paint) (r : Region) (pattern : Pattern) (from new members : List ℕ) (under over : List (List ℕ))
+    → Takes tris paints (record { region = r; pattern = pattern; from = from; colours = under }) (record { region = r; pattern = pattern; from = new; colours = over })
+    → HaveLeft tris r pattern from members → HaveLeft tris r pattern new members
+left_after tris paints r pattern from new members under over t have = record {
+  known = have.known;
+  each = λ j l.
+      let s : Sample = sample_at r (size_of pattern) j in
+      let is : get_or new j 0 ≡ left_from (next_at r pattern tris from j) (get_or from j 0) = ap (λ (v : Seen). v.from) (t.each j l) in
+      let up : get_or from j 0 ≤ get_or new j 0 = omega (arith, is, next_rises (offsets_of pattern) tris (sample_at r (size_of pattern) j) (get_or from j 0)) in
+      left_rises (offsets_of pattern) tris s (get_or from j 0) (get_or new j 0) members (numbers tris) up (have.each j l);
+}
+
+module _ (tris : List Triangle) (r : Region) (pattern : Pattern) (from : List ℕ) where
+  -- Of the first i of all members those of which something is left were moved to the front; those from i on stand where they stood.
+  pub record Sifted (all : List ℕ) (i kept : ℕ) (members : List ℕ) : Type 0 where
+    pub size : length members ≡ length all
+    pub low : kept ≤ i
+    pub rest : (m : ℕ) → i ≤ m → get_or members m 0 ≡ get_or all m 0
+    pub known : All (λ n. n < length tris) (take kept members)
+    pub each : (j : ℕ) → j < count_of r pattern → left_at r pattern tris from j (take kept members) ≡ left_at r pattern tris from j (take i all)
+
+  -- At the start none is.
+  pub sifted_starts : (all : List ℕ) → Sifted all 0 0 all
+  sifted_starts all = record { size = refl; low = omega arith; rest = λ m l. refl; known = All-nil (λ n. n < length tris); each = λ j l. refl }
+
+  -- One member more is kept where something is left of it.
+  pub sifted_more : (all : List ℕ) (i kept : ℕ) (members : List ℕ) (t : Triangle) (n : ℕ) (left : Bool) → i < length all → n ≡ get_or all i 0 → n < length tris → t ≡ triangle_at tris n
+      → Sifted all i kept members
+      → Tells (λ j. is_left (is_covered_at t r pattern j) (get_or from j 0) (word_at t n r pattern j)) (count_of r pattern) left
+      → Sifted all (i + 1) (if left then kept + 1 else kept) (set members kept n)
+  sifted_more all i kept members t n left within e known same f tells = go left tells where
+    inside : kept < length members
+    inside = omega (arith, f.size, f.low)
+
+    longer : take (i + 1) all ≡ take i all ++ n ∷ []
+    longer = take_more all i 0 within ∙ ap (λ (m : ℕ). take i all ++ m ∷ []) (sym e)
+
+    front : take (kept + 1) (set members kept n) ≡ take kept members ++ n ∷ []
+    front = take_more_set members kept n inside
+
+    go : (v : Bool) → Tells (λ j. is_left (is_covered_at t r pattern j) (get_or from j 0) (word_at t n r pattern j)) (count_of r pattern) v → Sifted all (i + 1) (if v then kept + 1 else kept) (set members kept n)
+    go true u = record {
+      size = length-set members kept n ∙ f.size;
+      low = omega (arith, f.low);
+      rest = λ m l. get_or-set_other members kept m n 0 (λ s. omega (arith, f.low)) ∙ f.rest m (omega arith);
+      known = subst (All (λ m. m < length tris)) (sym front) (All-push (λ m. m < length tris) (take kept members) n f.known known);
+      each = λ j l.
+          ap (left_at r pattern tris from j) front
+          ∙ (left_kept (offsets_of pattern) tris (sample_at r (size_of pattern) j) (get_or from j 0) (take kept members) (take i all) n (f.each j l)
+          ∙ sym (ap (left_at r pattern tris from j) longer));
+    }
+    go false u = record {
+      size = length-set members kept n ∙ f.size;
+      low = omega (arith, f.low);
+      rest = λ m l. get_or-set_other members kept m n 0 (λ s. omega (arith, f.low)) ∙ f.rest m (omega arith);
+      known = subst (All (λ m. m < length tris)) (sym (take-set members kept n)) f.known;
+      each = λ j l.
+          ap (left_at r pattern tris from j) (take-set members kept n)
+          ∙ (f.each j l
+          ∙ (left_dropped (offsets_of pattern) tris (sample_at r (size_of pattern) j) (get_or from j 0) (take i all) n t same (u.none refl j l)
+          ∙ sym (ap (left_at r pattern tris from j) longer)));
+    }
+
+  -- At the end those that are kept are all that the samples still take.
+  pub sifted_ends : (all : List ℕ) (i kept : ℕ) (members : List ℕ) → length all ≤ i → Sifted all i kept members → HaveLeft tris r pattern from all → HaveLeft tris r pattern from (take kept members)
+  sifted_ends all i kept members l f have = record {
+    known = f.known;
+    each = λ j m. f.each j m ∙ (ap (left_at r pattern tris from j) (take_all i all l) ∙ have.each j m);
+  }
