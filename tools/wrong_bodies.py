@@ -1,0 +1,126 @@
+#!/usr/bin/env python3
+"""Writes docs/WRONG-BODIES.md: each edit of the crates' must-fail folders, and where the check refuses it.
+
+    wrong_bodies.py LOG [LOG..]     the logs of `rt ci` or of `rt must-fail`, in which each edit was tried
+
+An edit is told by its name, the line that it changes, and the contract that refuses it: the function, and the clause or the
+goal of its proof that the edited body leaves open. An edit that no log has ends the script in status 1.
+"""
+
+import glob
+import os
+import re
+import sys
+
+TOP = os.path.dirname(os.path.dirname(os.path.abspath(__file__)))
+PAGE = os.path.join(TOP, "docs", "WRONG-BODIES.md")
+REFUSED = re.compile(r"rt: must-fail (\w+)/(\w+)\.edit: refused, as it must be: (.*)")
+HEAD = """# Wrong bodies
+
+Each crate keeps edits in `must-fail/`. An edit changes a line or a few of the code so that a public function does something
+else, and the check has to refuse it; `rt ci` tries each. An edit that is still proved would show a contract that is too weak.
+
+The tables have each edit by its name, which says the wrong that it does, the code before and after it, and what refuses it: the
+function whose proof fails first, and the clause or goal that is open there. A goal `returns` is all that a function ensures
+together. Where the goal is what a call requires, the edited body could not even call the function.
+
+`tools/wrong_bodies.py` makes this page from the edits and the log of a run that tried them.
+"""
+
+
+def text_of(path):
+    with open(path, encoding="utf-8") as file:
+        return file.read()
+
+
+def edits_of(crate):
+    """The names of a crate's edits, each with its changes: file, old and new."""
+    for path in sorted(glob.glob(os.path.join(TOP, "crates", crate, "must-fail", "*.edit"))):
+        changes, file, old = [], None, None
+        for line in text_of(path).splitlines():
+            kind, _, rest = line.partition(": ")
+            if kind == "file":
+                file = rest.strip()
+            elif kind == "old":
+                old = rest.strip()
+            elif kind == "new":
+                changes.append((file, old, rest.strip()))
+        yield os.path.basename(path)[:-5], changes
+
+
+def refusals_of(logs):
+    """What refused each edit, by crate and name, as the logs have it."""
+    found = {}
+    for log in logs:
+        with open(log, encoding="utf-8", errors="replace") as file:
+            for line in file:
+                match = REFUSED.match(line)
+                if match:
+                    found[match.group(1), match.group(2)] = match.group(3)
+    return found
+
+
+def function_at(crate, file, line):
+    """The name of the function that begins at or above the line of a source."""
+    lines = text_of(os.path.join(TOP, "crates", crate, file)).splitlines()
+    for above in reversed(lines[:line]):
+        match = re.match(r"\s*(?:pub(?:\([a-z]+\))? )?fn (\w+)", above)
+        if match:
+            return match.group(1)
+    for below in lines[line:line + 5]:
+        match = re.match(r"\s*(?:pub(?:\([a-z]+\))? )?fn (\w+)", below)
+        if match:
+            return match.group(1)
+    return file
+
+
+def place_of(crate, refusal):
+    """The function and the goal at which an edit is refused."""
+    goals = re.findall(r"`([\w+-]+)`", refusal)
+    proof = re.match(r"\./proofs/([\w/+]+)/\w+\.antt:\d+:\d+: error: `([\w-]+)`", refusal)
+    if proof:
+        return proof.group(1).split("/")[-1], proof.group(2)
+    source = re.search(r"(src/[\w/]+\.rt):(\d+)", refusal)
+    named = re.search(r"\(`([\w+-]+)`\)", refusal)
+    goal = named.group(1) if named else goals[0] if goals else "the function"
+    return (function_at(crate, source.group(1), int(source.group(2))) if source else "?"), goal
+
+
+def code(text):
+    """Code in a cell of a table."""
+    fence = "``" if "`" in text else "`"
+    return fence + text.replace("|", "\\|") + fence
+
+
+def crates():
+    with open(os.path.join(TOP, "crates.txt"), encoding="utf-8") as file:
+        return [line.split(":")[0] for line in file if re.match(r"\w+:", line)]
+
+
+def main():
+    if len(sys.argv) < 2:
+        sys.exit(__doc__)
+    refusals = refusals_of(sys.argv[1:])
+    missing, page, count = [], [HEAD], 0
+    for crate in crates():
+        rows = []
+        for name, changes in edits_of(crate):
+            if (crate, name) not in refusals:
+                missing.append(f"{crate}/{name}")
+                continue
+            function, goal = place_of(crate, refusals[crate, name])
+            told = "<br>".join(f"{code(old)} → {code(new)}" for _, old, new in changes)
+            rows.append(f"| {name.replace('_', ' ')} | {told} | `{function}`: `{goal}` |")
+        if rows:
+            count += len(rows)
+            page.append(f"\n## {crate}\n\n{len(rows)} edits.\n\n| The wrong | Before → after | Refused at |\n|---|---|---|\n"
+                        + "\n".join(rows) + "\n")
+    if missing:
+        sys.exit("no log has " + ", ".join(missing))
+    with open(PAGE, "w", encoding="utf-8") as file:
+        file.write("".join(page))
+    print(f"{count} edits")
+
+
+if __name__ == "__main__":
+    main()
