@@ -14,7 +14,7 @@ import sys
 
 TOP = os.path.dirname(os.path.dirname(os.path.abspath(__file__)))
 PAGE = os.path.join(TOP, "docs", "WRONG-BODIES.md")
-REFUSED = re.compile(r"rt: must-fail (\w+)/(\w+)\.edit: refused, as it must be: (.*)")
+REFUSED = re.compile(r"rt: must-fail (\w+)/(\w+)\.edit: refused, as it must be(?:: (.*))?$")
 HEAD = """# Wrong bodies
 
 Each crate keeps edits in `must-fail/`. An edit changes a line or a few of the code so that a public function does something
@@ -56,7 +56,7 @@ def refusals_of(logs):
             for line in file:
                 match = REFUSED.match(line)
                 if match:
-                    found[match.group(1), match.group(2)] = match.group(3)
+                    found[match.group(1), match.group(2)] = match.group(3) or ""
     return found
 
 
@@ -75,15 +75,17 @@ def function_at(crate, file, line):
 
 
 def place_of(crate, refusal):
-    """The function and the goal at which an edit is refused."""
+    """The function and the goal at which an edit is refused. None where the log doesn't tell."""
+    if not refusal:
+        return None
     goals = re.findall(r"`([\w+-]+)`", refusal)
     proof = re.match(r"\./proofs/([\w/+]+)/\w+\.antt:\d+:\d+: error: `([\w-]+)`", refusal)
     if proof:
-        return proof.group(1).split("/")[-1], proof.group(2)
+        return f"`{proof.group(1).split('/')[-1]}`: `{proof.group(2)}`"
     source = re.search(r"(src/[\w/]+\.rt):(\d+)", refusal)
     named = re.search(r"\(`([\w+-]+)`\)", refusal)
     goal = named.group(1) if named else goals[0] if goals else "the function"
-    return (function_at(crate, source.group(1), int(source.group(2))) if source else "?"), goal
+    return f"`{function_at(crate, source.group(1), int(source.group(2))) if source else '?'}`: `{goal}`"
 
 
 def code(text):
@@ -108,9 +110,9 @@ def main():
             if (crate, name) not in refusals:
                 missing.append(f"{crate}/{name}")
                 continue
-            function, goal = place_of(crate, refusals[crate, name])
+            place = place_of(crate, refusals[crate, name])
             told = "<br>".join(f"{code(old)} → {code(new)}" for _, old, new in changes)
-            rows.append(f"| {name.replace('_', ' ')} | {told} | `{function}`: `{goal}` |")
+            rows.append(f"| {name.replace('_', ' ')} | {told} | {place or 'not named by the log'} |")
         if rows:
             count += len(rows)
             page.append(f"\n## {crate}\n\n{len(rows)} edits.\n\n| The wrong | Before → after | Refused at |\n|---|---|---|\n"
