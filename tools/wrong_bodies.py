@@ -79,9 +79,16 @@ def place_of(crate, refusal):
     if not refusal:
         return None
     goals = re.findall(r"`([\w+-]+)`", refusal)
-    proof = re.match(r"\./proofs/([\w/+]+)/\w+\.antt:\d+:\d+: error: `([\w-]+)`", refusal)
+    proof = re.match(r"\./proofs/([\w/+-]+)/\w+\.antt:\d+:\d+: error: (.*)", refusal)
     if proof:
-        return f"`{proof.group(1).split('/')[-1]}`: `{proof.group(2)}`"
+        # The proof of a function with closures stands in a folder that names the closures too, and the function first or last.
+        names = re.findall(r"\w+", re.sub(r"fn-\w+(-\w+)*", "", proof.group(1).split("/")[-1]))
+        named = re.match(r"`([\w-]+)`", proof.group(2)) or re.search(r"not checked: ([\w-]+)", proof.group(2))
+        function = next(name for name in names if not re.fullmatch(r"arg\d+", name))
+        goal = named.group(1) if named else "returns"
+        if named and named.end() == len(proof.group(2)):  # the log cuts long lines off
+            goal = re.sub(r"(-clause)?-\w*$", "", goal)
+        return f"`{function}`: `{goal}`"
     source = re.search(r"(src/[\w/]+\.rt):(\d+)", refusal)
     named = re.search(r"\(`([\w+-]+)`\)", refusal)
     goal = named.group(1) if named else goals[0] if goals else "the function"
