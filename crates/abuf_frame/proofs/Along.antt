@@ -1,5 +1,6 @@
 -- A walk along a list: what is known at each node.
-use Rattle.std.proofs.Common.{◌≡◌, ◌≢◌, ℕ, ◌+◌, ◌-◌, ◌^◌, ◌<◌, ◌≤◌, Bool, cond, true, false, List, [], ◌∷◌, ◌++◌, map, length, set, get_or, drop, sym, refl, ap, ◌∙◌, subst, arith, length-append, length-set, slice_index, Some, None, eq-eqb, ne_eqb, append_assoc}
+use Rattle.std.proofs.Common.{◌≡◌, ◌≢◌, ℕ, ◌+◌, ◌-◌, ◌^◌, ◌<◌, ◌≤◌, Bool, cond, true, false, List, [], ◌∷◌, ◌++◌, map, length, set, get_or, drop, sym, refl, ap, ◌∙◌, subst, arith, length-append, length-set, slice_index, Some, None, eq-eqb, ne_eqb, append_assoc, append-nil, take}
+use Rattle.std.proofs.Math.Seq.{drop-length, take-append_seam}
 use mathlib.Core.List.{map-append}
 use Rattle.std.proofs.lemmas.List.{length-map, drop_more, set_at}
 use Rattle.atomic_table.specs.Table.{State, Me, Allows}
@@ -7,13 +8,14 @@ use Rattle.abuf_frame.specs.declared.view.Walk.{Walk}
 use Rattle.abuf_frame.specs.declared.view.View.{View}
 use Rattle.abuf_frame.specs.declared.view.Size.{Size}
 use Rattle.abuf_frame.specs.declared.look.Look.TheVariants.{All, More, Unlinked}
-use Rattle.abuf_frame.specs.Look.{Looked, SeesWhole, Written}
-use Rattle.abuf_frame.specs.Walks.{AllMet, going, noting, passed_more, payload_at, walked_on, with_walk}
-use Rattle.abuf_frame.proofs.Looks.{Shown}
+use Rattle.abuf_frame.specs.Chains.{IsListAt}
+use Rattle.abuf_frame.specs.Look.{Looked, SeesWhole, ShowsList, Written}
+use Rattle.abuf_frame.specs.Walks.{AllMet, LastHasNoted, going, noting, payload_at, walked_on, with_walk}
+use Rattle.abuf_frame.proofs.Looks.{SeesList, Shown}
 use Rattle.abuf_frame.specs.Lawful.{Lawful}
 use Rattle.abuf_frame.specs.Views.{due_of, endowment, loose}
 use Rattle.abuf_frame.specs.Words.{mark, next_word, payload_word}
-use Rattle.abuf_frame.proofs.Looks.{on_last-snoc, looks_payload, looks_next}
+use Rattle.abuf_frame.proofs.Looks.{last_has_noted, on_last-snoc, looks_payload, looks_next}
 
 -- of two lists with a last element that are equal, the last elements are
 last_same : (xs ys : List Walk) (x y : Walk) → xs ++ x ∷ [] ≡ ys ++ y ∷ [] → x ≡ y
@@ -50,10 +52,34 @@ pub record Going (pixel nodes : ℕ) (v : View) (old out : List ℕ) (here count
   pub few : count ≤ nodes
   pub met : here ≡ 0 → AllMet walk
   pub sees : SeesWhole v walk
+  pub lists : SeesList v walk
 
 pub reaches_end : (pixel nodes : ℕ) (v : View) (old out : List ℕ) (here count : ℕ) (me : Me (Unit {0}) View) → Going pixel nodes v old out here count me → here ≡ 0
     → (w : Walk) × (me ≡ (with_walk w v, [])) × Looked pixel v old out (All count) w
 reaches_end pixel nodes v old out here count me g ended = (g.walk, g.is, record { here = g.pixel_is; due = g.due_is; answer = (g.cursor_is ∙ ended, g.count_is, g.met ended); written = g.written; whole = g.sees })
+
+-- what a whole, settled pass finds at the end
+pub ends_list : (pixel nodes : ℕ) (v : View) (old out : List ℕ) (here count : ℕ) (me : Me (Unit {0}) View) → Going pixel nodes v old out here count me → here ≡ 0
+    → endowment v ≡ 2 ^ 60 → loose v.entries ≡ 0 → (list : List ℕ) × IsListAt pixel v.entries list × ShowsList (All count) list out
+ends_list pixel nodes v old out here count me g ended whole settled = let l = g.lists whole settled in let p : List ℕ = map payload_at g.walk.passed in
+    let all : l.0 ≡ p = l.3 ∙ (ap (λ (r : List ℕ). p ++ r) (l.4 (g.cursor_is ∙ ended)) ∙ append-nil p) in
+    let long : count ≡ length p = g.count_is ∙ sym (length-map g.walk.passed payload_at) in (
+      l.0,
+      subst (λ (q : ℕ). IsListAt q v.entries l.0) g.pixel_is l.2,
+      (long ∙ sym (ap (λ (m : List ℕ). length m) all), ap (λ (n : ℕ). take n out) long ∙ (ap (take (length p)) g.written.2 ∙ (take-append_seam p (drop (length g.walk.passed) old) ∙ sym all))),
+    )
+
+-- and where the slice is full
+pub full_list : (pixel nodes : ℕ) (v : View) (old out : List ℕ) (here count : ℕ) (me : Me (Unit {0}) View) → Going pixel nodes v old out here count me → here ≢ 0 → count ≡ length out
+    → endowment v ≡ 2 ^ 60 → loose v.entries ≡ 0 → (list : List ℕ) × IsListAt pixel v.entries list × ShowsList More list out
+full_list pixel nodes v old out here count me g away full whole settled = let l = g.lists whole settled in let p : List ℕ = map payload_at g.walk.passed in
+    let long : count ≡ length p = g.count_is ∙ sym (length-map g.walk.passed payload_at) in let more = l.5 (λ e. away (sym g.cursor_is ∙ e)) in
+    let same : length g.walk.passed ≡ length old = sym g.count_is ∙ (full ∙ g.written.0) in
+    let is : out ≡ p = g.written.2 ∙ (ap (λ (n : ℕ). p ++ drop n old) same ∙ (ap (λ (r : List ℕ). p ++ r) (drop-length old) ∙ append-nil p)) in (
+      l.0,
+      subst (λ (q : ℕ). IsListAt q v.entries l.0) g.pixel_is l.2,
+      ((let a = ap (λ (m : List ℕ). length m) l.3 in let b = length-append p l.1 in let c = ap (λ (m : List ℕ). length m) is in omega arith), ap (λ (m : List ℕ). take (length m) l.0) is ∙ (ap (take (length p)) l.3 ∙ (take-append_seam p l.1 ∙ sym is))),
+    )
 
 weaken : (holds : State (Unit {0}) View → Type 0) (slots id : ℕ) (me : Me (Unit {0}) View) (i : ℕ) (f : ℕ → ℕ) (A B : ℕ → Me (Unit {0}) View → Type 0) → ((n : ℕ) (m : Me (Unit {0}) View) → A n m → B n m) → Allows holds slots id me i f A → Allows holds slots id me i f B
 weaken holds slots id me i f A B h a s r deep at small = let x = a s r deep at small in (x.0, x.1, x.2, x.3, h (slice_index s.words i) (x.0, _) x.4)
@@ -83,6 +109,9 @@ module _ (pixel nodes : ℕ) (v : View) (old out : List ℕ) (here count : ℕ) 
     last1 : m1.0.walks ≡ v.walks ++ noting y g.walk ∷ []
     last1 = ap (λ (m : Me (Unit {0}) View). m.0.walks) noted_walk
 
+    pub has_noted : LastHasNoted m1.0.walks
+    has_noted = subst LastHasNoted (sym last1) (last_has_noted v.walks (noting y g.walk) tt)
+
     pub may_go : (k : Size) (slots id : ℕ) → k.nodes < mark
         → Allows (Lawful k) slots id m1 (next_word k.pixels (here - 1)) (λ n. n) (λ found now. (now ≡ (walked_on (going found) m1.0, [])) × ((ws : List Walk) (w : Walk) → m1.0.walks ≡ ws ++ w ∷ [] → Shown k.nodes m1.0 w found))
     may_go k slots id few = subst (λ (i : ℕ). Allows (Lawful k) slots id m1 (next_word k.pixels (i - 1)) (λ n. n) (λ found now. (now ≡ (walked_on (going found) m1.0, [])) × ((ws : List Walk) (w : Walk) → m1.0.walks ≡ ws ++ w ∷ [] → Shown k.nodes m1.0 w found))) g.cursor_is
@@ -103,7 +132,7 @@ module _ (pixel nodes : ℕ) (v : View) (old out : List ℕ) (here count : ℕ) 
 
       went : found ≢ mark → going found (noting y g.walk) ≡ Went
       went h = ap (λ (b : Bool). cond b (record { pixel = g.walk.pixel; due = g.walk.due; passed = g.walk.passed; cursor = g.walk.cursor; noted = Some y; unlinked = true })
-          (record { pixel = g.walk.pixel; due = g.walk.due; passed = passed_more (noting y g.walk); cursor = found; noted = None; unlinked = false })) (ne_eqb found mark h)
+          (record { pixel = g.walk.pixel; due = g.walk.due; passed = g.walk.passed ++ record { node = g.walk.cursor - 1; payload = y } ∷ []; cursor = found; noted = None; unlinked = false })) (ne_eqb found mark h)
 
       due_now : g.walk.due ≡ due_of g.walk.pixel m1.0
       due_now = let e : m1.0 ≡ with_walk (noting y g.walk) v = ap (λ (m : Me (Unit {0}) View). m.0) noted_walk in subst (λ (u : View). g.walk.due ≡ due_of g.walk.pixel u) (sym e) (g.due_is ∙ ap (λ (p : ℕ). due_of p v) (sym g.pixel_is))
@@ -111,6 +140,9 @@ module _ (pixel nodes : ℕ) (v : View) (old out : List ℕ) (here count : ℕ) 
       -- the nodes passed are the first of the whole list, for a whole, settled pass
       sees_now : SeesWhole v (going found (noting y g.walk))
       sees_now = let e : m1.0 ≡ with_walk (noting y g.walk) v = ap (λ (m : Me (Unit {0}) View). m.0) noted_walk in subst (λ (u : View). SeesWhole u (going found (noting y g.walk))) e (told_more.sees due_now)
+
+      lists_now : SeesList v (going found (noting y g.walk))
+      lists_now = let e : m1.0 ≡ with_walk (noting y g.walk) v = ap (λ (m : Me (Unit {0}) View). m.0) noted_walk in subst (λ (u : View). SeesList u (going found (noting y g.walk))) e (told_more.lists due_now)
 
       pub goes_on : found ≢ mark → count < length old → Going pixel nodes v old (set out count y) found (count + 1) m2
       goes_on h room = let p : List ℕ = map payload_at g.walk.passed in let c = g.count_is in let lp : length p ≡ count = length-map g.walk.passed payload_at ∙ sym c in let len = length-append g.walk.passed (record { node = g.walk.cursor - 1; payload = y } ∷ []) in let sh = told_more in let wi = sh.within h in record {
@@ -133,11 +165,12 @@ module _ (pixel nodes : ℕ) (v : View) (old out : List ℕ) (here count : ℕ) 
         few = omega arith;
         met = λ z. subst AllMet (went h) (sh.met z due_now);
         sees = subst (SeesWhole v) (went h) sees_now;
+        lists = subst (SeesList v) (went h) lists_now;
       }
 
       pub stops_at : found ≡ mark → count ≢ length out → (w : Walk) × (m2 ≡ (with_walk w v, [])) × Looked pixel v old out (Unlinked (here - 1)) w
       stops_at h room = let w : Walk = record { pixel = g.walk.pixel; due = g.walk.due; passed = g.walk.passed; cursor = g.walk.cursor; noted = Some y; unlinked = true } in
-          let is : going found (noting y g.walk) ≡ w = ap (λ (b : Bool). cond b w (record { pixel = g.walk.pixel; due = g.walk.due; passed = passed_more (noting y g.walk); cursor = found; noted = None; unlinked = false })) (eq-eqb found mark h) in
+          let is : going found (noting y g.walk) ≡ w = ap (λ (b : Bool). cond b w (record { pixel = g.walk.pixel; due = g.walk.due; passed = g.walk.passed ++ record { node = g.walk.cursor - 1; payload = y } ∷ []; cursor = found; noted = None; unlinked = false })) (eq-eqb found mark h) in
           let a = g.cursor_is in let b = g.written.0 in let d = g.written.1 in let c = g.count_is in
           (w, gone_walk ∙ ap (λ (x : Walk). (with_walk x v, [])) is, record { here = g.pixel_is; due = g.due_is; answer = (omega arith, refl, omega arith); written = g.written; whole = g.sees })
 

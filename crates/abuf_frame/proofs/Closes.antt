@@ -7,7 +7,10 @@ use Rattle.abuf_frame.specs.declared.view.View.{View}
 use Rattle.abuf_frame.specs.declared.view.Size.{Size}
 use Rattle.std.proofs.Common.{map}
 use Rattle.abuf_frame.specs.declared.view.Walk.{Walk}
+use Rattle.abuf_frame.proofs.Chains.{list_is, only_list}
 use Rattle.abuf_frame.proofs.Looks.{seen_end}
+use Rattle.abuf_frame.specs.Chains.{IsListAt}
+use Rattle.abuf_frame.specs.Stages.{payload_of}
 use Rattle.abuf_frame.specs.Closing.{AllSeen, IsSuffix, Kept, Threaded, lists_from, payloads_from}
 use Rattle.abuf_frame.specs.Lawful.{AreWalks, Lawful}
 use Rattle.abuf_frame.specs.Walks.{payload_at}
@@ -40,25 +43,32 @@ St = State (Unit {0}) View
 abbrev pub Good : Size → View → List ℕ → Type 0
 Good k v ws = Kept ws k.pixels k.nodes × ((p : ℕ) → p < k.pixels → IsPermutation (slice_index_or (lists_from ws k.pixels k.nodes 0 k.pixels) p []) (payloads_at p (pairs v.entries))) × (length v.entries ≤ k.nodes → lost v.entries ≡ 0)
     × AllSeen (lists_from ws k.pixels k.nodes 0 k.pixels) v.walks
+    × ((p : ℕ) → p < k.pixels → IsListAt p v.entries (slice_index_or (lists_from ws k.pixels k.nodes 0 k.pixels) p []))
+    × ((p : ℕ) → p < k.pixels → (l : List ℕ) → IsListAt p v.entries l → l ≡ slice_index_or (lists_from ws k.pixels k.nodes 0 k.pixels) p [])
 
 module _ (k : Size) (id : ℕ) (v : View) (whole : IsWhole v) (settled : IsSettled v) (sized : Sized k.pixels k.nodes) (sound : AllInRange k.pixels k.nodes v.entries) where
   -- the words of the last state of a frame that a whole, settled pass closes
   module _ (s : St) (h : Seen (Lawful k) id v s) where
-    list_is : (p : ℕ) → p < k.pixels → slice_index_or (lists_from s.words k.pixels k.nodes 0 k.pixels) p [] ≡ payloads_from s.words k.pixels k.nodes (slice_index s.words (head_word p))
-    list_is p on = let zero_is : 0 + p ≡ p = omega arith in
+    list_from : (p : ℕ) → p < k.pixels → slice_index_or (lists_from s.words k.pixels k.nodes 0 k.pixels) p [] ≡ payloads_from s.words k.pixels k.nodes (slice_index s.words (head_word p))
+    list_from p on = let zero_is : 0 + p ≡ p = omega arith in
         lists_at s.words k.pixels k.nodes 0 k.pixels p on ∙ ap (λ (i : ℕ). payloads_from s.words k.pixels k.nodes (slice_index s.words (head_word i))) zero_is
+
+    walked : (p : ℕ) → p < k.pixels → slice_index_or (lists_from s.words k.pixels k.nodes 0 k.pixels) p [] ≡ map (λ n. payload_of (h.0.stage n)) (h.0.chain p)
+    walked p on = list_from p on ∙ walk_chain k s h.0 id v h.1 whole settled p on
 
     seen : (ws : List Walk) → AreWalks h.0.stage h.0.chain k.pixels ws → AllSeen (lists_from s.words k.pixels k.nodes 0 k.pixels) ws
     seen [] a = tt
-    seen (w ∷ ws) a = ((λ z. subst (IsSuffix (map payload_at w.passed)) (sym (list_is w.pixel a.0.on ∙ walk_chain k s h.0 id v h.1 whole settled w.pixel a.0.on)) (seen_end k s h.0 w a.0 z)), seen ws a.1)
+    seen (w ∷ ws) a = ((λ z. subst (IsSuffix (map payload_at w.passed)) (sym (walked w.pixel a.0.on)) (seen_end k s h.0 w a.0 z)), seen ws a.1)
 
     of_state : Good k v s.words
     of_state = (
       record { sized = sized; wide = h.0.wide; chain = h.0.chain; threaded = λ p on. threaded k s h.0 id v h.1 whole settled p on },
-      (λ p on. subst (λ (l : List ℕ). IsPermutation l (payloads_at p (pairs v.entries))) (sym (list_is p on))
+      (λ p on. subst (λ (l : List ℕ). IsPermutation l (payloads_at p (pairs v.entries))) (sym (list_from p on))
           (subst (IsPermutation (payloads_from s.words k.pixels k.nodes (slice_index s.words (head_word p)))) (settled_pairs p v.entries settled) (closed_list k s h.0 id v h.1 whole settled p on))),
       (λ l. let c = count_mine k s h.0 id v h.1 whole in none_lost k.pixels k.nodes (slice_index s.words 0) v.entries sound (all_below k s h.0 id v h.1) (omega arith)),
       seen v.walks (h.0.walked id v h.1),
+      (λ p on. subst (IsListAt p v.entries) (sym (walked p on)) (list_is k s h.0 id v h.1 whole settled p on)),
+      (λ p on l is. only_list k s h.0 id v h.1 whole settled p on l is ∙ sym (walked p on)),
     )
 
   -- the words of the closed table are those of such a state

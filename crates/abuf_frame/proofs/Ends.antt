@@ -98,7 +98,7 @@ settled_pairs p [] l = refl
 settled_pairs p (e ∷ es) l = stand_pair p e.stage (not_loose (is_loose e.stage) (omega arith)) (standing_payloads p es) (pairs es) (settled_pairs p es (omega arith))
 
 -- the numbers of the entries that stand in the list of the pixel
-abbrev nodes_at : ℕ → List Entry → List ℕ
+abbrev pub nodes_at : ℕ → List Entry → List ℕ
 nodes_at p [] = []
 nodes_at p (e ∷ es) = cond (eqb (stands p e.stage) 1) (e.number ∷ nodes_at p es) (nodes_at p es)
 
@@ -170,9 +170,12 @@ module _ (k : Size) (s : St) (r : Lawful k s) (id : ℕ) (v : View) (at : get_el
         one_or_none : (m : ℕ) → m ≤ 1 → cond (eqb m 1) 1 0 ≡ m
         one_or_none m l = grind (arith, nat_tests)
 
+    pub chain_nodes : (p : ℕ) → p < k.pixels → IsPermutation (r.chain p) (nodes_at p v.entries)
+    chain_nodes p on = same_times (r.chain p) (nodes_at p v.entries) (exact_nodes p on)
+
     pub chain_list : (p : ℕ) → p < k.pixels → IsPermutation (map (λ n. payload_of (r.stage n)) (r.chain p)) (standing_payloads p v.entries)
     chain_list p on = subst (IsPermutation (map (λ n. payload_of (r.stage n)) (r.chain p))) (payloads_nodes r.stage p v.entries (r.agree id v at))
-        (IsPermutation-map (λ n. payload_of (r.stage n)) (r.chain p) (nodes_at p v.entries) (same_times (r.chain p) (nodes_at p v.entries) (exact_nodes p on)))
+        (IsPermutation-map (λ n. payload_of (r.stage n)) (r.chain p) (nodes_at p v.entries) (chain_nodes p on))
 
     unders : (p : ℕ) (ns : List ℕ) → Follows r.stage p ns → Under (slice_index s.words 0) ns
     unders p [] f = tt

@@ -4,6 +4,7 @@ pub mod Moves
 pub mod Tied
 pub mod Inserts
 pub mod Ends
+pub mod Chains
 pub mod Closes
 pub mod Shares
 pub mod Runs

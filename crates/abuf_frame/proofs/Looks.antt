@@ -16,10 +16,12 @@ use Rattle.abuf_frame.specs.declared.view.View.{View}
 use Rattle.abuf_frame.specs.declared.view.Size.{Size}
 use Rattle.std.proofs.Common.{append-nil, IsPermutation}
 use Rattle.abuf_frame.proofs.Ends.{all_mine, chain_list, settled_pairs}
+use Rattle.abuf_frame.specs.Chains.{IsListAt}
+use Rattle.abuf_frame.proofs.Chains.{list_is}
 use Rattle.abuf_frame.proofs.Counting.{Under, below_yes, pigeons, times-append}
 use Rattle.abuf_frame.specs.Views.{IsSettled, IsWhole, at_pixel, due_of, linked_of, number_of}
 use Rattle.abuf_frame.specs.Closing.{IsSuffix}
-use Rattle.abuf_frame.specs.Walks.{AllMet, AllPaid, HasPassed, IsWalk, Noted, going, head_of, new_walk, node_of, noting, on_last, passed_more, payload_at, walked_on, with_walk}
+use Rattle.abuf_frame.specs.Walks.{AllMet, AllPaid, HasPassed, IsNoted, IsWalk, LastHasNoted, Noted, going, head_of, new_walk, node_of, noting, on_last, passing, payload_at, walked_on, with_walk}
 use Rattle.abuf_frame.specs.Look.{SeesWhole}
 use Rattle.abuf_frame.specs.Lawful.{Agree, AreWalks, Follows, Lawful, Told}
 use Rattle.abuf_frame.specs.Stages.{Precedes, is_linked, is_loose, next_of, payload_of, stands}
@@ -60,6 +62,15 @@ on_last-snoc f [] w = refl
 on_last-snoc f (x ∷ []) w = refl
 on_last-snoc f (x ∷ y ∷ ys) w = ap (λ (l : List Walk). x ∷ l) (on_last-snoc f (y ∷ ys) w)
 
+-- a load of the next of a node whose payload is noted
+going_is : (found y : ℕ) (w : Walk) → w.noted ≡ Some y → going found w ≡ passing found y w
+going_is found y w has = ap (λ (n : Option ℕ). elim n [ None ↦ w | Some payload ↦ passing found payload w ]) has
+
+pub last_has_noted : (ws : List Walk) (w : Walk) → IsNoted w.noted → LastHasNoted (ws ++ w ∷ [])
+last_has_noted [] w h = h
+last_has_noted (x ∷ []) w h = h
+last_has_noted (x ∷ y ∷ ys) w h = last_has_noted (y ∷ ys) w h
+
 all_front : (stage : ℕ → Stage) (chain : ℕ → List ℕ) (pixels : ℕ) (ws : List Walk) (w : Walk) → AreWalks stage chain pixels (ws ++ w ∷ []) → AreWalks stage chain pixels ws × IsWalk stage chain pixels w
 all_front stage chain pixels [] w a = (tt, a.0)
 all_front stage chain pixels (x ∷ xs) w a = let r = all_front stage chain pixels xs w a.1 in ((a.0, r.0), r.1)
@@ -96,6 +107,7 @@ module _ (k : Size) (s : St) (r : Lawful k s) where
     stands_at = r.head p on;
     paid = tt;
     note = tt;
+    marked = λ e. absurd (true≢false (sym e));
     due = λ n h. let a = due_there r.stage p n (linked_of v.entries ++ v.told) (told-append r.stage (linked_of v.entries) v.told (told_linked r.stage v.entries (r.agree id v at)) (r.told id v at)) h in let b = r.exact p n on in omega arith;
   }
 
@@ -112,6 +124,7 @@ module _ (k : Size) (s : St) (r : Lawful k s) where
       stands_at = o.stands_at;
       paid = o.paid;
       note = here o.rest o.stands_at rest_follows;
+      marked = λ e. absurd (true≢false (sym e));
       due = o.due;
     }
       where
@@ -121,34 +134,32 @@ module _ (k : Size) (s : St) (r : Lawful k s) where
 
     -- the node at which it stands, and what its next shows
     walks_going : (y : ℕ) → w.noted ≡ Some y → w.cursor ≢ 0 → (found : ℕ) → slice_index s.words (next_word k.pixels (w.cursor - 1)) ≡ found → IsWalk r.stage r.chain k.pixels (going found w)
-    walks_going y has away found is = pick (eqb found mark) refl o.rest o.stands_at rest_follows o.suffix o.due (subst (λ n. Noted r.stage n o.rest) has o.note)
+    walks_going y has away found is = subst (IsWalk r.stage r.chain k.pixels) (sym (going_is found y w has)) (pick (eqb found mark) refl o.rest o.stands_at rest_follows o.suffix o.due paid_here)
       where
-        t : List ℕ
-        t = map node_of w.passed
+        paid_here : Noted r.stage (Some y) o.rest
+        paid_here = subst (λ n. Noted r.stage n o.rest) has o.note
 
-        stops : (b : Bool) → b ≡ true → IsWalk r.stage r.chain k.pixels (cond b (record { pixel = w.pixel; due = w.due; passed = w.passed; cursor = w.cursor; noted = w.noted; unlinked = true })
-            (record { pixel = w.pixel; due = w.due; passed = passed_more w; cursor = found; noted = None; unlinked = false }))
-        stops true e = record { on = o.on; before = o.before; rest = o.rest; suffix = o.suffix; stands_at = o.stands_at; paid = o.paid; note = o.note; due = o.due }
-        stops false e = absurd (true≢false (sym e))
+        stays : Walk
+        stays = record { pixel = w.pixel; due = w.due; passed = w.passed; cursor = w.cursor; noted = Some y; unlinked = true }
 
-        more : passed_more w ≡ w.passed ++ record { node = w.cursor - 1; payload = y } ∷ []
-        more = ap (λ (n : Option ℕ). elim n [ None ↦ w.passed | Some z ↦ w.passed ++ record { node = w.cursor - 1; payload = z } ∷ [] ]) has
+        passes : Walk
+        passes = record { pixel = w.pixel; due = w.due; passed = w.passed ++ record { node = w.cursor - 1; payload = y } ∷ []; cursor = found; noted = None; unlinked = false }
 
         pick : (b : Bool) → eqb found mark ≡ b → (ns : List ℕ) → w.cursor ≡ head_of ns → Follows r.stage w.pixel ns → r.chain w.pixel ≡ o.before ++ (map node_of w.passed ++ ns) → ((n : ℕ) → 0 < times n (map number_of w.due) → 0 < times n (map node_of w.passed ++ ns))
-            → Noted r.stage (Some y) ns → IsWalk r.stage r.chain k.pixels (cond b (record { pixel = w.pixel; due = w.due; passed = w.passed; cursor = w.cursor; noted = w.noted; unlinked = true })
-            (record { pixel = w.pixel; due = w.due; passed = passed_more w; cursor = found; noted = None; unlinked = false }))
-        pick true b ns e f suf due nt = stops true refl
+            → Noted r.stage (Some y) ns → IsWalk r.stage r.chain k.pixels (cond b stays passes)
+        pick true b ns e f suf due nt = record { on = o.on; before = o.before; rest = o.rest; suffix = o.suffix; stands_at = o.stands_at; paid = o.paid; note = paid_here; marked = λ m. tt; due = o.due }
         pick false b [] e f suf due nt = absurd (away e)
         pick false b (n ∷ ns) e f suf due nt = let at : w.cursor - 1 ≡ n = omega arith in
-            let nodes : map node_of (passed_more w) ++ ns ≡ map node_of w.passed ++ n ∷ ns = ap (λ (l : List Passed). map node_of l ++ ns) more ∙ (ap (λ (l : List ℕ). l ++ ns) (map-append node_of w.passed (record { node = w.cursor - 1; payload = y } ∷ []))
-            ∙ (append_assoc (map node_of w.passed) ((w.cursor - 1) ∷ []) ns ∙ ap (λ (i : ℕ). map node_of w.passed ++ i ∷ ns) at)) in record {
+            let nodes : map node_of (w.passed ++ record { node = w.cursor - 1; payload = y } ∷ []) ++ ns ≡ map node_of w.passed ++ n ∷ ns = ap (λ (l : List ℕ). l ++ ns) (map-append node_of w.passed (record { node = w.cursor - 1; payload = y } ∷ []))
+            ∙ (append_assoc (map node_of w.passed) ((w.cursor - 1) ∷ []) ns ∙ ap (λ (i : ℕ). map node_of w.passed ++ i ∷ ns) at) in record {
               on = o.on;
               before = o.before;
               rest = ns;
               suffix = suf ∙ ap (λ (l : List ℕ). o.before ++ l) (sym nodes);
               stands_at = next_linked (r.stage n) w.pixel (head_of ns) found f.0 (sym (r.next n (node_in w.pixel n (head_of ns) f.0)) ∙ (ap (λ (i : ℕ). slice_index s.words (next_word k.pixels i)) (sym at) ∙ is)) (λ m. true≢false (sym (eq-eqb found mark m) ∙ b));
-              paid = subst (AllPaid r.stage) (sym more) (paid-append r.stage w.passed (record { node = w.cursor - 1; payload = y } ∷ []) o.paid (nt ∙ ap (λ (i : ℕ). payload_of (r.stage i)) (sym at), tt));
+              paid = paid-append r.stage w.passed (record { node = w.cursor - 1; payload = y } ∷ []) o.paid (nt ∙ ap (λ (i : ℕ). payload_of (r.stage i)) (sym at), tt);
               note = tt;
+              marked = λ m. absurd (true≢false (sym m));
               due = λ m h. subst (λ (l : List ℕ). 0 < times m l) (sym nodes) (due m h);
             }
 
@@ -194,24 +205,59 @@ paid_map : (stage : ℕ → Stage) (xs : List Passed) → AllPaid stage xs → m
 paid_map stage [] p = refl
 paid_map stage (x ∷ xs) p = let r = paid_map stage xs p.1 in λ i. p.0 i ∷ r i
 
+module _ (k : Size) (s : St) (r : Lawful k s) (id : ℕ) (v : View) (at : get_elem? s.views id ≡ some v) (w : Walk) (o : IsWalk r.stage r.chain k.pixels w) (due : w.due ≡ due_of w.pixel v) (whole : IsWhole v) (settled : IsSettled v) where
+  -- a whole, settled pass has passed nodes from the head on
+  from_head : r.chain w.pixel ≡ map node_of w.passed ++ o.rest
+  from_head = o.suffix ∙ nil-append o.before (map node_of w.passed ++ o.rest) none
+    where
+      none : (n : ℕ) → 0 < times n o.before → ⊥
+      none n h = let p : ℕ = w.pixel in let t : List ℕ = map node_of w.passed in
+          let e = ap (times n) o.suffix in let f = times-append n o.before (t ++ o.rest) in let x = r.exact p n o.on in let y = stands_le p (r.stage n) in let one : stands p (r.stage n) ≡ 1 = omega arith in
+          let old : n < slice_index s.words 0 = ⊎_elim (λ (g : n < slice_index s.words 0). g) (λ (g : slice_index s.words 0 ≤ n). let z : stands p (r.stage n) ≡ 0 = ⊎_elim (λ (q : n < k.nodes). ap (stands p) (r.fresh n g q)) (λ (q : k.nodes ≤ n). ap (stands p) (r.lost n q)) (cases_lt n k.nodes) in absurd (omega arith)) (cases_lt n (slice_index s.words 0)) in
+          let m = all_mine k s r id v at whole n in let b = below_yes n (slice_index s.words 0) old in
+          let d = at_pixel-append p n (linked_of v.entries) v.told (due_mine r.stage p n v.entries (r.agree id v at) one (tight_at k s r id v at whole settled n old) (omega arith)) in
+          let g = o.due n (subst (λ (l : List Entry). 0 < times n (map number_of l)) (sym due) d) in omega arith
+
+  first_payloads : map (λ n. payload_of (r.stage n)) (r.chain w.pixel) ≡ map payload_at w.passed ++ map (λ n. payload_of (r.stage n)) o.rest
+  first_payloads = let pay : ℕ → ℕ = λ n. payload_of (r.stage n) in let t : List ℕ = map node_of w.passed in
+      ap (map pay) from_head ∙ (map-append pay t o.rest ∙ ap (λ (l : List ℕ). l ++ map pay o.rest) (sym (paid_map r.stage w.passed o.paid)))
+
+  nothing : w.cursor ≡ 0 → o.rest ≡ []
+  nothing zero_is = ended o.rest (sym o.stands_at ∙ zero_is)
+    where
+      ended : (ns : List ℕ) → head_of ns ≡ 0 → ns ≡ []
+      ended [] e = refl
+      ended (n ∷ ns) e = absurd (omega arith)
+
+  something : w.cursor ≢ 0 → 0 < length o.rest
+  something away = further o.rest o.stands_at
+    where
+      further : (ns : List ℕ) → w.cursor ≡ head_of ns → 0 < length ns
+      further [] e = absurd (away e)
+      further (n ∷ ns) e = omega arith
+
 -- the nodes passed of a whole, settled pass are the first of its pixel's whole list
 pub sees_all : (k : Size) (s : St) (r : Lawful k s) (id : ℕ) (v : View) → get_elem? s.views id ≡ some v → (w : Walk) → IsWalk r.stage r.chain k.pixels w → w.due ≡ due_of w.pixel v → SeesWhole v w
-sees_all k s r id v at w o due whole settled = let p : ℕ = w.pixel in let t : List ℕ = map node_of w.passed in let pay : ℕ → ℕ = λ n. payload_of (r.stage n) in
-    let none : (n : ℕ) → 0 < times n o.before → ⊥ = λ n h. let e = ap (times n) o.suffix in let f = times-append n o.before (t ++ o.rest) in let x = r.exact p n o.on in let y = stands_le p (r.stage n) in let one : stands p (r.stage n) ≡ 1 = omega arith in
-    let old : n < slice_index s.words 0 = ⊎_elim (λ (g : n < slice_index s.words 0). g) (λ (g : slice_index s.words 0 ≤ n). let z : stands p (r.stage n) ≡ 0 = ⊎_elim (λ (q : n < k.nodes). ap (stands p) (r.fresh n g q)) (λ (q : k.nodes ≤ n). ap (stands p) (r.lost n q)) (cases_lt n k.nodes) in absurd (omega arith)) (cases_lt n (slice_index s.words 0)) in
-    let m = all_mine k s r id v at whole n in let b = below_yes n (slice_index s.words 0) old in
-    let d = at_pixel-append p n (linked_of v.entries) v.told (due_mine r.stage p n v.entries (r.agree id v at) one (tight_at k s r id v at whole settled n old) (omega arith)) in
-    let g = o.due n (subst (λ (l : List Entry). 0 < times n (map number_of l)) (sym due) d) in omega arith in
-    let chain_is : r.chain p ≡ t ++ o.rest = o.suffix ∙ nil-append o.before (t ++ o.rest) none in
-    let payloads : map pay (r.chain p) ≡ map payload_at w.passed ++ map pay o.rest = ap (map pay) chain_is ∙ (map-append pay t o.rest ∙ ap (λ (l : List ℕ). l ++ map pay o.rest) (sym (paid_map r.stage w.passed o.paid))) in (
-      map pay o.rest,
-      subst (λ (l : List ℕ). IsPermutation l (payloads_at p (pairs v.entries))) payloads (subst (IsPermutation (map pay (r.chain p))) (settled_pairs p v.entries settled) (chain_list k s r id v at whole settled p o.on)),
-      λ zero_is. ap (map pay) (nothing o.rest (sym o.stands_at ∙ zero_is)),
-    )
-  where
-    nothing : (ns : List ℕ) → head_of ns ≡ 0 → ns ≡ []
-    nothing [] e = refl
-    nothing (n ∷ ns) e = absurd (omega arith)
+sees_all k s r id v at w o due whole settled = let p : ℕ = w.pixel in let pay : ℕ → ℕ = λ n. payload_of (r.stage n) in (
+  map pay o.rest,
+  subst (λ (l : List ℕ). IsPermutation l (payloads_at p (pairs v.entries))) (first_payloads k s r id v at w o due whole settled) (subst (IsPermutation (map pay (r.chain p))) (settled_pairs p v.entries settled) (chain_list k s r id v at whole settled p o.on)),
+  λ zero_is. ap (map pay) (nothing k s r id v at w o due whole settled zero_is),
+)
+
+-- For a pass that is whole and settled, the payloads of the nodes passed are the first of the pixel's list, all of them exactly
+-- where the walk has reached the end.
+abbrev pub SeesList : View → Walk → Type 0
+SeesList v w = IsWhole v → IsSettled v → (list : List ℕ) × (rest : List ℕ) × IsListAt w.pixel v.entries list × (list ≡ map payload_at w.passed ++ rest) × (w.cursor ≡ 0 → rest ≡ []) × (w.cursor ≢ 0 → 0 < length rest)
+
+pub sees_list : (k : Size) (s : St) (r : Lawful k s) (id : ℕ) (v : View) → get_elem? s.views id ≡ some v → (w : Walk) → IsWalk r.stage r.chain k.pixels w → w.due ≡ due_of w.pixel v → SeesList v w
+sees_list k s r id v at w o due whole settled = let p : ℕ = w.pixel in let pay : ℕ → ℕ = λ n. payload_of (r.stage n) in (
+  map pay (r.chain p),
+  map pay o.rest,
+  list_is k s r id v at whole settled p o.on,
+  first_payloads k s r id v at w o due whole settled,
+  (λ zero_is. ap (map pay) (nothing k s r id v at w o due whole settled zero_is)),
+  (λ away. let l = length-map o.rest pay in let f = something k s r id v at w o due whole settled away in omega arith),
+)
 
 -- a node that was passed, with its payload
 has_passed : (stage : ℕ → Stage) (n : ℕ) (xs : List Passed) → AllPaid stage xs → 0 < times n (map node_of xs) → Contains xs (record { node = n; payload = payload_of (stage n) })
@@ -252,13 +298,21 @@ seen_end k s r w o zero_is = let t : List ℕ = map node_of w.passed in let pay 
     nothing (n ∷ ns) e = absurd (omega arith)
 
 going_due : (found : ℕ) (w : Walk) (v : View) → w.due ≡ due_of w.pixel v → (going found w).due ≡ due_of (going found w).pixel v
-going_due found w v e = pick (eqb found mark)
+going_due found w v e = noted w.noted
   where
-    pick : (b : Bool) → (cond {A = Walk} b (record { pixel = w.pixel; due = w.due; passed = w.passed; cursor = w.cursor; noted = w.noted; unlinked = true })
-        (record { pixel = w.pixel; due = w.due; passed = passed_more w; cursor = found; noted = None; unlinked = false })).due ≡ due_of (cond {A = Walk} b (record { pixel = w.pixel; due = w.due; passed = w.passed; cursor = w.cursor; noted = w.noted; unlinked = true })
-        (record { pixel = w.pixel; due = w.due; passed = passed_more w; cursor = found; noted = None; unlinked = false })).pixel v
-    pick true = e
-    pick false = e
+    pick : (y : ℕ) (b : Bool) → (cond {A = Walk} b (record { pixel = w.pixel; due = w.due; passed = w.passed; cursor = w.cursor; noted = Some y; unlinked = true })
+        (record { pixel = w.pixel; due = w.due; passed = w.passed ++ record { node = w.cursor - 1; payload = y } ∷ []; cursor = found; noted = None; unlinked = false })).due
+        ≡ due_of (cond {A = Walk} b (record { pixel = w.pixel; due = w.due; passed = w.passed; cursor = w.cursor; noted = Some y; unlinked = true })
+        (record { pixel = w.pixel; due = w.due; passed = w.passed ++ record { node = w.cursor - 1; payload = y } ∷ []; cursor = found; noted = None; unlinked = false })).pixel v
+    pick y true = e
+    pick y false = e
+
+    after : Option ℕ → Walk
+    after n = elim n [ None ↦ w | Some payload ↦ passing found payload w ]
+
+    noted : (n : Option ℕ) → (after n).due ≡ due_of (after n).pixel v
+    noted None = e
+    noted (Some y) = pick y (eqb found mark)
 
 -- what a load of a next shows
 pub record Shown (nodes : ℕ) (v : View) (w : Walk) (found : ℕ) : Type 0 where
@@ -267,9 +321,10 @@ pub record Shown (nodes : ℕ) (v : View) (w : Walk) (found : ℕ) : Type 0 wher
   pub met : found ≡ 0 → w.due ≡ due_of w.pixel v → AllMet (going found w)
   pub linked : IsWhole v → IsSettled v → found ≢ mark
   pub sees : w.due ≡ due_of w.pixel v → SeesWhole v (going found w)
+  pub lists : w.due ≡ due_of w.pixel v → SeesList v (going found w)
 
 module _ (k : Size) (slots id : ℕ) (me : Me (Unit {0}) View) (bare : me.1 ≡ []) where
-  pub looks_head : (p : ℕ) → p < k.pixels → Allows (Lawful k) slots id me (head_word p) (λ n. n) (λ found now. (now ≡ (with_walk (new_walk p found me.0) me.0, [])) × ((found ≤ k.nodes) × (found ≡ 0 → AllMet (new_walk p found me.0)) × SeesWhole me.0 (new_walk p found me.0)))
+  pub looks_head : (p : ℕ) → p < k.pixels → Allows (Lawful k) slots id me (head_word p) (λ n. n) (λ found now. (now ≡ (with_walk (new_walk p found me.0) me.0, [])) × ((found ≤ k.nodes) × (found ≡ 0 → AllMet (new_walk p found me.0)) × SeesWhole me.0 (new_walk p found me.0) × SeesList me.0 (new_walk p found me.0)))
   looks_head p on s r deep at small = let found : ℕ = slice_index s.words (head_word p) in let w : Walk = new_walk p found me.0 in let v' : View = with_walk w me.0 in let o = walks_new k s r id p me.0 at on in (
     v',
     keeps,
@@ -281,6 +336,7 @@ module _ (k : Size) (slots id : ℕ) (me : Me (Unit {0}) View) (bare : me.1 ≡ 
         (let e = r.head p on in let l = head_small k s r p (r.chain p) (r.follows p on) in omega arith),
         (λ zero_is. all_met r.stage w tt w.due (told_due k s r id me.0 at p) (λ n h. empty o.rest (sym o.stands_at ∙ zero_is) n (o.due n h))),
         sees_all k s r id me.0 at w o refl,
+        sees_list k s r id me.0 at w o refl,
       ),
     ),
   )
@@ -325,10 +381,11 @@ module _ (k : Size) (slots id : ℕ) (me : Me (Unit {0}) View) (bare : me.1 ≡ 
               linked = λ whole settled m. let old : n < slice_index s.words 0 = ⊎_elim (λ (h : n < slice_index s.words 0). h) (λ (h : slice_index s.words 0 ≤ n). absurd (subst (λ y. Precedes y w.pixel (head_of ns)) (r.fresh n h node) f.0)) (cases_lt n (slice_index s.words 0)) in
                   let t = tight_at k s r id me.0 at whole settled n old in let x = next_after (r.stage n) w.pixel (head_of ns) f.0 t in let h = head_small k s r w.pixel ns f.1 in omega arith;
               sees = λ due. sees_all k s r id me.0 at (going found w) g (going_due found w me.0 due);
+              lists = λ due. sees_list k s r id me.0 at (going found w) g (going_due found w me.0 due);
             }
           where
             cursor_is : found ≡ 0 → (going found w).cursor ≡ 0
-            cursor_is z = ap (λ (m : ℕ). (going m w).cursor) z
+            cursor_is z = ap (λ (m : ℕ). (going m w).cursor) z ∙ ap (λ (t : Walk). t.cursor) (going_is 0 y w has)
 
             reached : (ms : List ℕ) → head_of ms ≡ 0 → (m : ℕ) → 0 < times m (map node_of (going found w).passed ++ ms) → 0 < times m (map node_of (going found w).passed)
             reached [] e m h = let t = times-append m (map node_of (going found w).passed) [] in omega arith

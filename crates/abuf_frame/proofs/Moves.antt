@@ -105,6 +105,7 @@ walks_put stage stage' chain chain' pixels grow keep (w ∷ ws) a = let o = a.0 
     stands_at = o.stands_at;
     paid = paid_put stage stage' w.passed (λ m l. keep w.pixel m o.on (let e = ap (times m) o.suffix in let f = times-append m o.before (t ++ o.rest) in let h = times-append m t o.rest in omega arith)) o.paid;
     note = noted_put stage stage' w.noted o.rest (λ m l. keep w.pixel m o.on (let e = ap (times m) o.suffix in let f = times-append m o.before (t ++ o.rest) in let h = times-append m t o.rest in omega arith)) o.note;
+    marked = o.marked;
     due = o.due;
   },
   walks_put stage stage' chain chain' pixels grow keep ws a.1,

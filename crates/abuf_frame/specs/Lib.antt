@@ -8,6 +8,7 @@ pub mod Lawful
 pub mod Seats
 pub mod Draws
 pub mod Look
+pub mod Chains
 pub mod Closing
 pub mod Lanes
 pub mod Frame

@@ -45,6 +45,12 @@ payload_of (Swapped pixel payload old) = payload
 payload_of (Linked pixel payload old) = payload
 payload_of _ = 0
 
+-- the head that it took the place of
+abbrev pub old_of : Stage → ℕ
+old_of (Swapped pixel payload old) = old
+old_of (Linked pixel payload old) = old
+old_of _ = 0
+
 -- 1 where an entry of this stage stands in the list of the pixel, and else 0
 abbrev pub stands : ℕ → Stage → ℕ
 stands p (Swapped pixel payload old) = cond (eqb pixel p) 1 0

@@ -28,18 +28,29 @@ head_of (n ∷ ns) = n + 1
 abbrev pub new_walk : ℕ → ℕ → View → Walk
 new_walk p found v = record { pixel = p; due = due_of p v; passed = []; cursor = found; noted = None; unlinked = false }
 
--- after a load of the payload at the cursor
+-- after a load of the payload at the cursor, which is noted and is no mark
 abbrev pub noting : ℕ → Walk → Walk
-noting payload w = record { pixel = w.pixel; due = w.due; passed = w.passed; cursor = w.cursor; noted = Some payload; unlinked = w.unlinked }
+noting payload w = record { pixel = w.pixel; due = w.due; passed = w.passed; cursor = w.cursor; noted = Some payload; unlinked = false }
 
--- the nodes passed, and the one at the cursor with the payload noted there
-abbrev pub passed_more : Walk → List Passed
-passed_more w = elim w.noted [ None ↦ w.passed | Some payload ↦ w.passed ++ record { node = w.cursor - 1; payload = payload } ∷ [] ]
+-- after a load of the next at the cursor, whose payload is noted: at the mark the walk stays, and else it passes the node
+abbrev pub passing : ℕ → ℕ → Walk → Walk
+passing found payload w = let here : Passed = record { node = w.cursor - 1; payload = payload } in cond (eqb found mark)
+    (record { pixel = w.pixel; due = w.due; passed = w.passed; cursor = w.cursor; noted = Some payload; unlinked = true })
+    (record { pixel = w.pixel; due = w.due; passed = w.passed ++ here ∷ []; cursor = found; noted = None; unlinked = false })
 
--- after a load of the next at the cursor: at the mark the walk stays, and else it passes the node
+-- the same, which is no step of a walk that has no payload noted
 abbrev pub going : ℕ → Walk → Walk
-going found w = cond (eqb found mark) (record { pixel = w.pixel; due = w.due; passed = w.passed; cursor = w.cursor; noted = w.noted; unlinked = true })
-    (record { pixel = w.pixel; due = w.due; passed = passed_more w; cursor = found; noted = None; unlinked = false })
+going found w = elim w.noted [ None ↦ w | Some payload ↦ passing found payload w ]
+
+abbrev pub IsNoted : Option ℕ → Type 0
+IsNoted None = ⊥
+IsNoted (Some payload) = Unit {0}
+
+-- there is a last walk, and it has noted the payload at its cursor: the next is loaded only then
+abbrev pub LastHasNoted : List Walk → Type 0
+LastHasNoted [] = ⊥
+LastHasNoted (w ∷ []) = IsNoted w.noted
+LastHasNoted (w ∷ x ∷ xs) = LastHasNoted (x ∷ xs)
 
 -- f of the last walk
 abbrev pub on_last : (Walk → Walk) → List Walk → List Walk
@@ -65,7 +76,8 @@ abbrev pub AllPaid : (ℕ → Stage) → List Passed → Type 0
 AllPaid stage xs = Every (λ x. x.payload ≡ payload_of (stage x.node)) xs
 
 -- Where numbers have these stages and pixels these lists: the pixel is one of the frame's, the nodes passed and the rest from
--- the cursor on are a suffix of its list, payloads are those of the entries, and each due entry has been passed or is yet to come.
+-- the cursor on are a suffix of its list, payloads are those of the entries, a walk that found the mark has noted the payload
+-- there, and each due entry has been passed or is yet to come.
 pub record IsWalk (stage : ℕ → Stage) (chain : ℕ → List ℕ) (pixels : ℕ) (w : Walk) : Type 0 where
   pub on : w.pixel < pixels
   pub before : List ℕ
@@ -74,6 +86,7 @@ pub record IsWalk (stage : ℕ → Stage) (chain : ℕ → List ℕ) (pixels : �
   pub stands_at : w.cursor ≡ head_of rest
   pub paid : AllPaid stage w.passed
   pub note : Noted stage w.noted rest
+  pub marked : w.unlinked ≡ true → IsNoted w.noted
   pub due : (n : ℕ) → 0 < times n (map number_of w.due) → 0 < times n (map node_of w.passed ++ rest)
 
 -- the walk has passed the node of the entry, with its payload

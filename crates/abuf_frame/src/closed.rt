@@ -1,8 +1,9 @@
 // A frame that is drawn.
-ghost use Rattle.std.specs.Prelude.{◌≡◌, ℕ, ◌+◌, ◌*◌, ◌<◌, ◌≤◌, ◌^◌, IfOk, IfSome, IfNone, IsPermutation, length, slice_index, slice_index_or, []};
+ghost use Rattle.std.specs.Prelude.{◌≡◌, ℕ, ◌+◌, ◌*◌, ◌<◌, ◌≤◌, ◌^◌, IfOk, IfSome, IfNone, IsPermutation, List, length, slice_index, slice_index_or, []};
+ghost use Rattle.abuf_frame.specs.Chains.{IsListAt};
 ghost use Rattle.abuf_frame.specs.Closing.{AllSeen, list_at};
 ghost use Rattle.abuf_frame.specs.Draws.{pairs, payloads_at};
-ghost use Rattle.abuf_frame.specs.Views.{IsSettled, IsWhole, lost};
+ghost use Rattle.abuf_frame.specs.Views.{IsSettled, IsWhole, lost, whole_view};
 
 use crate::frame::Frame;
 use crate::pass::Pass;
@@ -25,12 +26,13 @@ pub struct Closed {
 
 impl Model for Closed {
     ghost use Rattle.abuf_frame.specs.Closing.{Ended, Kept, lists_from};
+    ghost use Rattle.abuf_frame.specs.Words.{Sized};
 
     ghost Value = { Ended };
 
     ghost view = { λ c. record { lists = lists_from c.words c.pixels c.table_nodes 0 c.pixels; pixels = c.pixels; nodes = c.nodes; fragments = c.fragments } };
 
-    ghost invariant = { λ c. Kept c.words c.pixels c.table_nodes };
+    ghost invariant = { λ c. Kept c.words c.pixels c.table_nodes × Sized c.pixels c.nodes };
 }
 
 /// More fragments were drawn than the frame has nodes, so some were lost.
@@ -42,8 +44,8 @@ pub struct Full {
 }
 
 impl Frame {
-    /// Ends the drawing. The pass has to be whole, so that every other was joined into it, and settled. It takes
-    /// constant time: the words stay where they are.
+    /// Ends the drawing. The pass has to be whole, so that every other was joined into it, and settled. Each list is the walk
+    /// from its head, along the old heads that the entries keep. It takes constant time: the words stay where they are.
     pub fn close(self, pass: Pass) -> Closed
         requires frame { pass.frame ≡ self }
         requires whole { IsWhole pass.view }
@@ -53,6 +55,8 @@ impl Frame {
         ensures lists { (p : ℕ) → p < self.pixels → IsPermutation (list_at result p) (payloads_at p (pairs pass.view.entries)) }
         ensures kept { length pass.view.entries ≤ self.nodes → lost pass.view.entries ≡ 0 }
         ensures walks { AllSeen result.lists pass.view.walks }
+        ensures chains { (p : ℕ) → p < self.pixels → IsListAt p pass.view.entries (list_at result p) }
+        ensures only { (p : ℕ) → p < self.pixels → (l : List ℕ) → IsListAt p pass.view.entries l → l ≡ list_at result p }
     {
         let Frame {
             table,
@@ -117,6 +121,22 @@ impl Closed {
         ensures nodes { result.nodes ≡ nodes }
     {
         Closed { nodes, ..self }
+    }
+
+    /// A frame of as many pixels and nodes, whose lists are empty, with its whole pass, as `Frame::start` gives them. The words of
+    /// this one are let go first, so that their memory serves for it. After `NoMemory` there is no frame.
+    pub fn reopen(self, alloc: Global) -> Result<(Frame, Pass), NoMemory>
+        ensures { IfOk result (λ r. (r.0.pixels ≡ self.pixels) × (r.0.nodes ≡ self.nodes) × (r.1.frame ≡ r.0) × (r.1.view ≡ whole_view)) }
+    {
+        let Closed {
+            words,
+            pixels,
+            table_nodes: _,
+            nodes,
+            fragments: _,
+        } = self;
+        drop(words);
+        Frame::start(alloc, pixels, nodes)
     }
 
     /// The payloads of the pixel's fragments, in the order of the walk from its head: the entry that was swapped in last

@@ -1,6 +1,6 @@
 // A look at a list while others draw.
 ghost use Rattle.std.specs.Prelude.{◌≡◌, ℕ, ◌+◌, ◌*◌, ◌<◌, ◌≤◌, ◌-◌, ◌≢◌, ◌^◌, IsTrue, true, [], length, List};
-ghost use Rattle.abuf_frame.specs.Look.{Looked};
+ghost use Rattle.abuf_frame.specs.Look.{FindsList, Looked};
 ghost use Rattle.abuf_frame.specs.Views.{IsSettled, IsWhole};
 ghost use Rattle.abuf_frame.specs.Walks.{with_walk};
 ghost use Rattle.abuf_frame.specs.Words.{Sized, mark};
@@ -35,6 +35,7 @@ pub(crate) fn look_along(
     ensures place { (place.new.table_id ≡ place.old.table_id) × (place.new.id ≡ place.old.id) }
     ensures walk { (w : Walk) × (place.new.me ≡ (with_walk w place.old.me.0, [])) × Looked pixel place.old.me.0 out.old out.new result w }
     ensures linked { IsWhole place.old.me.0 → IsSettled place.old.me.0 → (n : ℕ) → result ≢ Unlinked n }
+    ensures list { FindsList pixel place.old.me.0 result out.new }
 {
     let mut at = look_head_at::<Brand>(words, place, pixel);
     let mut count = 0;

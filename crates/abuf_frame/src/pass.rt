@@ -1,7 +1,7 @@
 // The token of one drawer, and the steps that it makes.
 ghost use Rattle.std.specs.Prelude.{◌≡◌, ℕ, ◌+◌, ◌*◌, ◌<◌, ◌≤◌, ◌^◌, ◌-◌, min, [], ◌∷◌, IsTrue, ◌↔◌, length, List, All, ◌≢◌};
 ghost use Rattle.abuf_frame.specs.Draws.{CarryInOrder, Draws};
-ghost use Rattle.abuf_frame.specs.Look.{Looked};
+ghost use Rattle.abuf_frame.specs.Look.{FindsList, Looked};
 ghost use Rattle.abuf_frame.specs.Stages.{IsFilled, IsSwapped, filled, linked, linked_in, swapped};
 ghost use Rattle.abuf_frame.specs.Steps.{claimed, cut_left, cut_right, grown, having_seen, moved, united};
 ghost use Rattle.abuf_frame.specs.Views.{Below, IsSettled, IsWhole, endowment, loose, stage_of};
@@ -244,13 +244,15 @@ impl Pass {
     /// Walks along the list of the pixel as it stands, from its newest node, and writes the payloads into `out`, whose other
     /// places stay as they were. For each node it loads the payload, then the next, and writes the payload only where the
     /// next is there. After `All`, every Linked entry of this pass at the pixel, and every one that it was told of, is in
-    /// the list. A whole, settled pass never meets a node that is not linked, and `All` is then the whole list.
+    /// the list. A whole, settled pass never meets a node that is not linked. It finds the list that `Frame::close` would give:
+    /// the whole of it after `All`, and its first payloads after `More`.
     pub fn look(&mut self, frame: &Frame, pixel: u32, out: &mut [u64]) -> Look
         requires frame { self.old.frame ≡ frame.now }
         requires pixel { pixel < frame.now.pixels }
         ensures frame { self.new.frame ≡ self.old.frame }
         ensures walk { (w : Walk) × (self.new.view ≡ with_walk w self.old.view) × Looked pixel self.old.view out.old out.new result w }
         ensures linked { IsWhole self.old.view → IsSettled self.old.view → (n : ℕ) → result ≢ Unlinked n }
+        ensures list { FindsList pixel self.old.view result out.new }
     {
         look_along(
             &frame.table.shared,

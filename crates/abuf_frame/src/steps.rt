@@ -2,6 +2,7 @@
 ghost use Rattle.std.specs.Prelude.{◌≡◌, ℕ, ◌+◌, ◌%◌, ◌^◌, ◌<◌, ◌≤◌, ◌*◌, ◌-◌, []};
 ghost use Rattle.abuf_frame.specs.Seats.{HasStepped, HasView, MaySplit, MayStep, MayStore};
 ghost use Rattle.abuf_frame.specs.Steps.{cut_left, cut_right};
+ghost use Rattle.abuf_frame.specs.Walks.{LastHasNoted};
 ghost use Rattle.abuf_frame.specs.Words.{head_word, next_word, payload_word};
 
 use crate::rule::Lists;
@@ -151,8 +152,9 @@ pub(crate) fn look_payload_at<N: Aim>(words: &Words, place: &mut Place, pixels: 
     words.load::<Aimed<N>>(place, 1 + pixels as usize + 2 * (at - 1) as usize)
 }
 
-/// A look at the next of that node: a load.
+/// A look at the next of that node: a load, which is made only once the payload there is noted.
 pub(crate) fn look_next_at<N: Aim>(words: &Words, place: &mut Place, pixels: u32, at: u64) -> u64
+    requires noted { LastHasNoted place.old.me.0.walks }
     requires sized { (1 ≤ at) × (at ≤ 8388608) × (pixels ≤ 4194304) }
     requires step { MayStep words.now.key words.now.table_id place.old (next_word pixels (at - 1)) (λ n. n) N.after N.shows }
     ensures { HasStepped place.old place.new (N.after result) (N.shows result) }

@@ -132,6 +132,22 @@ fn a_look_between_swap_and_link(rt: HostRuntime) -> Result<(), Fail> {
 }
 
 #[test]
+fn looks_of_the_whole_pass(rt: HostRuntime) -> Result<(), Fail> {
+    let alloc = rt.alloc();
+    let (frame, mut pass) = Frame::start(alloc, 1, 3)?;
+    pass.insert_all(&frame, &[(0, 5), (0, 6), (0, 7)]);
+    let mut two = [0; 2];
+    let with_two_places = pass.look(&frame, 0, &mut two);
+    let mut three = [0; 3];
+    let with_three_places = pass.look(&frame, 0, &mut three);
+    let closed = frame.close(pass);
+    assert!(rt; matches!(&with_two_places, Look::More) && two == [7, 6]);
+    assert!(rt; matches!(&with_three_places, Look::All { count: 3 }) && three == [7, 6, 5]);
+    assert!(rt; closed.list(alloc, 0)?.as_slice() == [7, 6, 5].as_slice());
+    Ok(())
+}
+
+#[test]
 fn one_insert_and_two_at_once(rt: HostRuntime) -> Result<(), Fail> {
     let alloc = rt.alloc();
     let (frame, mut pass) = Frame::start(alloc, 2, 3)?;
@@ -297,5 +313,25 @@ fn a_larger_pool(rt: HostRuntime) -> Result<(), Fail> {
     let closed = frame.close(pass).in_larger_pool(8388608);
     assert!(rt; closed.fragments() == 2 && closed.full().is_none());
     assert!(rt; closed.list(alloc, 0)?.as_slice() == [6, 5].as_slice());
+    Ok(())
+}
+
+#[test]
+fn a_full_frame_reopened(rt: HostRuntime) -> Result<(), Fail> {
+    let alloc = rt.alloc();
+    let (frame, mut pass) = Frame::start(alloc, 1, 2)?;
+    pass.insert(&frame, 0, 1);
+    pass.insert(&frame, 0, 2);
+    pass.insert(&frame, 0, 3);
+    let closed = frame.close(pass);
+    let Some(Full { fragments, nodes }) = closed.full() else {
+        panic!(rt; "not full")
+    };
+    assert!(rt; fragments == 3 && nodes == 2);
+    let (again, mut anew) = closed.reopen(alloc)?;
+    anew.insert(&again, 0, 4);
+    let closed = again.close(anew);
+    assert!(rt; closed.full().is_none());
+    assert!(rt; closed.list(alloc, 0)?.as_slice() == [4].as_slice());
     Ok(())
 }

@@ -2,7 +2,7 @@ use Rattle.std.proofs.Common.{rules, ◌≡◌, ◌≢◌, ◌<◌, arith, lengt
 use Rattle.abuf_frame.specs.declared.view.Size.{Size}
 use Rattle.abuf_frame.specs.Words.{mark}
 use Rattle.abuf_frame.proofs.Looks.{looks_head}
-use Rattle.abuf_frame.proofs.Along.{may_note, may_go, goes_on, stops_at, stops_full, reaches_end, never_stops}
+use Rattle.abuf_frame.proofs.Along.{has_noted, may_note, may_go, goes_on, stops_at, stops_full, reaches_end, never_stops, ends_list, full_list}
 use Rattle.abuf_frame.proofs.look.look_along.Goals as goal
 
 pub look_head_at-at-requires : goal.look_head_at-at-requires
@@ -11,6 +11,10 @@ look_head_at-at-requires c = let k : Size = record { pixels = c.args.pixels; nod
 pub look_payload_at-payload-requires-clause-step : goal.look_payload_at-payload-requires-clause-step
 look_payload_at-payload-requires-clause-step c = let k : Size = record { pixels = c.args.pixels; nodes = c.args.nodes } in let g = c.loop-at.invariant.2 in let away : c.loop-at.at ≢ 0 = search rules in let s = g.small in
     (search rules, search rules, rw c.requires.key.0 (may_note _ _ _ _ _ _ _ _ g away k _ _))
+
+pub look_next_at-next-requires-clause-noted : goal.look_next_at-next-requires-clause-noted
+look_next_at-next-requires-clause-noted c = let g = c.loop-at.invariant.2 in let away : c.loop-at.at ≢ 0 = search rules in
+    has_noted _ _ _ _ _ _ _ _ g away c.look_payload_at-payload.result c.look_payload_at-payload.new.place.me c.look_payload_at-payload.ensures.2
 
 pub look_next_at-next-requires-clause-step : goal.look_next_at-next-requires-clause-step
 look_next_at-next-requires-clause-step c = let k : Size = record { pixels = c.args.pixels; nodes = c.args.nodes } in let g = c.loop-at.invariant.2 in let away : c.loop-at.at ≢ 0 = search rules in let s = g.small in
@@ -39,3 +43,14 @@ returns-then-count-out-clause-walk c = let g = c.loop-at.invariant.2 in let away
 
 pub returns-clause-walk : goal.returns-clause-walk
 returns-clause-walk c = let g = c.loop-at.invariant.2 in let ended : c.loop-at.at ≡ 0 = search rules in reaches_end _ _ _ _ _ _ _ _ g ended
+
+pub returns-then-next-clause-list : goal.returns-then-next-clause-list
+returns-then-next-clause-list c = let g = c.loop-at.invariant.2 in let away : c.loop-at.at ≢ 0 = search rules in let sh = rw c.requires.key.0 at c.look_next_at-next.ensures.3 in let found : c.look_next_at-next.result ≡ mark = search rules in
+    λ whole settled. absurd (never_stops _ _ _ _ _ _ _ _ g away c.look_payload_at-payload.result c.look_payload_at-payload.new.place.me c.look_payload_at-payload.ensures.2 c.look_next_at-next.result c.look_next_at-next.new.place.me c.look_next_at-next.ensures.2 sh found whole settled)
+
+pub returns-then-count-out-clause-list : goal.returns-then-count-out-clause-list
+returns-then-count-out-clause-list c = let g = c.loop-at.invariant.2 in let away : c.loop-at.at ≢ 0 = search rules in let full : c.loop-at.count ≡ length c.loop-at.out = search rules in
+    full_list _ _ _ _ _ _ _ _ g away full
+
+pub returns-clause-list : goal.returns-clause-list
+returns-clause-list c = let g = c.loop-at.invariant.2 in let ended : c.loop-at.at ≡ 0 = search rules in ends_list _ _ _ _ _ _ _ _ g ended

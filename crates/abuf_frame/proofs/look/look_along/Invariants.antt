@@ -2,12 +2,12 @@ use Rattle.std.proofs.Common.{◌≡◌, ◌-◌, ◌≤◌, List, [], ◌∷◌
 use Rattle.abuf_frame.specs.declared.view.Walk.{Walk}
 use Rattle.abuf_frame.specs.Walks.{AllMet, going, new_walk, noting, walked_on, with_walk}
 use Rattle.abuf_frame.specs.Look.{SeesWhole}
-use Rattle.abuf_frame.proofs.Looks.{Shown}
+use Rattle.abuf_frame.proofs.Looks.{SeesList, Shown}
 use Rattle.abuf_frame.proofs.Along.{Going}
 use Rattle.abuf_frame.proofs.look.look_along.Given as goal
 
 abbrev pub ghosts-look_head_at : goal.ghosts-look_head_at
-ghosts-look_head_at a = record { after = λ found. with_walk (new_walk a.pixel found a.place.now.me.0) a.place.now.me.0; shows = λ found. (found ≤ a.words.now.key.nodes) × (found ≡ 0 → AllMet (new_walk a.pixel found a.place.now.me.0)) × SeesWhole a.place.now.me.0 (new_walk a.pixel found a.place.now.me.0) }
+ghosts-look_head_at a = record { after = λ found. with_walk (new_walk a.pixel found a.place.now.me.0) a.place.now.me.0; shows = λ found. (found ≤ a.words.now.key.nodes) × (found ≡ 0 → AllMet (new_walk a.pixel found a.place.now.me.0)) × SeesWhole a.place.now.me.0 (new_walk a.pixel found a.place.now.me.0) × SeesList a.place.now.me.0 (new_walk a.pixel found a.place.now.me.0) }
 
 abbrev pub ghosts-look_payload_at : goal.ghosts-look_payload_at
 ghosts-look_payload_at a = record { after = λ found. walked_on (noting found) a.place.now.me.0; shows = λ _. Unit {0} }

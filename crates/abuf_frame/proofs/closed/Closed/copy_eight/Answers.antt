@@ -4,11 +4,11 @@ use Rattle.abuf_frame.proofs.closed.Closed.copy_eight.Goals as goal
 
 pub loop-init : goal.loop-init
 loop-init c = let pixels : ℕ = c.self.inside.pixels in let nodes : ℕ = c.self.inside.table_nodes in
-    (c.clear_all.ensures.length, λ k l. begins c.self.inside.words pixels nodes c.self.invariant (c.args.pixel + k) (nodes - 0) _ _ (omega arith) (c.heads-at.ensures.heads k l) (c.clear_all.ensures.empty k l))
+    (c.clear_all.ensures.length, λ k l. begins c.self.inside.words pixels nodes c.self.invariant.0 (c.args.pixel + k) (nodes - 0) _ _ (omega arith) (c.heads-at.ensures.heads k l) (c.clear_all.ensures.empty k l))
 
 pub advance_all-requires : goal.advance_all-requires
 advance_all-requires c = λ k l. let w = c.loop.invariant.1 k l in
-    refers c.self.inside.words c.self.inside.pixels c.self.inside.table_nodes (slice_index c.loop.at k) w.rest c.self.invariant.sized.3 c.self.invariant.wide w.threaded
+    refers c.self.inside.words c.self.inside.pixels c.self.inside.table_nodes (slice_index c.loop.at k) w.rest c.self.invariant.0.sized.3 c.self.invariant.0.wide w.threaded
 
 pub loop-preserved : goal.loop-preserved
 loop-preserved c = let e = c.in_ok-advance_all.ensures in (

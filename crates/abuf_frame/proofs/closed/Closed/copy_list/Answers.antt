@@ -5,23 +5,23 @@ use Rattle.abuf_frame.proofs.Closes.{goes, walk_more, whole_list}
 use Rattle.abuf_frame.proofs.closed.Closed.copy_list.Goals as goal
 
 pub overflow_mul-node : goal.overflow_mul-node
-overflow_mul-node c = let not : c.loop.at ≢ 0 = search rules in let n = goes _ _ _ _ _ c.loop.invariant.1 not in let l = n.node in let s = c.self.invariant.sized in omega arith
+overflow_mul-node c = let not : c.loop.at ≢ 0 = search rules in let n = goes _ _ _ _ _ c.loop.invariant.1 not in let l = n.node in let s = c.self.invariant.0.sized in omega arith
 
 pub overflow_add-node : goal.overflow_add-node
-overflow_add-node c = let not : c.loop.at ≢ 0 = search rules in let n = goes _ _ _ _ _ c.loop.invariant.1 not in let l = n.node in let s = c.self.invariant.sized in omega arith
+overflow_add-node c = let not : c.loop.at ≢ 0 = search rules in let n = goes _ _ _ _ _ c.loop.invariant.1 not in let l = n.node in let s = c.self.invariant.0.sized in omega arith
 
 pub word-requires : goal.word-requires
-word-requires c = let not : c.loop.at ≢ 0 = search rules in let n = goes _ _ _ _ _ c.loop.invariant.1 not in let l = n.node in let s = c.self.invariant.sized in let w = c.self.invariant.wide in search rules
+word-requires c = let not : c.loop.at ≢ 0 = search rules in let n = goes _ _ _ _ _ c.loop.invariant.1 not in let l = n.node in let s = c.self.invariant.0.sized in let w = c.self.invariant.0.wide in search rules
 
 pub overflow_add-node-in-loop : goal.overflow_add-node-in-loop
-overflow_add-node-in-loop c = let not : c.loop.at ≢ 0 = search rules in let n = goes _ _ _ _ _ c.loop.invariant.1 not in let l = n.node in let s = c.self.invariant.sized in omega arith
+overflow_add-node-in-loop c = let not : c.loop.at ≢ 0 = search rules in let n = goes _ _ _ _ _ c.loop.invariant.1 not in let l = n.node in let s = c.self.invariant.0.sized in omega arith
 
 pub word-at-requires-in-loop : goal.word-at-requires-in-loop
-word-at-requires-in-loop c = let not : c.loop.at ≢ 0 = search rules in let n = goes _ _ _ _ _ c.loop.invariant.1 not in let l = n.node in let s = c.self.invariant.sized in let w = c.self.invariant.wide in search rules
+word-at-requires-in-loop c = let not : c.loop.at ≢ 0 = search rules in let n = goes _ _ _ _ _ c.loop.invariant.1 not in let l = n.node in let s = c.self.invariant.0.sized in let w = c.self.invariant.0.wide in search rules
 
 pub loop-preserved : goal.loop-preserved
 loop-preserved c = let not : c.loop.at ≢ 0 = search rules in let n = goes _ _ _ _ _ c.loop.invariant.1 not in let ws = c.self.inside.words in
-    let l = n.node in let w = c.self.invariant.wide in
+    let l = n.node in let w = c.self.invariant.0.wide in
     let more : c.loop.counter < c.self.inside.table_nodes = search rules in
     let pay : c.word.result ≡ slice_index ws (payload_word c.self.inside.pixels (c.loop.at - 1)) = c.word.ensures in
     let place : (1 + c.self.inside.pixels) + 2 * (c.loop.at - 1) + 1 ≡ next_word c.self.inside.pixels (c.loop.at - 1) = omega arith in

@@ -4,6 +4,7 @@ use Rattle.atomic_table.specs.Table.{Final, Seen}
 use Rattle.abuf_frame.specs.declared.view.Entry.{Entry}
 use Rattle.abuf_frame.specs.declared.view.Size.{Size}
 use Rattle.abuf_frame.specs.declared.view.Walk.{Walk}
+use Rattle.abuf_frame.specs.Chains.{IsListAt}
 use Rattle.abuf_frame.specs.Closing.{AllSeen, lists_from}
 use Rattle.abuf_frame.specs.Draws.{pairs, payloads_at}
 use Rattle.abuf_frame.specs.Lawful.{Lawful}
@@ -21,7 +22,7 @@ good c = let k : Size = record { pixels = c.self.inside.pixels; nodes = c.self.i
     subst (Good k v) (sym c.new.ensures) (closes k id v whole settled c.self.invariant.sized sound words slots final)
 
 pub invariant_of-result : goal.invariant_of-result
-invariant_of-result c = (good c).0
+invariant_of-result c = ((good c).0, c.self.invariant.sized)
 
 pub returns-clause-sizes : goal.returns-clause-sizes
 returns-clause-sizes c = let n = ap (λ h. h.pixels) c.self.view_is in
@@ -37,3 +38,11 @@ returns-clause-kept c = let e = ap (λ h. h.view.entries) c.pass.view_is in let 
 
 pub returns-clause-walks : goal.returns-clause-walks
 returns-clause-walks c = let e = ap (λ h. h.view.walks) c.pass.view_is in subst (λ (walks : List Walk). AllSeen (lists_from c.new.result c.self.inside.pixels c.self.inside.nodes 0 c.self.inside.pixels) walks) e (good c).3
+
+pub returns-clause-chains : goal.returns-clause-chains
+returns-clause-chains c = let e = ap (λ h. h.view.entries) c.pass.view_is in let n = ap (λ h. h.pixels) c.self.view_is in
+    λ p on. subst (λ (es : List Entry). IsListAt p es (slice_index_or (lists_from c.new.result c.self.inside.pixels c.self.inside.nodes 0 c.self.inside.pixels) p [])) e ((good c).4 p (omega arith))
+
+pub returns-clause-only : goal.returns-clause-only
+returns-clause-only c = let e = ap (λ h. h.view.entries) c.pass.view_is in let n = ap (λ h. h.pixels) c.self.view_is in
+    λ p on l is. (good c).5 p (omega arith) l (subst (λ (es : List Entry). IsListAt p es l) (sym e) is)
