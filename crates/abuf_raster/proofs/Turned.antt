@@ -7,6 +7,8 @@ use Rattle.abuf_raster.specs.declared.region.Region.{Region}
 use Rattle.abuf_raster.specs.Triangle.{Triangle, has_area, positive_order}
 use Rattle.abuf_raster.specs.Samples.{sample_place}
 use Rattle.abuf_raster.specs.Coverage.{mask_below, covers_sample, all_accept}
+use Rattle.abuf_raster.specs.declared.bounding_box.BoundingBox.{BoundingBox}
+use Rattle.abuf_raster.specs.BoundingBox.{IsBoxOf}
 use Rattle.abuf_raster.specs.Hits.{hit_at, hits}
 use Rattle.abuf_raster.specs.Walk.{hit_of}
 use Rattle.abuf_raster.proofs.Acceptance.{positive_area}
@@ -34,3 +36,18 @@ module _ (t : Triangle) (n : ℕ) (os : List (ℤ × ℤ)) (r : Region) where
   hits_of_none some h =
       hits_rows t n os r some
       ∙ block_none t n os r.x0 r.w r.y0 r.h (λ i j _ _ _ _. mask_uncovered t os i j (length os) (λ k l. let s : Point = sample_place (slice_index_or os k (pos 0, pos 0)) i j in ap (λ (b : Bool). b && all_accept (positive_order t).a (positive_order t).b (positive_order t).c s) h))
+
+-- a box round a triangle is one round the triangle in positive order
+pub box_turned : (t : Triangle) (os : List (ℤ × ℤ)) (r : Region) (b : BoundingBox) → has_area t ≡ true → IsBoxOf t os r b → IsBoxOf (positive_order t) os r b
+box_turned t os r b h i = record {
+  x_order = i.x_order;
+  y_order = i.y_order;
+  x_low = i.x_low;
+  x_high = i.x_high;
+  y_low = i.y_low;
+  y_high = i.y_high;
+  left = λ x y l g. mask_turned t os x y (length os) h ∙ i.left x y l g;
+  right = λ x y l g. mask_turned t os x y (length os) h ∙ i.right x y l g;
+  above = λ x y l g. mask_turned t os x y (length os) h ∙ i.above x y l g;
+  under = λ x y l g. mask_turned t os x y (length os) h ∙ i.under x y l g;
+}
