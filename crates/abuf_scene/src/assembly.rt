@@ -75,10 +75,14 @@ fn all_fans(alloc: Global, obj: &Obj, materials: &Materials) -> Result<List<Tria
 }
 
 /// The triangles of all faces, in order, or the line of the first face whose name has no material. The
-/// clauses speak of every list of libraries that the materials stand for. A face without a name has the
-/// paint of a new material: a colour and an alpha of 65535.
+/// first three clauses speak of the materials by their names and paints alone, the next three of every list
+/// of libraries that they stand for. A face without a name has the paint of a new material: a colour and an
+/// alpha of 65535.
 pub fn assemble(alloc: Global, obj: &Obj, materials: &Materials) -> Result<Scene, SceneFault>
     requires { All (IsFace (length obj.now.points) (length obj.now.names)) obj.now.faces }
+    ensures fault_by_name { IfErr result (Tells (unknown_by (look_up materials.now) obj.now)) }
+    ensures known_by_name { OnOk result (unknown_by (look_up materials.now) obj.now ≡ None) }
+    ensures triangles_by_name { IfOk result (λ s. s.triangles ≡ triangles_by (look_up materials.now) obj.now) }
     ensures fault { (libraries : Items (Items ℕ)) → StandsFor libraries materials.now → IfErr result (Tells (unknown libraries obj.now)) }
     ensures known { (libraries : Items (Items ℕ)) → StandsFor libraries materials.now → OnOk result (unknown libraries obj.now ≡ None) }
     ensures triangles { (libraries : Items (Items ℕ)) → StandsFor libraries materials.now → IfOk result (λ scene. scene.triangles ≡ triangles libraries obj.now) }
