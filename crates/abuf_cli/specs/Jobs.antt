@@ -1,15 +1,18 @@
 -- The job that the words of a command line ask for, or the refusal.
-use Rattle.std.specs.Prelude.{Bool, true, false, ℕ, List, [], ◌∷◌, codes, Option, Some, None, Result, Ok, Err, ◌≡◌}
+use Rattle.std.specs.Prelude.{Bool, true, false, ℕ, pos, neg_ℤ, List, [], ◌∷◌, codes, Option, Some, None, Result, Ok, Err, ◌≡◌}
 use Rattle.clap.specs.Words.{Row, Text, first_of}
 use Rattle.abuf_view.specs.Camera.{camera}
+use Rattle.abuf_cli.specs.Options.{name_of}
 use Rattle.abuf_cli.specs.Commands.{app_of_command, command_named, is_given, matches, text_of}
-use Rattle.abuf_cli.specs.Values.{size_of, pattern_of, threads_of, nodes_of, turn_of, shift_of, focal_of, near_of, background_of, maxval_of, bands_of, at_of, number_of}
+use Rattle.abuf_cli.specs.Values.{size_of, pattern_of, threads_of, nodes_of, turn_of, shift_of, focal_of, near_of, background_of, maxval_of, bands_of, at_of, number_of, path_of}
 use Rattle.abuf_cli.specs.declared.command.CommandName.{CommandName}
-use Rattle.abuf_cli.specs.declared.command.CommandName.TheVariants.{Render, Pick, Demo}
+use Rattle.abuf_cli.specs.declared.command.CommandName.TheVariants.{Render, Pick, Demo, Sequence}
 use Rattle.abuf_cli.specs.declared.values.Size.{Size}
 use Rattle.abuf_cli.specs.declared.job.Job.{Job}
-use Rattle.abuf_cli.specs.declared.job.Pose.{Pose}
-use Rattle.abuf_cli.specs.declared.job.Storage.{Storage}
+use Rattle.abuf_cli.specs.declared.settings.Pose.{Pose}
+use Rattle.abuf_cli.specs.declared.settings.Lens.{Lens}
+use Rattle.abuf_cli.specs.declared.settings.Storage.{Storage}
+use Rattle.abuf_cli.specs.declared.settings.Settings.{Settings}
 use Rattle.abuf_cli.specs.declared.job.What.{What}
 use Rattle.abuf_cli.specs.declared.job.What.TheVariants as what
 use Rattle.abuf_cli.specs.declared.job.Opt.{Opt}
@@ -27,14 +30,33 @@ abbrev pub and_then : {A B : Type 0} → Result A WordFault → (A → Result B 
 and_then (Err fault) next = Err fault
 and_then (Ok x) next = next x
 
--- Where the camera stands and looks, and its lens.
-abbrev pub pose_of : List Row → Result Pose WordFault
-pose_of rows =
-    need opt.Turn (turn_of (text_of (codes "turn") (codes "1,0,0,0") rows)) (λ turn.
-    need opt.Shift (shift_of (text_of (codes "move") (codes "0,0,-4") rows)) (λ shift.
-    need opt.Focal (focal_of (text_of (codes "focal") (codes "1") rows)) (λ focal.
-    need opt.Near (near_of (text_of (codes "near") (codes "0.125") rows)) (λ near.
-    Ok (record { turn = turn; shift = shift; focal = focal; near = near })))))
+-- Where the camera stands and looks, by the texts of `turn` and `move`.
+abbrev pub given_pose : List Row → Result Pose WordFault
+given_pose rows =
+    need opt.Turn (turn_of (text_of opt.Turn rows)) (λ turn.
+    need opt.Shift (shift_of (text_of opt.Shift rows)) (λ shift.
+    Ok (record { turn = turn; shift = shift })))
+
+-- No turn, and four lengths of the scene away from it.
+abbrev pub default_pose : Pose
+default_pose = record {
+  turn = pos 1 ∷ pos 0 ∷ pos 0 ∷ pos 0 ∷ [];
+  shift = pos 0 ∷ pos 0 ∷ neg_ℤ (pos 262144) ∷ [];
+}
+
+-- Where the camera of a command stands and looks: `sequence` doesn't take the texts, and has the default.
+abbrev pub pose_of : CommandName → List Row → Result Pose WordFault
+pose_of Render rows = given_pose rows
+pose_of Pick rows = given_pose rows
+pose_of Demo rows = given_pose rows
+pose_of Sequence rows = Ok default_pose
+
+-- The lens of the camera.
+abbrev pub lens_of : List Row → Result Lens WordFault
+lens_of rows =
+    need opt.Focal (focal_of (text_of opt.Focal rows)) (λ focal.
+    need opt.Near (near_of (text_of opt.Near rows)) (λ near.
+    Ok (record { focal = focal; near = near })))
 
 -- How the fragments of a render are stored, by the text of `bands`, where it is given, and whether `peel` is given: with
 -- it, bands are refused whatever their text.
@@ -46,39 +68,64 @@ render_storage height (Some text) false =
 
 -- How the fragments of a command are stored, where the image has this height: only `render` has bands, or peels.
 abbrev pub storage_of : CommandName → ℕ → List Row → Result Storage WordFault
-storage_of Render height rows = render_storage height (first_of (codes "bands") rows) (is_given (codes "peel") rows)
+storage_of Render height rows = render_storage height (first_of (name_of opt.Bands) rows) (is_given (codes "peel") rows)
 storage_of Pick height rows = Ok (record { bands = None; peel = false })
 storage_of Demo height rows = Ok (record { bands = None; peel = false })
+storage_of Sequence height rows = Ok (record { bands = None; peel = false })
+
+-- The sequence of the path file of this name.
+abbrev pub sequence_of : List ℕ → Result What WordFault
+sequence_of text = need opt.Path (path_of text) (λ name. Ok (what.Sequence name))
 
 -- What a command makes, where the image has this size. Its value has to be given, so that no text stands by default.
 abbrev pub what_of : CommandName → Size → List Row → Result What WordFault
 what_of Render size rows = Ok what.Render
-what_of Pick size rows = need opt.At (at_of size (text_of (codes "at") [] rows)) (λ pixel. Ok (what.Pick pixel.x pixel.y))
-what_of Demo size rows = need opt.Number (number_of (text_of (codes "number") [] rows)) (λ number. Ok (what.Demo number))
+what_of Pick size rows = need opt.At (at_of size (text_of opt.At rows)) (λ pixel. Ok (what.Pick pixel.x pixel.y))
+what_of Demo size rows = need opt.Number (number_of (text_of opt.Number rows)) (λ number. Ok (what.Demo number))
+what_of Sequence size rows = sequence_of (text_of opt.Path rows)
 
--- The options in the order in which their texts are refused, each with the text of its default; then what the command makes.
-abbrev pub job_of : CommandName → List Row → Result Job WordFault
-job_of name rows =
-    need opt.Size (size_of (text_of (codes "size") (codes "640x480") rows)) (λ size.
-    need opt.Samples (pattern_of (text_of (codes "samples") (codes "1") rows)) (λ pattern.
-    need opt.Threads (threads_of (text_of (codes "threads") (codes "4") rows)) (λ threads.
-    need opt.Nodes (nodes_of (text_of (codes "nodes") (codes "4194304") rows)) (λ nodes.
-    and_then (pose_of rows) (λ pose.
-    need opt.Background (background_of (text_of (codes "background") (codes "0,0,0") rows)) (λ background.
-    need opt.Maxval (maxval_of (text_of (codes "maxval") (codes "255") rows)) (λ maxval.
+-- What the options ask for, in the order in which their texts are refused, each with the text of its default.
+abbrev pub settings_of : CommandName → List Row → Result Settings WordFault
+settings_of name rows =
+    need opt.Size (size_of (text_of opt.Size rows)) (λ size.
+    need opt.Samples (pattern_of (text_of opt.Samples rows)) (λ pattern.
+    need opt.Threads (threads_of (text_of opt.Threads rows)) (λ threads.
+    need opt.Nodes (nodes_of (text_of opt.Nodes rows)) (λ nodes.
+    and_then (pose_of name rows) (λ pose.
+    and_then (lens_of rows) (λ lens.
+    need opt.Background (background_of (text_of opt.Background rows)) (λ background.
+    need opt.Maxval (maxval_of (text_of opt.Maxval rows)) (λ maxval.
     and_then (storage_of name size.height rows) (λ storage.
-    and_then (what_of name size rows) (λ what.
     Ok (record {
-      what = what;
-      camera = camera size.width size.height pose.turn pose.shift pose.focal pose.near;
+      size = size;
       pattern = pattern;
       threads = threads;
       nodes = nodes;
+      pose = pose;
+      lens = lens;
       background = background;
       maxval = maxval;
-      bands = storage.bands;
-      peel = storage.peel;
+      storage = storage;
     }))))))))))
+
+-- The job of these settings that makes this.
+abbrev pub job_from : Settings → What → Job
+job_from s what = record {
+  what = what;
+  camera = camera s.size.width s.size.height s.pose.turn s.pose.shift s.lens.focal s.lens.near;
+  pattern = s.pattern;
+  threads = s.threads;
+  nodes = s.nodes;
+  background = s.background;
+  maxval = s.maxval;
+  bands = s.storage.bands;
+  peel = s.storage.peel;
+}
+
+-- The options come first, and then what the command makes.
+abbrev pub job_of : CommandName → List Row → Result Job WordFault
+job_of name rows =
+    and_then (settings_of name rows) (λ settings. and_then (what_of name settings.size rows) (λ what. Ok (job_from settings what)))
 
 -- Without matches the words aren't understood.
 abbrev pub of_matches : CommandName → Option (List Row) → Result Job WordFault
@@ -90,7 +137,7 @@ abbrev pub first_command : List Text → Option CommandName
 first_command [] = None
 first_command (word ∷ words) = command_named word
 
--- Where no command is named the words aren't understood; else `clap` reads the words behind its name.
+-- Where no command is named the words aren't understood; else `clap` reads the words after its name.
 abbrev pub of_command : Option CommandName → List Text → Result Job WordFault
 of_command None words = Err Words
 of_command (Some name) words = of_matches name (matches (app_of_command name) words)
@@ -99,9 +146,9 @@ of_command (Some name) words = of_matches name (matches (app_of_command name) wo
 abbrev pub job : List Text → Result Job WordFault
 job words = of_command (first_command words) words
 
--- An answer is the job or its refusal; want of memory may always come.
-abbrev pub Answers : Result Job WordFault → Result Job WordFault → Type 0
-Answers wanted (Ok job) = wanted ≡ Ok job
+-- An answer is the value or its refusal; memory may always run out.
+abbrev pub Answers : {A : Type 0} → Result A WordFault → Result A WordFault → Type 0
+Answers wanted (Ok x) = wanted ≡ Ok x
 Answers wanted (Err Words) = wanted ≡ Err Words
 Answers wanted (Err (Value option)) = wanted ≡ Err (Value option)
 Answers wanted (Err Memory) = Unit {0}

@@ -1,5 +1,6 @@
+pub mod Options
 pub mod Commands
-pub mod Texts
+pub mod Cuts
 pub mod Values
 pub mod Jobs
 pub mod Poses

@@ -1,31 +1,46 @@
 -- What every job keeps to.
-use Rattle.std.specs.Prelude.{ℕ, Bool, true, false, Option, None, IfSome, ◌≡◌, ◌≤◌, ◌<◌, ◌⊎◌}
-use Rattle.abuf_view.specs.Camera.{IsCamera}
+use Rattle.std.specs.Prelude.{ℕ, Bool, true, false, length, Option, None, IfSome, ◌≡◌, ◌≤◌, ◌<◌, ◌⊎◌}
+use Rattle.abuf_view.specs.Camera.{IsSize, IsLens, IsCamera}
+use Rattle.abuf_cli.specs.Poses.{IsPose}
 use Rattle.abuf_cli.specs.declared.command.CommandName.{CommandName}
 use Rattle.abuf_cli.specs.declared.command.CommandName.TheVariants as command
 use Rattle.abuf_cli.specs.declared.job.Job.{Job}
+use Rattle.abuf_cli.specs.declared.settings.Settings.{Settings}
 use Rattle.abuf_cli.specs.declared.job.What.{What}
-use Rattle.abuf_cli.specs.declared.job.What.TheVariants.{Render, Pick, Demo}
+use Rattle.abuf_cli.specs.declared.job.What.TheVariants.{Render, Pick, Demo, Sequence}
 
--- What is made, where the image has this width and height: a pixel lies within it, and a number of triangles within its
--- range.
+-- What is made, where the image has this width and height: a pixel lies within it, a number of triangles within its range,
+-- and the name of a path file isn't empty.
 abbrev pub IsWhat : ℕ → ℕ → What → Type 0
 IsWhat width height Render = Unit {0}
 IsWhat width height (Pick x y) = (x < width) × (y < height)
 IsWhat width height (Demo number) = (1 ≤ number) × (number ≤ 200000)
+IsWhat width height (Sequence name) = 1 ≤ length name
 
 -- The command that makes it.
 abbrev pub command_of : What → CommandName
 command_of Render = command.Render
 command_of (Pick x y) = command.Pick
 command_of (Demo number) = command.Demo
+command_of (Sequence name) = command.Sequence
 
 -- How the fragments are stored, where the image has this height: bands of `render` are from 1 to the height where they
--- are given, and aren't given where it peels; `pick` and `demo` have no bands and don't peel.
+-- are given, and aren't given where it peels; the other commands have no bands and don't peel.
 abbrev pub IsStorage : ℕ → What → Option ℕ → Bool → Type 0
 IsStorage height Render bands peel = (IfSome bands (λ b. (1 ≤ b) × (b ≤ height))) × (peel ≡ true → bands ≡ None)
 IsStorage height (Pick x y) bands peel = (bands ≡ None) × (peel ≡ false)
 IsStorage height (Demo number) bands peel = (bands ≡ None) × (peel ≡ false)
+IsStorage height (Sequence name) bands peel = (bands ≡ None) × (peel ≡ false)
+
+-- What the settings of a command keep to.
+pub record IsSettings (name : CommandName) (s : Settings) : Type 0 where
+  pub size : IsSize s.size.width s.size.height
+  pub threads : (1 ≤ s.threads) × (s.threads ≤ 64)
+  pub nodes : (1 ≤ s.nodes) × (s.nodes ≤ 8388608)
+  pub pose : IsPose s.pose
+  pub lens : IsLens s.lens.focal s.lens.near
+  pub maxval : (s.maxval ≡ 255) ⊎ (s.maxval ≡ 65535)
+  pub storage : (what : What) → command_of what ≡ name → IsStorage s.size.height what s.storage.bands s.storage.peel
 
 pub record IsJob (job : Job) : Type 0 where
   pub what : IsWhat job.camera.width job.camera.height job.what

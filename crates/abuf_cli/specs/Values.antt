@@ -1,8 +1,9 @@
 -- What the texts of the options and values stand for. None is a text that isn't in its form, or a value out of its range.
-use Rattle.std.specs.Prelude.{◌*◌, ℕ, ℤ, pos, negsuc, min, ◌&&◌, nat_le, nat_lt, int_lt, not, List, [], ◌∷◌, codes, unsigned_abs, Option, Some, None, option_map, option_and_then, if◌then◌else◌}
+use Rattle.std.specs.Prelude.{◌*◌, ℕ, ℤ, pos, negsuc, min, ◌&&◌, nat_le, nat_lt, int_lt, not, List, [], ◌∷◌, codes, Option, Some, None, option_map, option_and_then, if◌then◌else◌}
 use Rattle.std.specs.Str.{bytes_eq}
-use Rattle.std.specs.Ordering.{int_eq}
-use Rattle.abuf_cli.specs.Texts.{whole_number, cut_at, three_texts, four_texts, signed_number, scaled_number}
+use Rattle.abuf_num.specs.Texts.{whole_number, scaled_number}
+use Rattle.abuf_view.specs.Turns.{turn_part, turn_from}
+use Rattle.abuf_cli.specs.Cuts.{cut_at, three_texts, four_texts}
 use Rattle.abuf_cli.specs.declared.values.Size.{Size}
 use Rattle.abuf_cli.specs.declared.values.Pixel.{Pixel}
 use Rattle.abuf_cli.specs.declared.values.Triple.{Triple}
@@ -46,29 +47,6 @@ threads_of text = counted 1 64 (whole_number 2 text)
 -- One to seven digits, 1 to 8388608.
 abbrev pub nodes_of : List ℕ → Option ℕ
 nodes_of text = counted 1 8388608 (whole_number 7 text)
-
--- A number from -1024 to 1024.
-abbrev pub small_part : Option ℤ → Option ℤ
-small_part None = None
-small_part (Some z) = if nat_le (unsigned_abs z) 1024 then Some z else None
-
--- A part of a turn: an optional `-` and one to four digits, from -1024 to 1024.
-abbrev pub turn_part : List ℕ → Option ℤ
-turn_part text = small_part (signed_number text)
-
--- A quaternion whose parts are not all 0.
-abbrev pub some_turn : ℤ → ℤ → ℤ → ℤ → Option (List ℤ)
-some_turn a b c d =
-    if int_eq a (pos 0) && (int_eq b (pos 0) && (int_eq c (pos 0) && int_eq d (pos 0))) then None
-    else Some (a ∷ b ∷ c ∷ d ∷ [])
-
--- The quaternion of four parts, where all are numbers within their range.
-abbrev pub turn_from : Option ℤ → Option ℤ → Option ℤ → Option ℤ → Option (List ℤ)
-turn_from None b c d = None
-turn_from (Some a) None c d = None
-turn_from (Some a) (Some b) None d = None
-turn_from (Some a) (Some b) (Some c) None = None
-turn_from (Some a) (Some b) (Some c) (Some d) = some_turn a b c d
 
 -- `a,b,c,d`.
 abbrev pub turn_of : List ℕ → Option (List ℤ)
@@ -137,3 +115,8 @@ at_of size text = option_and_then (λ parts. pixel_from size (whole_number 4 par
 -- One to six digits, 1 to 200000.
 abbrev pub number_of : List ℕ → Option ℕ
 number_of text = counted 1 200000 (whole_number 6 text)
+
+-- The name of a path file, which isn't empty.
+abbrev pub path_of : List ℕ → Option (List ℕ)
+path_of [] = None
+path_of (b ∷ bs) = Some (b ∷ bs)

@@ -2,10 +2,12 @@
 ghost use Rattle.std.specs.Prelude.{◌≡◌, IfOk, IfErr, map, option_map, Some, None, Err, true};
 ghost use Rattle.std.specs.String.{string_bytes};
 ghost use Rattle.clap.specs.Words.{app_of, rule_of, rows_of, found_of, with_rule, first_of, is_simple_and_free};
-ghost use Rattle.abuf_cli.specs.Commands.{option_rule, flag_rule, option_names, with_options, positional_rule, common_app, render_app, app_of_command, command_named, matches, text_of, is_given};
+ghost use Rattle.abuf_cli.specs.Options.{name_of, options_of};
+ghost use Rattle.abuf_cli.specs.Commands.{option_rule, flag_rule, with_options, positional_rule, own_rule, app_of_command, command_named, matches, text_of, is_given};
 ghost use Rattle.abuf_cli.specs.Jobs.{IsOfWords};
 
-use crate::job::WordFault;
+use crate::job::{Opt, WordFault};
+use crate::options::options_of;
 use clap::error::ErrorKind;
 use clap::{Arg, ArgAction, ArgMatches, Command};
 use std::alloc::{AllocError, Global};
@@ -19,6 +21,8 @@ pub enum CommandName {
     Pick,
     /// `demo`, the demonstration scene.
     Demo,
+    /// `sequence`, an image for each shot of a path file.
+    Sequence,
 }
 
 /// The command that this word names.
@@ -29,23 +33,10 @@ pub fn command_named(word: &str) -> Option<CommandName>
         "render" => Some(CommandName::Render),
         "pick" => Some(CommandName::Pick),
         "demo" => Some(CommandName::Demo),
+        "sequence" => Some(CommandName::Sequence),
         _ => None,
     }
 }
-
-// The options of every command.
-static OPTIONS: [&str; 10] = [
-    "size",
-    "samples",
-    "threads",
-    "nodes",
-    "turn",
-    "move",
-    "focal",
-    "near",
-    "background",
-    "maxval",
-];
 
 fn with_option<'a>(
     alloc: Global,
@@ -79,41 +70,30 @@ fn with_positional<'a>(
     command.arg(Arg::new(alloc, name).required(true))
 }
 
-// A command with an option for each of the names.
+// A command with each of these options.
 fn with_options_of<'a>(
     alloc: Global,
     command: Command<'a>,
-    names: &'static [&'static str],
+    options: &'static [Opt],
 ) -> Result<Command<'a>, AllocError>
-    ensures { IfOk result (λ r. app_of r ≡ with_options (app_of command.entry) (map (λ n. n.now) names.now)) }
+    ensures { IfOk result (λ r. app_of r ≡ with_options (app_of command.entry) options.now) }
 {
     let mut command = command;
-    for name in names {
-        command = with_option(alloc, command, name)?;
+    for option in options {
+        command = with_option(alloc, command, option.name())?;
     }
     Ok(command)
-}
-
-// A command with the options that every command takes.
-fn common<'a>(alloc: Global) -> Result<Command<'a>, AllocError>
-    ensures { IfOk result (λ r. app_of r ≡ common_app) }
-{
-    with_options_of(alloc, Command::new(alloc, "abuf"), &OPTIONS)
-}
-
-fn render<'a>(alloc: Global) -> Result<Command<'a>, AllocError>
-    ensures { IfOk result (λ r. app_of r ≡ render_app) }
-{
-    with_flag(alloc, with_option(alloc, common(alloc)?, "bands")?, "peel")
 }
 
 fn command_of<'a>(alloc: Global, name: CommandName) -> Result<Command<'a>, AllocError>
     ensures { IfOk result (λ r. app_of r ≡ app_of_command name) }
 {
+    let command = with_options_of(alloc, Command::new(alloc, "abuf"), options_of(name))?;
     match name {
-        CommandName::Render => render(alloc),
-        CommandName::Pick => with_positional(alloc, common(alloc)?, "at"),
-        CommandName::Demo => with_positional(alloc, common(alloc)?, "number"),
+        CommandName::Render => with_flag(alloc, command, "peel"),
+        CommandName::Pick => with_positional(alloc, command, Opt::At.name()),
+        CommandName::Demo => with_positional(alloc, command, Opt::Number.name()),
+        CommandName::Sequence => with_positional(alloc, command, Opt::Path.name()),
     }
 }
 
@@ -141,12 +121,12 @@ pub fn given_text<'a>(matches: &ArgMatches<'a>, name: &str) -> Option<&'a str>
 }
 
 /// The text that an option or a value was given, or that of its default.
-pub fn text_of<'a>(matches: &ArgMatches<'a>, name: &str, default: &'a str) -> &'a str
-    ensures { result.now ≡ text_of name.now default.now (rows_of (found_of matches.now)) }
+pub fn text_of<'a>(matches: &ArgMatches<'a>, option: Opt) -> &'a str
+    ensures { result.now ≡ text_of option (rows_of (found_of matches.now)) }
 {
-    match given_text(matches, name) {
+    match given_text(matches, option.name()) {
         Some(text) => text,
-        None => default,
+        None => option.default_text(),
     }
 }
 
@@ -154,7 +134,10 @@ pub fn text_of<'a>(matches: &ArgMatches<'a>, name: &str, default: &'a str) -> &'
 pub fn is_given(matches: &ArgMatches, name: &str) -> bool
     ensures { result ≡ is_given name.now (rows_of (found_of matches.now)) }
 {
-    text_of(matches, name, "false") == "true"
+    match given_text(matches, name) {
+        Some(text) => text == "true",
+        None => false,
+    }
 }
 
 /// What `clap` finds in the words of a command, of which the first is its name.

@@ -1,13 +1,17 @@
 //! The words of the command line.
 //!
 //! [`read_words`] gives the job that the words ask for, by `specs/Jobs.antt`, or the first refusal. The first
-//! word names the command, and is read here. `clap` reads which options and positional values stand behind it and their
+//! word names the command, and is read here. `clap` reads which options and positional values come after it and their
 //! texts; every form, range and default is read here.
 #![tactic(auto)]
 
 mod command;
+mod cuts;
 mod job;
-mod parts;
+mod options;
+#[cfg(test)]
+mod refusals;
+mod settings;
 #[cfg(test)]
 mod tests;
 mod values;

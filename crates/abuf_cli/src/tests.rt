@@ -1,9 +1,10 @@
-// Words, and what they ask for.
+// Words that are read, and what they ask for.
 use crate::{Job, Opt, What, WordFault, read_words};
 use abuf_raster::Pattern;
 use std::alloc::Global;
 
-fn read(alloc: Global, texts: &[&str]) -> Result<Job, WordFault> {
+/// What these words ask for.
+pub(crate) fn read(alloc: Global, texts: &[&str]) -> Result<Job, WordFault> {
     let mut words = Vec::new(alloc);
     for text in texts {
         let Ok(word) = String::from_str(alloc, text) else {
@@ -14,135 +15,6 @@ fn read(alloc: Global, texts: &[&str]) -> Result<Job, WordFault> {
         }
     }
     read_words(alloc, words.as_slice())
-}
-
-const NOT_UNDERSTOOD: &[&[&str]] = &[
-    &[],
-    &[""],
-    &["--size", "4x4"],
-    &["Render"],
-    &["draw"],
-    &["render", "render"],
-    &["render", "4x4"],
-    &["render", "--", "4x4"],
-    &["render", "--size"],
-    &["render", "--siz", "4x4"],
-    &["render", "--sizes", "4x4"],
-    &["render", "--size", "4x4", "--size", "4x4"],
-    &["render", "--move", "-1,0,-4"],
-    &["render", "-h"],
-    &["render", "--help"],
-    &["render", "-V"],
-    &["render", "--version"],
-    &["render", "1,1"],
-    &["render", "--peel=x"],
-    &["render", "--peel", "--peel"],
-    &["pick", "0,0", "--peel"],
-    &["demo", "1", "--bands", "2"],
-    &["Pick", "1,1"],
-    &["1,1", "pick"],
-    &["pick"],
-    &["pick", "--"],
-    &["pick", "1,1", "2,2"],
-    &["pick", "1,1", "--", "2,2"],
-    &["pick", "-1,0"],
-    &["pick", "--at", "1,1"],
-    &["pick", "--at=1,1"],
-    &["pick", "--size", "1,1"],
-    &["pick", "--size", "0x0"],
-    &["pick", "1,1", "--help"],
-    &["demo"],
-    &["demo", "1", "2"],
-    &["demo", "-1"],
-    &["demo", "--number", "1"],
-    &["demo", "--size", "0x0"],
-];
-
-const BAD_VALUES: &[(&[&str], Opt)] = &[
-    (&["render", "--size", "4096x4096"], Opt::Size),
-    (&["render", "--size", "4097x1"], Opt::Size),
-    (&["render", "--size=4x4x4"], Opt::Size),
-    (&["render", "--size="], Opt::Size),
-    (&["render", "--size", ""], Opt::Size),
-    (&["render", "--size", "-"], Opt::Size),
-    (&["render", "--near", "0", "--size", "0x4"], Opt::Size),
-    (&["render", "--samples", "3"], Opt::Samples),
-    (&["render", "--samples", "02"], Opt::Samples),
-    (&["render", "--samples", "32"], Opt::Samples),
-    (&["render", "--samples", ""], Opt::Samples),
-    (&["render", "--samples=1=1"], Opt::Samples),
-    (&["render", "--threads", "0"], Opt::Threads),
-    (&["render", "--threads", "65"], Opt::Threads),
-    (&["render", "--nodes", "0"], Opt::Nodes),
-    (&["render", "--nodes", "8388609"], Opt::Nodes),
-    (&["render", "--turn", "0,0,0,0"], Opt::Turn),
-    (&["render", "--turn", "+1,0,0,0"], Opt::Turn),
-    (&["render", "--turn", "1,0,0,1025"], Opt::Turn),
-    (&["render", "--move", "0,0"], Opt::Shift),
-    (&["render", "--move", "0,0,32768"], Opt::Shift),
-    (&["render", "--focal", "0"], Opt::Focal),
-    (&["render", "--focal", "16.00001"], Opt::Focal),
-    (&["render", "--near", "0.0624"], Opt::Near),
-    (&["render", "--background", "1,1"], Opt::Background),
-    (&["render", "--maxval", "256"], Opt::Maxval),
-    (&["render", "--bands", "0"], Opt::Bands),
-    (&["render", "--size=5x4", "--bands", "5"], Opt::Bands),
-    (&["render", "--bands", "00001"], Opt::Bands),
-    (&["render", "--bands="], Opt::Bands),
-    (&["render", "--peel", "--bands", "2"], Opt::Bands),
-    (&["render", "--peel", "--bands=x"], Opt::Bands),
-    (
-        &["render", "--bands=2", "--peel", "--maxval=256"],
-        Opt::Maxval,
-    ),
-    (&["pick", "640,0"], Opt::At),
-    (&["pick", "0,480"], Opt::At),
-    (&["pick", "4,0", "--size", "4x4"], Opt::At),
-    (&["pick", "--size=4x5", "4,0"], Opt::At),
-    (&["pick", "--size=5x4", "0,4"], Opt::At),
-    (&["pick", "--", "-1,0"], Opt::At),
-    (&["pick", ""], Opt::At),
-    (&["pick", "-"], Opt::At),
-    (&["pick", "1"], Opt::At),
-    (&["pick", "1,"], Opt::At),
-    (&["pick", ",1"], Opt::At),
-    (&["pick", "1,2,3"], Opt::At),
-    (&["pick", "1x2"], Opt::At),
-    (&["pick", "1, 2"], Opt::At),
-    (&["pick", "+1,0"], Opt::At),
-    (&["pick", "00001,0"], Opt::At),
-    (&["pick", "0,00001"], Opt::At),
-    (&["pick", "9999,0", "--size", "0x4"], Opt::Size),
-    (&["pick", "9999,0", "--near", "0"], Opt::Near),
-    (&["pick", "9999,0", "--maxval", "256"], Opt::Maxval),
-    (&["demo", "0"], Opt::Number),
-    (&["demo", "000000"], Opt::Number),
-    (&["demo", "200001"], Opt::Number),
-    (&["demo", "1000000"], Opt::Number),
-    (&["demo", "0000001"], Opt::Number),
-    (&["demo", "+1"], Opt::Number),
-    (&["demo", "--", "-1"], Opt::Number),
-    (&["demo", ""], Opt::Number),
-    (&["demo", "1,1"], Opt::Number),
-    (&["demo", "0", "--size", "0x4"], Opt::Size),
-    (&["demo", "0", "--near", "0"], Opt::Near),
-    (&["demo", "0", "--maxval", "256"], Opt::Maxval),
-];
-
-#[test]
-fn words_that_are_not_understood(rt: HostRuntime) {
-    let alloc = rt.alloc();
-    for words in NOT_UNDERSTOOD {
-        assert!(rt; read(alloc, words).err() == Some(WordFault::Words));
-    }
-}
-
-#[test]
-fn first_bad_value_is_named(rt: HostRuntime) {
-    let alloc = rt.alloc();
-    for (words, option) in BAD_VALUES {
-        assert!(rt; read(alloc, words).err() == Some(WordFault::Value { option: *option }));
-    }
 }
 
 const READ: &[&[&str]] = &[
@@ -239,10 +111,30 @@ fn bands_and_peeling_of_a_render(rt: HostRuntime) {
     }
 }
 
+// What a job makes.
+#[derive(Clone, Copy, Debug, PartialEq, Eq)]
+enum Made<'a> {
+    Render,
+    Pick { x: u32, y: u32 },
+    Demo { number: u32 },
+    Sequence { name: &'a [u8] },
+}
+
+fn made_by(job: &Job) -> Made<'_> {
+    match &job.what {
+        What::Render => Made::Render,
+        What::Pick { x, y } => Made::Pick { x: *x, y: *y },
+        What::Demo { number } => Made::Demo { number: *number },
+        What::Sequence { name } => Made::Sequence {
+            name: name.as_slice(),
+        },
+    }
+}
+
 // What a job is, apart from where its camera stands and looks.
 #[derive(Clone, Copy, Debug, PartialEq, Eq)]
-struct Asked {
-    what: What,
+struct Asked<'a> {
+    what: Made<'a>,
     size: (u32, u32),
     pattern: Pattern,
     threads: u32,
@@ -253,9 +145,9 @@ struct Asked {
     peel: bool,
 }
 
-fn asked_by(job: &Job) -> Asked {
+fn asked_by(job: &Job) -> Asked<'_> {
     Asked {
-        what: job.what,
+        what: made_by(job),
         size: (job.camera.width(), job.camera.height()),
         pattern: job.pattern,
         threads: job.threads,
@@ -268,7 +160,7 @@ fn asked_by(job: &Job) -> Asked {
 }
 
 // What is asked where no option but the size is given.
-fn by_default(what: What, size: (u32, u32)) -> Asked {
+fn by_default(what: Made<'_>, size: (u32, u32)) -> Asked<'_> {
     Asked {
         what,
         size,
@@ -282,50 +174,67 @@ fn by_default(what: What, size: (u32, u32)) -> Asked {
     }
 }
 
-const MADE: &[(&[&str], (u32, u32), What)] = &[
-    (&["render"], (640, 480), What::Render),
-    (&["pick", "0,0"], (640, 480), What::Pick { x: 0, y: 0 }),
+const MADE: &[(&[&str], (u32, u32), Made)] = &[
+    (&["render"], (640, 480), Made::Render),
+    (&["pick", "0,0"], (640, 480), Made::Pick { x: 0, y: 0 }),
     (
         &["pick", "639,479"],
         (640, 480),
-        What::Pick { x: 639, y: 479 },
+        Made::Pick { x: 639, y: 479 },
     ),
     (
         &["pick", "3,0", "--size", "4x1"],
         (4, 1),
-        What::Pick { x: 3, y: 0 },
+        Made::Pick { x: 3, y: 0 },
     ),
     (
         &["pick", "--size=1x4", "0,3"],
         (1, 4),
-        What::Pick { x: 0, y: 3 },
+        Made::Pick { x: 0, y: 3 },
     ),
     (
         &["pick", "4095,1023", "--size", "4096x1024"],
         (4096, 1024),
-        What::Pick { x: 4095, y: 1023 },
+        Made::Pick { x: 4095, y: 1023 },
     ),
     (
         &["pick", "0002,0001"],
         (640, 480),
-        What::Pick { x: 2, y: 1 },
+        Made::Pick { x: 2, y: 1 },
     ),
     (
         &["pick", "--size", "4x4", "--", "2,1"],
         (4, 4),
-        What::Pick { x: 2, y: 1 },
+        Made::Pick { x: 2, y: 1 },
     ),
-    (&["demo", "1"], (640, 480), What::Demo { number: 1 }),
-    (&["demo", "000001"], (640, 480), What::Demo { number: 1 }),
+    (&["demo", "1"], (640, 480), Made::Demo { number: 1 }),
+    (&["demo", "000001"], (640, 480), Made::Demo { number: 1 }),
     (
         &["demo", "200000"],
         (640, 480),
-        What::Demo { number: 200000 },
+        Made::Demo { number: 200000 },
     ),
     (
         &["demo", "--size=1x1", "--", "12"],
         (1, 1),
-        What::Demo { number: 12 },
+        Made::Demo { number: 12 },
+    ),
+    (
+        &["sequence", "p"],
+        (640, 480),
+        Made::Sequence { name: b"p" },
+    ),
+    (
+        &["sequence", "--size=3x4", "--", "-a b/c.txt"],
+        (3, 4),
+        Made::Sequence {
+            name: b"-a b/c.txt",
+        },
+    ),
+    (
+        &["sequence", "-"],
+        (640, 480),
+        Made::Sequence { name: b"-" },
     ),
 ];
 
@@ -341,7 +250,7 @@ fn what_each_command_makes(rt: HostRuntime) {
 }
 
 #[test]
-fn options_before_and_behind_a_value(rt: HostRuntime) {
+fn options_before_and_after_a_value(rt: HostRuntime) {
     let alloc = rt.alloc();
     match read(
         alloc,
@@ -362,7 +271,7 @@ fn options_before_and_behind_a_value(rt: HostRuntime) {
         Ok(job) => assert!(rt;
             asked_by(&job)
                 == Asked {
-                    what: What::Demo { number: 1000 },
+                    what: Made::Demo { number: 1000 },
                     size: (3, 4),
                     pattern: Pattern::Four,
                     threads: 64,
@@ -379,13 +288,17 @@ fn options_before_and_behind_a_value(rt: HostRuntime) {
 
 // Also with memory refused at any one place.
 #[test]
-fn refused_memory_is_told(rt: HostRuntime) {
+fn answers_where_memory_runs_out(rt: HostRuntime) {
     let alloc = rt.alloc();
     let words = ["pick", "--size", "4x4", "--background=1,1,1", "--", "2,1"];
     match read(alloc, &words) {
         Ok(job) => assert!(rt;
-            job.what == What::Pick { x: 2, y: 1 } && job.background == [65535; 3]
+            made_by(&job) == Made::Pick { x: 2, y: 1 } && job.background == [65535; 3]
         ),
+        Err(fault) => assert!(rt; fault == WordFault::Memory),
+    }
+    match read(alloc, &["sequence", "path.txt"]) {
+        Ok(job) => assert!(rt; made_by(&job) == Made::Sequence { name: b"path.txt" }),
         Err(fault) => assert!(rt; fault == WordFault::Memory),
     }
     let named = WordFault::Value { option: Opt::Near };

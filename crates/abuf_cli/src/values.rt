@@ -1,10 +1,12 @@
 // What the texts of the options and values stand for.
 ghost use Rattle.std.specs.Prelude.{◌≡◌, ◌≤◌, ◌<◌, ◌^◌, ◌⊎◌, pos, IfSome, unsigned_abs};
 ghost use Rattle.abuf_view.specs.Camera.{IsSize, IsTurn, IsNearby, IsFrom, turn_of as quaternion, place_of};
-ghost use Rattle.abuf_cli.specs.Values.{size_of, size_within, pattern_of, counted, threads_of, nodes_of, turn_part, some_turn, turn_of, three_scaled, shift_of, between, focal_of, near_of, channel, background_of, maxval_of, bands_of, pixel_within, at_of, number_of};
+ghost use Rattle.abuf_cli.specs.Values.{size_of, size_within, pattern_of, counted, threads_of, nodes_of, turn_of, three_scaled, shift_of, between, focal_of, near_of, channel, background_of, maxval_of, bands_of, pixel_within, at_of, number_of};
 
-use crate::parts::{cut_at, four_texts, scaled_number, signed_number, three_texts, whole_number};
+use crate::cuts::{cut_at, four_texts, three_texts};
+use abuf_num::{scaled_number, whole_number};
 use abuf_raster::Pattern;
+use abuf_view::turn_from;
 
 /// A width and a height, in pixels.
 #[derive(Clone, Copy)]
@@ -95,43 +97,13 @@ pub fn nodes_of(text: &[u8]) -> Option<u32>
     counted(1, 8388608, whole_number(text, 7))
 }
 
-// A part of a turn.
-fn turn_part(text: &[u8]) -> Option<i32>
-    ensures value { result ≡ turn_part text.now }
-    ensures small { IfSome result (λ z. unsigned_abs z ≤ 1024) }
-{
-    match signed_number(text) {
-        Some(part) if -1024 <= part && part <= 1024 => Some(part as i32),
-        _ => None,
-    }
-}
-
-// A quaternion whose parts are not all 0.
-fn some_turn(a: i32, b: i32, c: i32, d: i32) -> Option<[i32; 4]>
-    requires a { unsigned_abs a ≤ 1024 }
-    requires b { unsigned_abs b ≤ 1024 }
-    requires c { unsigned_abs c ≤ 1024 }
-    requires d { unsigned_abs d ≤ 1024 }
-    ensures value { result ≡ some_turn a b c d }
-    ensures turn { IfSome result (λ t. IsTurn (quaternion t)) }
-{
-    if a == 0 && b == 0 && c == 0 && d == 0 {
-        None
-    } else {
-        Some([a, b, c, d])
-    }
-}
-
 /// `a,b,c,d`.
 pub fn turn_of(text: &[u8]) -> Option<[i32; 4]>
     ensures value { result ≡ turn_of text.now }
     ensures turn { IfSome result (λ t. IsTurn (quaternion t)) }
 {
     let (a, b, c, d) = four_texts(text)?;
-    match (turn_part(a), turn_part(b), turn_part(c), turn_part(d)) {
-        (Some(a), Some(b), Some(c), Some(d)) => some_turn(a, b, c, d),
-        _ => None,
-    }
+    turn_from(a, b, c, d)
 }
 
 // `x,y,z`, times k.

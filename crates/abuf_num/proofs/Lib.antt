@@ -2,3 +2,4 @@ pub mod Rounding
 pub mod Powers
 pub mod Signs
 pub mod Notation
+pub mod Ranges

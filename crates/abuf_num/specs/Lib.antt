@@ -3,3 +3,4 @@ pub mod Decimal
 pub mod Parts
 pub mod Size
 pub mod Fixed
+pub mod Texts

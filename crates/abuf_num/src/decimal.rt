@@ -30,7 +30,8 @@ struct Parts<'a> {
     exponent: &'a [u8],
 }
 
-fn has_digits_only(text: &[u8]) -> bool
+/// The text has no byte but digits.
+pub fn has_digits_only(text: &[u8]) -> bool
     ensures { result ≡ all_digits text.now }
 {
     text.iter().all(|b| 48 <= *b && *b <= 57)
@@ -121,8 +122,8 @@ fn split(text: &[u8]) -> Option<Parts<'_>>
     }
 }
 
-// The number that digits spell, behind a number of so many places.
-fn spelled(from: u128, places: usize, text: &[u8]) -> u128
+/// The number that digits spell, behind a number of so many places.
+pub fn spelled(from: u128, places: usize, text: &[u8]) -> u128
     requires before { from < 10 ^ places }
     requires short { places + length text.now ≤ 30 }
     requires digits { all_digits text.now ≡ true }

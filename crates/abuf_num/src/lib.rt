@@ -15,8 +15,10 @@ mod sign;
 mod size;
 #[cfg(test)]
 mod tests;
+mod texts;
 
 pub use decimal::{NumFault, scaled};
 pub use division::{floor_div, round_div};
 pub use list::{List, NoMemory};
 pub use plain::{Paint, PixelSum};
+pub use texts::{scaled_number, signed_number, whole_number};

@@ -32,6 +32,8 @@ mod picked;
 #[cfg(test)]
 mod scenes;
 #[cfg(test)]
+mod sequences;
+#[cfg(test)]
 mod stored;
 #[cfg(test)]
 mod words;

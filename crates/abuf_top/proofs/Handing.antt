@@ -1,52 +1,123 @@
--- When a run hands its frame back.
-use Rattle.std.proofs.Common.{◌≡◌, ◌⊎◌, inl, inr, ℕ, Bool, true, false, Option, None, Result, Ok, Err, MatchResult, refl, sym, subst, ◌∙◌, true≢false, arith}
+-- When a run hands its frame back, and what it leaves unwritten.
+use Rattle.std.proofs.Common.{◌≡◌, ◌⊎◌, inl, inr, ℕ, Bool, true, false, Option, None, Result, Ok, Err, IfSome, refl, sym, ap, subst, ◌∙◌, true≢false, arith}
 use Rattle.std.specs.Prelude.{IsSome, IsNone, ◌↔◌}
 use Rattle.std.specs.Io.KnownBytes.{Keeps}
 use Rattle.abuf_frame.specs.Closing.{Ended}
-use Rattle.abuf_top.specs.Verdict.{Verdict}
-use Rattle.abuf_top.specs.Table.{Taken}
-use Rattle.abuf_top.specs.Ending.{Finished, StopsDrawing, HasFrame, HandsBack, Reports}
+use Rattle.abuf_top.specs.Promise.{GoesWithFrame}
+use Rattle.abuf_top.specs.Ending.{HasFrame, HandsBack, WritesLast, Concludes, Tells, handed_back}
+use Rattle.abuf_top.specs.Outside.{Outside}
+use Rattle.abuf_sequence.specs.Sequences.{Taken}
+use Rattle.abuf_top.specs.Refusals.{refusal_status}
+use Rattle.abuf_top.specs.Status.{status_number}
+use Rattle.abuf_top.specs.declared.status.Status.{Status}
+use Rattle.abuf_top.specs.declared.status.Status.TheVariants as ended
+use Rattle.abuf_top.specs.declared.stop.Refusal.{Refusal}
+use Rattle.abuf_top.specs.declared.stop.Refusal.TheVariants as refusal
 use Rattle.abuf_top.specs.declared.stop.Stop.{Stop}
 use Rattle.abuf_top.specs.declared.stop.Stop.TheVariants as stop
-
--- The status is one of those that go with a frame.
-abbrev pub GoesWithFrame : ℕ → Type 0
-GoesWithFrame status = (status ≡ 0) ⊎ ((status ≡ 5) ⊎ (status ≡ 7))
+use Rattle.abuf_top.specs.declared.top.Ran.{Ran}
 
 -- A frame that is there isn't missing.
 not_both : (closed : Option Ended) → IsSome closed → IsNone closed → ⊥
 not_both closed is isnt = true≢false (sym is ∙ isnt)
 
-module _ (status : ℕ) (one : Bool) (ended closed : Option Ended) where
-  -- with one of these statuses
-  handed : GoesWithFrame status → closed ≡ ended → HasFrame one ended → IsSome closed ↔ (GoesWithFrame status × one ≡ true)
-  handed with_frame same has = go one refl where
-    go : (b : Bool) → one ≡ b → IsSome closed ↔ (GoesWithFrame status × one ≡ true)
-    go true e = (λ is. (with_frame, e), λ both. subst IsSome (sym same) (subst (λ (b : Bool). HasFrame b ended) e has))
-    go false e =
-        (λ is. absurd (not_both closed is (subst IsNone (sym same) (subst (λ (b : Bool). HasFrame b ended) e has))), λ both. absurd (true≢false (sym both.1 ∙ e)))
+-- With a status that a frame goes with
+handed : (number : ℕ) (one : Bool) (closed : Option Ended) → GoesWithFrame number → HasFrame one closed → IsSome closed ↔ (GoesWithFrame number × one ≡ true)
+handed number true closed goes has = (λ is. (goes, refl), λ both. has)
+handed number false closed goes has = (λ is. absurd (not_both closed is has), λ both. absurd (true≢false (sym both.1)))
 
-  -- and with another
-  withheld : (GoesWithFrame status → ⊥) → closed ≡ None → IsSome closed ↔ (GoesWithFrame status × one ≡ true)
-  withheld without none = (λ is. absurd (not_both closed is (subst IsNone (sym none) refl)), λ both. absurd (without both.0))
+-- and with another.
+withheld : (number : ℕ) (one : Bool) → (GoesWithFrame number → ⊥) → IsSome {T = Ended} None ↔ (GoesWithFrame number × one ≡ true)
+withheld number one stays = (λ is. absurd (not_both None is refl), λ both. absurd (stays both.0))
 
-  -- the status of one that runs out of memory
-  out : status ≡ 8 → GoesWithFrame status → ⊥
-  out s (inl e) = absurd (omega arith)
-  out s (inr (inl e)) = absurd (omega arith)
-  out s (inr (inr e)) = absurd (omega arith)
+-- No other number is one of those of a frame.
+none_of : (number : ℕ) → (number ≡ 0 → ⊥) → (number ≡ 5 → ⊥) → (number ≡ 7 → ⊥) → GoesWithFrame number → ⊥
+none_of number a b c (inl e) = a e
+none_of number a b c (inr (inl e)) = b e
+none_of number a b c (inr (inr e)) = c e
 
-  module _ (line : Verdict) (out_taken err : Taken) (some : GoesWithFrame status → closed ≡ ended) (none : (GoesWithFrame status → ⊥) → closed ≡ None) where
-    at_stop : (s : Stop) → StopsDrawing line out_taken s → Reports s status err → HandsBack {T = Unit {0}} one (Err s) ended → IsSome closed ↔ (GoesWithFrame status × one ≡ true)
-    at_stop (stop.Refused r) stops said has = absurd stops
-    at_stop (stop.PoolFull pool) stops (inl said) has = let w : GoesWithFrame status = inr (inl said.0) in handed w (some w) has
-    at_stop (stop.PoolFull pool) stops (inr said) has = withheld (out said.0) (none (out said.0))
-    at_stop stop.ReadFault stops said has = absurd stops
-    at_stop stop.WriteFault stops said has = let w : GoesWithFrame status = inr (inr said.0) in handed w (some w) has
-    at_stop stop.Memory stops said has = withheld (out said.0) (none (out said.0))
+-- What a frame has to be, under each status.
+abbrev Fits : Status → Bool → Option Ended → Type 0
+Fits ended.Written one closed = HasFrame one closed
+Fits ended.Words one closed = Unit {0}
+Fits ended.Scene one closed = Unit {0}
+Fits ended.Library one closed = Unit {0}
+Fits ended.PoolFull one closed = HasFrame one closed
+Fits ended.ReadFault one closed = Unit {0}
+Fits ended.WriteFault one closed = HasFrame one closed
+Fits ended.Memory one closed = Unit {0}
+Fits ended.Path one closed = Unit {0}
 
-    pub handed_back : (r : Result (Unit {0}) Stop) → MatchResult r (λ _. Finished line out_taken) (StopsDrawing line out_taken)
-        → MatchResult r (λ _. (status ≡ 0) × Keeps err.old err.new) (λ s. Reports s status err) → HandsBack one r ended
-        → IsSome closed ↔ (GoesWithFrame status × one ≡ true)
-    handed_back (Ok _) answer said has = let w : GoesWithFrame status = inl said.0 in handed w (some w) has
-    handed_back (Err s) answer said has = at_stop s answer said has
+under : (s : Status) (one : Bool) (closed : Option Ended) → Fits s one closed → IsSome (handed_back s closed) ↔ (GoesWithFrame (status_number s) × one ≡ true)
+under ended.Written one closed has = handed 0 one closed (inl refl) has
+under ended.Words one closed has = withheld 2 one (none_of 2 (λ e. absurd (omega arith)) (λ e. absurd (omega arith)) (λ e. absurd (omega arith)))
+under ended.Scene one closed has = withheld 3 one (none_of 3 (λ e. absurd (omega arith)) (λ e. absurd (omega arith)) (λ e. absurd (omega arith)))
+under ended.Library one closed has = withheld 4 one (none_of 4 (λ e. absurd (omega arith)) (λ e. absurd (omega arith)) (λ e. absurd (omega arith)))
+under ended.PoolFull one closed has = handed 5 one closed (inr (inl refl)) has
+under ended.ReadFault one closed has = withheld 6 one (none_of 6 (λ e. absurd (omega arith)) (λ e. absurd (omega arith)) (λ e. absurd (omega arith)))
+under ended.WriteFault one closed has = handed 7 one closed (inr (inr refl)) has
+under ended.Memory one closed has = withheld 8 one (none_of 8 (λ e. absurd (omega arith)) (λ e. absurd (omega arith)) (λ e. absurd (omega arith)))
+under ended.Path one closed has = withheld 9 one (none_of 9 (λ e. absurd (omega arith)) (λ e. absurd (omega arith)) (λ e. absurd (omega arith)))
+
+fits_refusal : (r : Refusal) (one : Bool) (closed : Option Ended) → Fits (refusal_status r) one closed
+fits_refusal refusal.Words one closed = tt
+fits_refusal (refusal.Value option) one closed = tt
+fits_refusal refusal.PathMissing one closed = tt
+fits_refusal refusal.PathTooLong one closed = tt
+fits_refusal (refusal.PathLine line why) one closed = tt
+fits_refusal refusal.SceneTooLong one closed = tt
+fits_refusal (refusal.SceneLine line why) one closed = tt
+fits_refusal (refusal.UnknownMaterial line) one closed = tt
+fits_refusal (refusal.LibraryMissing k) one closed = tt
+fits_refusal (refusal.LibraryTooLong k) one closed = tt
+fits_refusal (refusal.LibraryLine k line why) one closed = tt
+
+module _ (one : Bool) (closed : Option Ended) (is : Status) (err : Taken) where
+  of_status : (s : Status) → is ≡ s → Fits s one closed → Fits is one closed
+  of_status s e h = subst (λ (x : Status). Fits x one closed) (sym e) h
+
+  fits : (r : Result (Unit {0}) Stop) → Tells r is err → HandsBack one r closed → Fits is one closed
+  fits (Ok _) said has = of_status ended.Written said.0 has
+  fits (Err (stop.Refused r)) (inl said) has = of_status (refusal_status r) said.0 (fits_refusal r one closed)
+  fits (Err (stop.Refused r)) (inr said) has = of_status ended.Memory said.0 tt
+  fits (Err (stop.PoolFull pool)) (inl said) has = of_status ended.PoolFull said.0 has
+  fits (Err (stop.PoolFull pool)) (inr said) has = of_status ended.Memory said.0 tt
+  fits (Err stop.ReadFault) said has = of_status ended.ReadFault said.0 tt
+  fits (Err stop.WriteFault) said has = of_status ended.WriteFault said.0 has
+  fits (Err stop.Memory) said has = of_status ended.Memory said.0 tt
+
+-- With which statuses the frame is handed back.
+pub hands : (one : Bool) (r : Result (Unit {0}) Stop) (closed : Option Ended) (ran : Ran) (err : Taken)
+    → Concludes r closed ran err → HandsBack one r closed → IsSome ran.closed ↔ (GoesWithFrame ran.status × one ≡ true)
+hands one r closed ran err c has =
+    subst (λ (x : Option Ended). IsSome x ↔ (GoesWithFrame ran.status × one ≡ true)) (sym c.frame)
+    (subst (λ (n : ℕ). IsSome (handed_back c.is closed) ↔ (GoesWithFrame n × one ≡ true)) (sym c.has_number)
+    (under c.is one closed (fits one closed c.is err r c.tells has)))
+
+still : (s : Status) (closed : Option Ended) (P : Ended → Type 0) → IfSome closed P → IfSome (handed_back s closed) P
+still ended.Written closed P h = h
+still ended.Words closed P h = tt
+still ended.Scene closed P h = tt
+still ended.Library closed P h = tt
+still ended.PoolFull closed P h = h
+still ended.ReadFault closed P h = tt
+still ended.WriteFault closed P h = h
+still ended.Memory closed P h = tt
+still ended.Path closed P h = tt
+
+-- What holds of the frame holds of the one that is handed back.
+pub frame : (r : Result (Unit {0}) Stop) (closed : Option Ended) (ran : Ran) (err : Taken) (P : Ended → Type 0)
+    → Concludes r closed ran err → IfSome closed P → IfSome ran.closed P
+frame r closed ran err P c h = subst (λ (x : Option Ended). IfSome x P) (sym c.frame) (still c.is closed P h)
+
+-- Nothing is written where the status is neither that of the end nor that of a fault of writing.
+pub unwritten : (r : Result (Unit {0}) Stop) (closed : Option Ended) (ran : Ran) (out err : Taken)
+    → Concludes r closed ran err → WritesLast out r → ((ran.status ≡ 0) ⊎ (ran.status ≡ 7) → ⊥) → Keeps out.old out.new
+unwritten r closed ran out err c last neither = go r c.tells last where
+  go : (r : Result (Unit {0}) Stop) → Tells r c.is err → WritesLast out r → Keeps out.old out.new
+  go (Ok _) said h = absurd (neither (inl (c.has_number ∙ ap status_number said.0)))
+  go (Err (stop.Refused r)) said h = h
+  go (Err (stop.PoolFull pool)) said h = h
+  go (Err stop.ReadFault) said h = h
+  go (Err stop.WriteFault) said h = absurd (neither (inr (c.has_number ∙ ap status_number said.0)))
+  go (Err stop.Memory) said h = h

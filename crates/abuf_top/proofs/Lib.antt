@@ -1,8 +1,11 @@
 pub mod Asking
 pub mod Behind
 pub mod Telling
+pub mod Pathing
+pub mod Writing
 pub mod Answering
 pub mod Handing
 pub mod Storing
 pub mod Sums
 pub mod Lines
+pub mod Running

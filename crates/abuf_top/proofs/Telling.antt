@@ -4,18 +4,21 @@ use Rattle.std.specs.Io.KnownBytes.{Consumes, IsAtEnd}
 use Rattle.abuf_io.specs.Causes.{Rose}
 use Rattle.abuf_obj.specs.Scene.{names}
 use Rattle.abuf_obj.specs.declared.scene.Obj.{Obj}
+use Rattle.abuf_mtl.specs.StandsFor.{StandsFor}
+use Rattle.abuf_scene.specs.declared.triangles.Triangle.{Triangle}
 use Rattle.abuf_cli.specs.declared.job.Job.{Job}
 use Rattle.abuf_view.specs.declared.projection.Projected.{Projected}
-use Rattle.abuf_top.specs.Image.{Drawing}
-use Rattle.abuf_top.specs.Libraries.{Held, first_refusal, contents, asked, one_and}
-use Rattle.abuf_top.specs.Prepared.{Prepares, StopsAt, told_by}
-use Rattle.abuf_top.specs.Verdict.{library_line, material_line, or_refusal, shelf_for}
+use Rattle.abuf_top.specs.Libraries.{Held, told_by, first_refusal, contents, asked, one_and}
+use Rattle.abuf_top.specs.Prepared.{Loads, Prepares, StopsAt}
+use Rattle.abuf_top.specs.Verdict.{library_line, material_line, drawing_line, or_refusal, shelf_for}
 use Rattle.abuf_top.specs.Fetches.{CallsAtMost}
+use Rattle.abuf_top.specs.declared.loaded.Loaded.{Loaded}
+use Rattle.abuf_top.specs.declared.task.Task.{Task}
 use Rattle.abuf_top.specs.declared.stop.Refusal.{Refusal}
 use Rattle.abuf_top.specs.declared.stop.Stop.{Stop}
 use Rattle.abuf_top.specs.declared.stop.Stop.TheVariants as stop
 
-stops-weaker : (line : Result Drawing Refusal) (few more : Type 0) (s : Stop) → (few → more) → StopsAt line few s → StopsAt line more s
+stops-weaker : {T : Type 0} (line : Result T Refusal) (few more : Type 0) (s : Stop) → (few → more) → StopsAt line few s → StopsAt line more s
 stops-weaker line few more (stop.Refused r) f h = h
 stops-weaker line few more (stop.PoolFull pool) f h = h
 stops-weaker line few more stop.ReadFault f h = f h
@@ -23,30 +26,57 @@ stops-weaker line few more stop.WriteFault f h = h
 stops-weaker line few more stop.Memory f h = h
 
 -- more causes may be named
-pub prepares-weaker : (line : Result Drawing Refusal) (few more : Type 0) (job : Job) (r : Result Projected Stop) → (few → more) → Prepares line few job r → Prepares line more job r
+pub loads-weaker : (line : Result (List Triangle) Refusal) (few more : Type 0) (r : Result Loaded Stop) → (few → more) → Loads line few r → Loads line more r
+loads-weaker line few more (Ok loaded) f h = h
+loads-weaker line few more (Err s) f h = stops-weaker line few more s f h
+
+pub told-weaker : (line : Option (Result (List Triangle) Refusal)) (few more : Type 0) (r : Result Loaded Stop) → (few → more)
+    → IfSome line (λ l. Loads l few r) → IfSome line (λ l. Loads l more r)
+told-weaker None few more r f h = tt
+told-weaker (Some line) few more r f h = loads-weaker line few more r f h
+
+prepares-weaker : (line : Result Task Refusal) (few more : Type 0) (job : Job) (r : Result Projected Stop) → (few → more) → Prepares line few job r → Prepares line more job r
 prepares-weaker line few more job (Ok shown) f h = h
 prepares-weaker line few more job (Err s) f h = stops-weaker line few more s f h
 
-pub told-weaker : (line : Option (Result Drawing Refusal)) (few more : Type 0) (job : Job) (r : Result Projected Stop) → (few → more)
-    → IfSome line (λ l. Prepares l few job r) → IfSome line (λ l. Prepares l more job r)
-told-weaker None few more job r f h = tt
-told-weaker (Some line) few more job r f h = prepares-weaker line few more job r f h
+-- a scene that is loaded is projected
+pub projected : (line : Option (Result (List Triangle) Refusal)) (rose : Type 0) (job : Job) (loaded : Loaded) (r : Result Projected Stop)
+    → IfSome line (λ l. Loads l rose (Ok loaded))
+    → ((libraries : List (List ℕ)) → StandsFor libraries loaded.materials → Prepares (drawing_line job (material_line loaded.obj libraries)) ⊥ job r)
+    → IfSome (option_map (drawing_line job) line) (λ l. Prepares l rose job r)
+projected None rose job loaded r h told = tt
+projected (Some line) rose job loaded r h told =
+    prepares-weaker (drawing_line job line) ⊥ rose job r (λ e. absurd e)
+    (subst (λ (l : Result (List Triangle) Refusal). Prepares (drawing_line job l) ⊥ job r) (sym h.2) (told h.0 h.1))
+
+stops-drawing : (line : Result (List Triangle) Refusal) (rose : Type 0) (job : Job) (s : Stop) → StopsAt line rose s → StopsAt (drawing_line job line) rose s
+stops-drawing line rose job (stop.Refused r) h = ap (drawing_line job) h
+stops-drawing line rose job (stop.PoolFull pool) h = h
+stops-drawing line rose job stop.ReadFault h = h
+stops-drawing line rose job stop.WriteFault h = h
+stops-drawing line rose job stop.Memory h = h
+
+-- and one that isn't loaded is no drawing
+pub unprojected : (line : Option (Result (List Triangle) Refusal)) (rose : Type 0) (job : Job) (s : Stop)
+    → IfSome line (λ l. StopsAt l rose s) → IfSome (option_map (drawing_line job) line) (λ l. StopsAt l rose s)
+unprojected None rose job s h = tt
+unprojected (Some line) rose job s h = stops-drawing line rose job s h
 
 -- a count that stays at 0 didn't rise
 pub still : Rose 0 0 → ⊥
 still h = absurd (omega (arith, h))
 
 -- a scene's libraries are read from a shelf that tells, or there are none
-pub furnish_told : (job : Job) (obj : Obj) (tells : Bool) (held : Held) (rose : Type 0) (r : Result Projected Stop)
-    → (tells ≡ true → Prepares (library_line job obj held) rose job r) → (obj.libraries ≡ [] → Prepares (material_line job obj []) ⊥ job r)
-    → IfSome (option_map (library_line job obj) (shelf_for obj.libraries (told_by tells held))) (λ line. Prepares line rose job r)
-furnish_told job obj tells held rose r told none = go obj.libraries refl tells refl where
+pub furnish_told : (obj : Obj) (tells : Bool) (held : Held) (rose : Type 0) (r : Result Loaded Stop)
+    → (tells ≡ true → Loads (library_line obj held) rose r) → (obj.libraries ≡ [] → Loads (material_line obj []) ⊥ r)
+    → IfSome (option_map (library_line obj) (shelf_for obj.libraries (told_by tells held))) (λ line. Loads line rose r)
+furnish_told obj tells held rose r told none = go obj.libraries refl tells refl where
   P : List (List ℕ) → Bool → Type 0
-  P names t = IfSome (option_map (λ (h : Held). or_refusal (first_refusal h names) (material_line job obj (contents h names))) (shelf_for names (told_by t held))) (λ line. Prepares line rose job r)
+  P names t = IfSome (option_map (λ (h : Held). or_refusal (first_refusal h names) (material_line obj (contents h names))) (shelf_for names (told_by t held))) (λ line. Loads line rose r)
 
   go : (names : List (List ℕ)) → obj.libraries ≡ names → (t : Bool) → tells ≡ t → P obj.libraries tells
-  go [] e t f = subst (λ (ns : List (List ℕ)). P ns tells) (sym e) (prepares-weaker (material_line job obj []) ⊥ rose job r (λ h. absurd h) (none e))
-  go (name ∷ names) e true f = subst (λ (ns : List (List ℕ)). P ns tells) (sym e) (subst (λ (u : Bool). P (name ∷ names) u) (sym f) (subst (λ (ns : List (List ℕ)). Prepares (or_refusal (first_refusal held ns) (material_line job obj (contents held ns))) rose job r) e (told f)))
+  go [] e t f = subst (λ (ns : List (List ℕ)). P ns tells) (sym e) (loads-weaker (material_line obj []) ⊥ rose r (λ h. absurd h) (none e))
+  go (name ∷ names) e true f = subst (λ (ns : List (List ℕ)). P ns tells) (sym e) (subst (λ (u : Bool). P (name ∷ names) u) (sym f) (subst (λ (ns : List (List ℕ)). Loads (or_refusal (first_refusal held ns) (material_line obj (contents held ns))) rose r) e (told f)))
   go (name ∷ names) e false f = subst (λ (ns : List (List ℕ)). P ns tells) (sym e) (subst (λ (u : Bool). P (name ∷ names) u) (sym f) tt)
 
 one_and-some : (r : Option Refusal) (later : ℕ) → one_and r later ≡ 0 → ⊥

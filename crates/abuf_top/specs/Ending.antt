@@ -1,43 +1,58 @@
--- What the drawing leaves, and how it ends.
-use Rattle.std.specs.Prelude.{◌≡◌, ◌⊎◌, Bool, true, false, ℕ, List, codes, Option, IsSome, IsNone, Result, Ok, Err}
-use Rattle.std.specs.Io.KnownBytes.{Appends, Keeps}
+-- What the drawing leaves, and how a run ends.
+use Rattle.std.specs.Prelude.{◌≡◌, ◌⊎◌, Bool, true, false, ℕ, List, [], codes, Option, Some, None, IfSome, IsSome, IsNone, Result, Ok, Err}
+use Rattle.std.specs.List.{concat}
+use Rattle.std.specs.Io.KnownBytes.{Keeps}
 use Rattle.abuf_frame.specs.Closing.{Ended}
-use Rattle.abuf_cli.specs.declared.job.Job.{Job}
-use Rattle.abuf_cli.specs.declared.job.WordFault.{WordFault}
 use Rattle.abuf_picture.specs.Picture as picture
-use Rattle.abuf_top.specs.Refusals.{refusal_status, refusal_text, full_text}
-use Rattle.abuf_top.specs.Image.{Drawing, has_one_frame, region_of}
-use Rattle.abuf_top.specs.Verdict.{Verdict, Refuse, Write}
-use Rattle.abuf_top.specs.Table.{Taken, TookPart, TookLine, Failed}
-use Rattle.abuf_top.specs.declared.stop.Refusal.{Refusal}
+use Rattle.abuf_sequence.specs.Sequences.{Taken}
+use Rattle.abuf_top.specs.Outside.{Failed}
+use Rattle.abuf_top.specs.Refusals.{stop_status, stop_text}
+use Rattle.abuf_top.specs.Status.{status_number}
+use Rattle.abuf_top.specs.Image.{Drawing, region_of}
+use Rattle.abuf_top.specs.Verdict.{Verdict, write}
+use Rattle.abuf_top.specs.Table.{TookAll, TookPart, TookSome, TookLine}
+use Rattle.abuf_top.specs.declared.status.Status.{Status}
+use Rattle.abuf_top.specs.declared.status.Status.TheVariants as ended
 use Rattle.abuf_top.specs.declared.stop.Stop.{Stop}
 use Rattle.abuf_top.specs.declared.stop.Stop.TheVariants as stop
+use Rattle.abuf_top.specs.declared.top.Ran.{Ran}
 
 -- The closed frame into which a drawing was drawn: it has a list for each pixel of the image, the job's nodes, and as many
 -- entries as there are fragments. Where these aren't more than the nodes, its lists are those of the fragments.
 abbrev pub IsFrameOf : Drawing → Ended → Type 0
 IsFrameOf d closed = picture.IsFrameOf d.triangles d.job.pattern (region_of d.job) d.job.nodes closed
 
+-- The verdict's refusal is that of this stop.
+abbrev pub RefusesBy : Verdict → Stop → Type 0
+RefusesBy v s = v.refusal ≡ Some (record { status = stop_status s; text = stop_text s })
+
 -- The bytes that are to be written, or how a drawing stops before that: by a full pool, or by want of memory.
 abbrev pub Produces : Verdict → Result (List ℕ) Stop → Type 0
-Produces line (Ok bytes) = line ≡ Write bytes
+Produces line (Ok bytes) = line ≡ write bytes
 Produces line (Err (stop.Refused r)) = ⊥
-Produces line (Err (stop.PoolFull pool)) = line ≡ Refuse 5 (full_text pool)
+Produces line (Err (stop.PoolFull pool)) = (line.outputs ≡ []) × RefusesBy line (stop.PoolFull pool)
 Produces line (Err stop.ReadFault) = ⊥
 Produces line (Err stop.WriteFault) = ⊥
 Produces line (Err stop.Memory) = Unit {0}
 
--- All that is to be written was written.
-abbrev pub Finished : Verdict → Taken → Type 0
-Finished line out = (bytes : List ℕ) × (line ≡ Write bytes) × Appends out.old out.new bytes
+-- How a run of this verdict ends, before it says so: by its end, by the first refusal, by a full pool, by a fault of reading or
+-- writing, which comes only where a count rose, or by want of memory.
+abbrev pub Ends : Option Verdict → Type 0 → Taken → Result (Unit {0}) Stop → Type 0
+Ends v rose out (Ok _) = IfSome v (λ v. (v.refusal ≡ None) × TookAll out v.outputs)
+Ends v rose out (Err (stop.Refused r)) = (IfSome v (λ v. RefusesBy v (stop.Refused r))) × Keeps out.old out.new
+Ends v rose out (Err (stop.PoolFull pool)) = IfSome v (λ v. RefusesBy v (stop.PoolFull pool) × TookAll out v.outputs)
+Ends v rose out (Err stop.ReadFault) = rose × Keeps out.old out.new
+Ends v rose out (Err stop.WriteFault) = (IfSome v (λ v. (v.outputs ≡ [] → ⊥) × TookPart out (concat v.outputs))) × Failed out
+Ends v rose out (Err stop.Memory) = IfSome v (TookSome out)
 
--- By a full pool, by a fault of writing, which comes only where the count rose, or by want of memory.
-abbrev pub StopsDrawing : Verdict → Taken → Stop → Type 0
-StopsDrawing line out (stop.Refused r) = ⊥
-StopsDrawing line out (stop.PoolFull pool) = (line ≡ Refuse 5 (full_text pool)) × Keeps out.old out.new
-StopsDrawing line out stop.ReadFault = ⊥
-StopsDrawing line out stop.WriteFault = ((bytes : List ℕ) × (line ≡ Write bytes) × TookPart out bytes) × Failed out
-StopsDrawing line out stop.Memory = Keeps out.old out.new
+-- Nothing is written but by a write that is begun after all else: at the end, or where it fails.
+abbrev pub WritesLast : Taken → Result (Unit {0}) Stop → Type 0
+WritesLast out (Ok _) = Unit {0}
+WritesLast out (Err (stop.Refused r)) = Keeps out.old out.new
+WritesLast out (Err (stop.PoolFull pool)) = Keeps out.old out.new
+WritesLast out (Err stop.ReadFault) = Keeps out.old out.new
+WritesLast out (Err stop.WriteFault) = Unit {0}
+WritesLast out (Err stop.Memory) = Keeps out.old out.new
 
 -- The frame is there, where there is one for the whole image.
 abbrev pub HasFrame : Bool → Option Ended → Type 0
@@ -53,25 +68,41 @@ HandsBack one_frame (Err stop.ReadFault) closed = IsNone closed
 HandsBack one_frame (Err stop.WriteFault) closed = HasFrame one_frame closed
 HandsBack one_frame (Err stop.Memory) closed = IsNone closed
 
--- The words give a job whose fragments are all in one frame.
-abbrev pub HasOneFrame : Result Job WordFault → Type 0
-HasOneFrame (Ok job) = has_one_frame job ≡ true
-HasOneFrame (Err why) = ⊥
-
 -- What a run says, and its status: those of its stop. Where memory runs out for the text of a refusal, it is that of want of
 -- memory.
-abbrev pub Says : ℕ → List ℕ → ℕ → Taken → Type 0
-Says wanted text status err =
-    ((status ≡ wanted) × TookLine err text) ⊎ ((status ≡ 8) × TookLine err (codes "no memory"))
+abbrev pub Announces : Stop → Status → Taken → Type 0
+Announces s is err = (is ≡ stop_status s) × TookLine err (stop_text s)
 
-abbrev pub Reports : Stop → ℕ → Taken → Type 0
-Reports (stop.Refused r) status err = Says (refusal_status r) (refusal_text r) status err
-Reports (stop.PoolFull pool) status err = Says 5 (full_text pool) status err
-Reports stop.ReadFault status err = (status ≡ 6) × TookLine err (codes "read fault")
-Reports stop.WriteFault status err = (status ≡ 7) × TookLine err (codes "write fault")
-Reports stop.Memory status err = (status ≡ 8) × TookLine err (codes "no memory")
+abbrev pub AnnouncesOrGivesUp : Stop → Status → Taken → Type 0
+AnnouncesOrGivesUp s is err = Announces s is err ⊎ Announces stop.Memory is err
 
--- The frame of a run is that of its drawing.
-abbrev pub IsFrameOfLine : Result Drawing Refusal → Ended → Type 0
-IsFrameOfLine (Err refusal) closed = ⊥
-IsFrameOfLine (Ok d) closed = IsFrameOf d closed
+abbrev pub Reports : Stop → Status → Taken → Type 0
+Reports (stop.Refused r) is err = AnnouncesOrGivesUp (stop.Refused r) is err
+Reports (stop.PoolFull pool) is err = AnnouncesOrGivesUp (stop.PoolFull pool) is err
+Reports stop.ReadFault is err = Announces stop.ReadFault is err
+Reports stop.WriteFault is err = Announces stop.WriteFault is err
+Reports stop.Memory is err = Announces stop.Memory is err
+
+-- A run that comes to its end says nothing.
+abbrev pub Tells : Result (Unit {0}) Stop → Status → Taken → Type 0
+Tells (Ok _) is err = (is ≡ ended.Written) × Keeps err.old err.new
+Tells (Err s) is err = Reports s is err
+
+-- The frame that goes with a status.
+abbrev pub handed_back : Status → Option Ended → Option Ended
+handed_back ended.Written closed = closed
+handed_back ended.Words closed = None
+handed_back ended.Scene closed = None
+handed_back ended.Library closed = None
+handed_back ended.PoolFull closed = closed
+handed_back ended.ReadFault closed = None
+handed_back ended.WriteFault closed = closed
+handed_back ended.Memory closed = None
+handed_back ended.Path closed = None
+
+-- A run that ended so, and what it says.
+pub record Concludes (result : Result (Unit {0}) Stop) (closed : Option Ended) (ran : Ran) (err : Taken) : Type 0 where
+  pub is : Status
+  pub has_number : ran.status ≡ status_number is
+  pub tells : Tells result is err
+  pub frame : ran.closed ≡ handed_back is closed

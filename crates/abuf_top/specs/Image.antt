@@ -11,6 +11,8 @@ use Rattle.abuf_resolve.specs.Sums.{region_sums}
 use Rattle.abuf_pam.specs.Image as pam
 use Rattle.abuf_picture.specs.Picture as picture
 use Rattle.abuf_cli.specs.declared.job.Job.{Job}
+use Rattle.abuf_cli.specs.declared.job.What.{What}
+use Rattle.abuf_cli.specs.declared.job.What.TheVariants as what
 
 -- What is drawn: the job, and the primitives of its scene in order, as their triangles on the screen and their paints. The
 -- place of a primitive in the lists is its number.
@@ -25,6 +27,13 @@ drawing_of job primitives = record {
   triangles = map (λ p. p.triangle) primitives;
   paints = map (λ p. p.paint) primitives;
 }
+
+-- A sequence draws more than once, and every other command once.
+abbrev pub DrawsOnce : What → Type 0
+DrawsOnce what.Render = Unit {0}
+DrawsOnce (what.Pick x y) = Unit {0}
+DrawsOnce (what.Demo number) = Unit {0}
+DrawsOnce (what.Sequence name) = ⊥
 
 -- All pixels of a job's image.
 abbrev pub region_of : Job → Region

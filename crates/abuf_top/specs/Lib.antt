@@ -1,3 +1,4 @@
+pub mod Status
 pub mod Refusals
 pub mod Libraries
 pub mod Stopped
@@ -7,9 +8,13 @@ pub mod Report
 pub mod Summary
 pub mod Output
 pub mod Demonstration
+pub mod Paths
+pub mod Images
 pub mod Verdict
+pub mod Outside
 pub mod Fetches
 pub mod Prepared
 pub mod Table
 pub mod Ending
+pub mod Promise
 pub mod Drawn

@@ -1,5 +1,5 @@
 -- The libraries of a scene, one after another: the first refusal, how many are asked for, and their contents.
-use Rattle.std.specs.Prelude.{◌++◌, ◌∷◌, [], ◌+◌, ℕ, nat_lt, List, length, Option, Some, None, if◌then◌else◌}
+use Rattle.std.specs.Prelude.{◌++◌, ◌∷◌, [], ◌+◌, Bool, true, false, ℕ, nat_lt, List, length, Option, Some, None, if◌then◌else◌}
 use Rattle.abuf_mtl.specs.Fault.{library_fault}
 use Rattle.abuf_mtl.specs.declared.fault.MtlWhy.{MtlWhy}
 use Rattle.abuf_top.specs.declared.stop.Refusal.{Refusal}
@@ -8,6 +8,11 @@ use Rattle.abuf_top.specs.declared.stop.Refusal.TheVariants.{LibraryMissing, Lib
 -- What a shelf holds: the content under a name, or nothing.
 abbrev pub Held : Type 0
 Held = List ℕ → Option (List ℕ)
+
+-- What a shelf tells of what it holds.
+abbrev pub told_by : Bool → Held → Option Held
+told_by true held = Some held
+told_by false held = None
 
 abbrev pub line_refusal : ℕ → Option (ℕ × MtlWhy) → Option Refusal
 line_refusal k None = None

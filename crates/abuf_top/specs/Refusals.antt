@@ -7,6 +7,10 @@ use Rattle.abuf_obj.specs.declared.fault.Why.{Why}
 use Rattle.abuf_obj.specs.declared.fault.Why.TheVariants as obj
 use Rattle.abuf_mtl.specs.declared.fault.MtlWhy.{MtlWhy}
 use Rattle.abuf_mtl.specs.declared.fault.MtlWhy.TheVariants as mtl
+use Rattle.abuf_sequence.specs.declared.path.PathWhy.{PathWhy}
+use Rattle.abuf_sequence.specs.declared.path.PathWhy.TheVariants as path
+use Rattle.abuf_top.specs.declared.status.Status.{Status}
+use Rattle.abuf_top.specs.declared.status.Status.TheVariants as ended
 use Rattle.abuf_top.specs.declared.stop.FullPool.{FullPool}
 use Rattle.abuf_top.specs.declared.stop.FullPool.TheVariants as full
 use Rattle.abuf_top.specs.declared.stop.Refusal.{Refusal}
@@ -28,6 +32,7 @@ option_text opt.Near = codes "near"
 option_text opt.Background = codes "background"
 option_text opt.Maxval = codes "maxval"
 option_text opt.Bands = codes "bands"
+option_text opt.Path = codes "path"
 option_text opt.At = codes "at"
 option_text opt.Number = codes "number"
 
@@ -51,24 +56,37 @@ library_cause mtl.NoName = codes "no name"
 library_cause mtl.TooMany = codes "too many materials"
 library_cause mtl.NoMaterial = codes "no material"
 
+-- What is wrong with a line of a path.
+abbrev pub path_cause : PathWhy → List ℕ
+path_cause path.WrongCount = codes "wrong count"
+path_cause path.BadTurn = codes "bad turn"
+path_cause path.BadNumber = codes "bad number"
+path_cause path.TooMany = codes "too many images"
+
 -- A line of the scene, and what is wrong with it.
 abbrev pub line_text : ℕ → List ℕ → List ℕ
 line_text line cause = codes "line " ++ decimal line ++ codes ": " ++ cause
 
--- Refusals of the words have status 2, those of the scene 3, those of a library 4.
-abbrev pub refusal_status : Refusal → ℕ
-refusal_status refusal.Words = 2
-refusal_status (refusal.Value option) = 2
-refusal_status refusal.SceneTooLong = 3
-refusal_status (refusal.SceneLine line why) = 3
-refusal_status (refusal.UnknownMaterial line) = 3
-refusal_status (refusal.LibraryMissing k) = 4
-refusal_status (refusal.LibraryTooLong k) = 4
-refusal_status (refusal.LibraryLine k line why) = 4
+-- Whether the words, the path, the scene or a library are refused.
+abbrev pub refusal_status : Refusal → Status
+refusal_status refusal.Words = ended.Words
+refusal_status (refusal.Value option) = ended.Words
+refusal_status refusal.PathMissing = ended.Path
+refusal_status refusal.PathTooLong = ended.Path
+refusal_status (refusal.PathLine line why) = ended.Path
+refusal_status refusal.SceneTooLong = ended.Scene
+refusal_status (refusal.SceneLine line why) = ended.Scene
+refusal_status (refusal.UnknownMaterial line) = ended.Scene
+refusal_status (refusal.LibraryMissing k) = ended.Library
+refusal_status (refusal.LibraryTooLong k) = ended.Library
+refusal_status (refusal.LibraryLine k line why) = ended.Library
 
 abbrev pub refusal_text : Refusal → List ℕ
 refusal_text refusal.Words = codes "words not understood"
 refusal_text (refusal.Value option) = codes "bad value: " ++ option_text option
+refusal_text refusal.PathMissing = codes "path missing"
+refusal_text refusal.PathTooLong = codes "path too long"
+refusal_text (refusal.PathLine line why) = codes "path line " ++ decimal line ++ codes ": " ++ path_cause why
 refusal_text refusal.SceneTooLong = codes "scene too long"
 refusal_text (refusal.SceneLine line why) = line_text line (scene_cause why)
 refusal_text (refusal.UnknownMaterial line) = line_text line (codes "unknown material")
@@ -76,18 +94,21 @@ refusal_text (refusal.LibraryMissing k) = codes "library " ++ decimal k ++ codes
 refusal_text (refusal.LibraryTooLong k) = codes "library " ++ decimal k ++ codes " too long"
 refusal_text (refusal.LibraryLine k line why) = codes "library " ++ decimal k ++ codes " line " ++ decimal line ++ codes ": " ++ library_cause why
 
--- A full pool: that of the whole image, or that of a band, counted from 1.
+-- A full pool: that of the whole image, that of a band, or that of an image of a sequence, counted from 1.
 abbrev pub full_text : FullPool → List ℕ
 full_text (full.Image fragments nodes) = codes "pool full: " ++ decimal fragments ++ codes " fragments, " ++ decimal nodes ++ codes " nodes"
 full_text (full.Band band fragments nodes) =
     codes "band " ++ decimal band ++ codes " full: " ++ decimal fragments ++ codes " fragments, " ++ decimal nodes ++ codes " nodes"
+full_text (full.InSequence image fragments nodes) =
+    codes "image " ++ decimal image ++ codes ": pool full: " ++ decimal fragments ++ codes " fragments, " ++ decimal nodes ++ codes " nodes"
 
-abbrev pub stop_status : Stop → ℕ
+-- The status and the text of every stop.
+abbrev pub stop_status : Stop → Status
 stop_status (stop.Refused r) = refusal_status r
-stop_status (stop.PoolFull pool) = 5
-stop_status stop.ReadFault = 6
-stop_status stop.WriteFault = 7
-stop_status stop.Memory = 8
+stop_status (stop.PoolFull pool) = ended.PoolFull
+stop_status stop.ReadFault = ended.ReadFault
+stop_status stop.WriteFault = ended.WriteFault
+stop_status stop.Memory = ended.Memory
 
 abbrev pub stop_text : Stop → List ℕ
 stop_text (stop.Refused r) = refusal_text r

@@ -1,18 +1,15 @@
 -- The table of statuses: what a run's answer says of the verdict and of what it wrote.
-use Rattle.std.specs.Prelude.{◌≡◌, ◌⊎◌, ◌++◌, ◌∷◌, [], ℕ, List, take, Option, IfSome, codes}
+use Rattle.std.specs.Prelude.{◌≡◌, ◌⊎◌, ◌≤◌, ◌++◌, ◌∷◌, ◌-◌, [], ℕ, List, length, take, Option, Some, None, IfSome, codes}
+use Rattle.std.specs.List.{concat}
 use Rattle.std.specs.Io.KnownBytes.{Appends, Keeps}
-use Rattle.abuf_io.specs.Causes.{Rose}
-use Rattle.abuf_top.specs.Verdict.{Verdict, Refuse, Write}
-
--- What a sink had taken before the call and after it, where it tells, and its counts of faults.
-pub record Taken : Type 0 where
-  pub old : Option (List ℕ)
-  pub new : Option (List ℕ)
-  pub faults_old : ℕ
-  pub faults_new : ℕ
-
-abbrev pub Failed : Taken → Type 0
-Failed sink = Rose sink.faults_old sink.faults_new
+use Rattle.abuf_top.specs.Outside.{Outside, Failed, ReadFailed}
+use Rattle.abuf_sequence.specs.Sequences.{Taken}
+use Rattle.abuf_top.specs.Refusals.{stop_status, stop_text}
+use Rattle.abuf_top.specs.Status.{status_number}
+use Rattle.abuf_top.specs.Verdict.{Verdict, Refused}
+use Rattle.abuf_top.specs.declared.status.Status.{Status}
+use Rattle.abuf_top.specs.declared.status.Status.TheVariants as ended
+use Rattle.abuf_top.specs.declared.stop.Stop.{Stop}
 
 -- It took a prefix of the bytes.
 abbrev pub TookPart : Taken → List ℕ → Type 0
@@ -23,49 +20,88 @@ pub record TookLine (sink : Taken) (text : List ℕ) : Type 0 where
   pub part : TookPart sink (text ++ 10 ∷ [])
   pub whole : (Failed sink → ⊥) → Appends sink.old sink.new (text ++ 10 ∷ [])
 
--- All that the verdict writes was written, and no text.
+-- It took all outputs, one after another.
+abbrev pub TookAll : Taken → List (List ℕ) → Type 0
+TookAll sink outputs = Appends sink.old sink.new (concat outputs)
+
+-- How many outputs are written at most where the run doesn't come to its end: before a refusal all of them, else all but the
+-- last.
+abbrev pub most_whole : Option Refused → ℕ → ℕ
+most_whole None n = n - 1
+most_whole (Some refused) n = n
+
+-- It took some of the outputs, each of them whole.
+abbrev pub TookSome : Taken → Verdict → Type 0
+TookSome sink v = (count : ℕ) × (count ≤ most_whole v.refusal (length v.outputs)) × Appends sink.old sink.new (concat (take count v.outputs))
+
+-- The message of a stop that has this status; where the verdict is told, it is the verdict's refusal.
+pub record Says (verdict : Option Verdict) (is : Status) (err : Taken) : Type 0 where
+  pub stop : Stop
+  pub has_status : stop_status stop ≡ is
+  pub refusal : IfSome verdict (λ v. v.refusal ≡ Some (record { status = is; text = stop_text stop }))
+  pub text : TookLine err (stop_text stop)
+
+-- Everything that the verdict writes was written, and no message.
 pub record Wrote (verdict : Option Verdict) (out err : Taken) : Type 0 where
-  pub output : IfSome verdict (λ v. (bytes : List ℕ) × (v ≡ Write bytes) × Appends out.old out.new bytes)
+  pub output : IfSome verdict (λ v. (v.refusal ≡ None) × TookAll out v.outputs)
   pub silent : Keeps err.old err.new
 
--- The verdict refuses with this status, and the text is the verdict's.
-pub record Refused (verdict : Option Verdict) (status : ℕ) (out err : Taken) : Type 0 where
-  pub text : IfSome verdict (λ v. (text : List ℕ) × (v ≡ Refuse status text) × TookLine err text)
+-- The verdict refuses with this status, before anything is written.
+pub record Refuses (verdict : Option Verdict) (is : Status) (out err : Taken) : Type 0 where
+  pub says : Says verdict is err
   pub unwritten : Keeps out.old out.new
+
+-- The verdict refuses by a full pool, after its outputs.
+pub record IsFull (verdict : Option Verdict) (out err : Taken) : Type 0 where
+  pub says : Says verdict ended.PoolFull err
+  pub output : IfSome verdict (λ v. TookAll out v.outputs)
 
 -- Reading failed: a count of faults rose.
-pub record ReadFailed (read_rose : Type 0) (out err : Taken) : Type 0 where
-  pub rose : read_rose
-  pub unwritten : Keeps out.old out.new
-  pub text : TookLine err (codes "read fault")
+pub record FailedToRead (o : Outside) : Type 0 where
+  pub rose : ReadFailed o.source o.shelf
+  pub unwritten : Keeps o.out.old o.out.new
+  pub text : TookLine o.err (codes "read fault")
 
--- Writing failed on the way: a prefix of the output was written.
-pub record WriteFailed (verdict : Option Verdict) (out err : Taken) : Type 0 where
-  pub part : IfSome verdict (λ v. (bytes : List ℕ) × (v ≡ Write bytes) × TookPart out bytes)
+-- Writing failed on the way: the verdict writes something, and a prefix of it was written.
+pub record FailedToWrite (verdict : Option Verdict) (out err : Taken) : Type 0 where
+  pub output : IfSome verdict (λ v. (v.outputs ≡ [] → ⊥) × TookPart out (concat v.outputs))
   pub rose : Failed out
   pub text : TookLine err (codes "write fault")
 
--- Memory ran out before the write.
-pub record GaveUp (out err : Taken) : Type 0 where
-  pub unwritten : Keeps out.old out.new
+-- Memory ran out before the last write.
+pub record GaveUp (verdict : Option Verdict) (out err : Taken) : Type 0 where
+  pub output : IfSome verdict (TookSome out)
   pub text : TookLine err (codes "no memory")
 
--- The table. No other status comes.
-pub record IsAnswer (verdict : Option Verdict) (status : ℕ) (read_rose : Type 0) (out err : Taken) : Type 0 where
-  pub known : (status ≡ 0) ⊎ ((status ≡ 2) ⊎ ((status ≡ 3) ⊎ ((status ≡ 4) ⊎ ((status ≡ 5) ⊎ ((status ≡ 6) ⊎ ((status ≡ 7) ⊎ (status ≡ 8)))))))
-  pub wrote : status ≡ 0 → Wrote verdict out err
-  pub words : status ≡ 2 → Refused verdict 2 out err
-  pub scene : status ≡ 3 → Refused verdict 3 out err
-  pub library : status ≡ 4 → Refused verdict 4 out err
-  pub pool : status ≡ 5 → Refused verdict 5 out err
-  pub read_fault : status ≡ 6 → ReadFailed read_rose out err
-  pub write_fault : status ≡ 7 → WriteFailed verdict out err
-  pub memory : status ≡ 8 → GaveUp out err
+-- The table.
+abbrev pub Row : Option Verdict → Status → Outside → Type 0
+Row verdict ended.Written o = Wrote verdict o.out o.err
+Row verdict ended.Words o = Refuses verdict ended.Words o.out o.err
+Row verdict ended.Scene o = Refuses verdict ended.Scene o.out o.err
+Row verdict ended.Library o = Refuses verdict ended.Library o.out o.err
+Row verdict ended.PoolFull o = IsFull verdict o.out o.err
+Row verdict ended.ReadFault o = FailedToRead o
+Row verdict ended.WriteFault o = FailedToWrite verdict o.out o.err
+Row verdict ended.Memory o = GaveUp verdict o.out o.err
+Row verdict ended.Path o = Refuses verdict ended.Path o.out o.err
 
--- Where no count of faults rose, the answer is that of the verdict, or want of memory.
-abbrev pub Follows : Verdict → ℕ → Type 0 → Type 0 → Type 0
-Follows (Write bytes) status read_rose write_rose = (read_rose → ⊥) → (write_rose → ⊥) → (status ≡ 0) ⊎ (status ≡ 8)
-Follows (Refuse refused text) status read_rose write_rose = (read_rose → ⊥) → (status ≡ refused) ⊎ (status ≡ 8)
+-- The answer is a row of the table, under its number.
+pub record IsAnswer (verdict : Option Verdict) (number : ℕ) (o : Outside) : Type 0 where
+  pub is : Status
+  pub has_number : number ≡ status_number is
+  pub row : Row verdict is o
 
-abbrev pub IsComplete : Option Verdict → ℕ → Type 0 → Type 0 → Type 0
-IsComplete verdict status read_rose write_rose = IfSome verdict (λ v. Follows v status read_rose write_rose)
+-- The status with which a run of this verdict ends.
+abbrev pub last_status : Option Refused → Status
+last_status None = ended.Written
+last_status (Some refused) = refused.status
+
+-- Where no count of faults rose, the answer is that of the verdict, or want of memory. Faults of writing count only where
+-- something is to be written.
+abbrev pub Follows : Verdict → ℕ → Outside → Type 0
+Follows v number o =
+    (ReadFailed o.source o.shelf → ⊥) → (v.outputs ≡ []) ⊎ (Failed o.out → ⊥)
+    → (number ≡ status_number (last_status v.refusal)) ⊎ (number ≡ 8)
+
+abbrev pub IsComplete : Option Verdict → ℕ → Outside → Type 0
+IsComplete verdict number o = IfSome verdict (λ v. Follows v number o)

@@ -1,52 +1,77 @@
--- What a run has to answer: the first refusal in the stated order, or the bytes to be written. It is none exactly where
--- this hangs on something that isn't told: what the source has left, or what the shelf holds.
-use Rattle.std.specs.Prelude.{◌+◌, Bool, true, false, ℕ, nat_lt, List, [], ◌∷◌, length, Option, Some, None, option_map, option_and_then, Result, Ok, Err, if◌then◌else◌}
+-- What a run has to answer: the first refusal in the stated order, or what is to be written. It is none exactly where this
+-- hangs on something that isn't told: what the source has left, or what the shelf holds.
+use Rattle.std.specs.Prelude.{◌+◌, Bool, true, false, ℕ, nat_lt, List, [], ◌∷◌, length, Option, Some, None, option_map}
+use Rattle.std.specs.Prelude.{option_and_then, Result, Ok, Err, if◌then◌else◌}
 use Rattle.abuf_obj.specs.Scene.{points, faces, names, libraries, obj_fault}
 use Rattle.abuf_obj.specs.declared.fault.Why.{Why}
 use Rattle.abuf_obj.specs.declared.scene.Obj.{Obj}
 use Rattle.abuf_scene.specs.Triangles.{triangles, unknown}
+use Rattle.abuf_scene.specs.declared.triangles.Triangle.{Triangle}
 use Rattle.abuf_view.specs.Primitives.{prims}
 use Rattle.abuf_band.specs.Bands.{band_total, first_full}
 use Rattle.abuf_cli.specs.Jobs.{job}
 use Rattle.abuf_cli.specs.declared.job.Job.{Job}
+use Rattle.abuf_cli.specs.declared.job.What.{What}
+use Rattle.abuf_cli.specs.declared.job.What.TheVariants as what
 use Rattle.abuf_cli.specs.declared.job.WordFault.{WordFault}
 use Rattle.abuf_cli.specs.declared.job.WordFault.TheVariants as fault
+use Rattle.abuf_sequence.specs.declared.path.Shot.{Shot}
+use Rattle.abuf_sequence.specs.Sequences as sequence
+use Rattle.abuf_sequence.specs.Sequences.{sound_images}
+use Rattle.abuf_top.specs.Paths.{path_line}
+use Rattle.abuf_top.specs.Images.{Images, plan_of, image_pool}
 use Rattle.abuf_top.specs.Libraries.{Held, first_refusal, contents}
 use Rattle.abuf_top.specs.Demonstration.{scene_for, shelf_of}
 use Rattle.abuf_top.specs.Image.{Drawing, drawing_of, total}
 use Rattle.abuf_top.specs.Output.{output}
 use Rattle.abuf_top.specs.Refusals.{refusal_status, refusal_text, full_text}
+use Rattle.abuf_top.specs.declared.status.Status.{Status}
+use Rattle.abuf_top.specs.declared.status.Status.TheVariants as ended
 use Rattle.abuf_top.specs.declared.stop.FullPool.{FullPool}
 use Rattle.abuf_top.specs.declared.stop.FullPool.TheVariants as full
+use Rattle.abuf_top.specs.declared.task.Task.{Task}
+use Rattle.abuf_top.specs.declared.task.Task.TheVariants.{Draw, Sequence}
 use Rattle.abuf_top.specs.declared.stop.Refusal.{Refusal}
 use Rattle.abuf_top.specs.declared.stop.Refusal.TheVariants.{Words, Value, SceneTooLong, SceneLine, UnknownMaterial}
 
--- A refusal with its status and text, or all bytes of the output.
-pub data Verdict : Type 0 where
-  Refuse : (status : ℕ) (text : List ℕ) → Verdict
-  Write : (bytes : List ℕ) → Verdict
+-- The status that a refused run has, and the text that it writes to its messages.
+pub record Refused : Type 0 where
+  pub status : Status
+  pub text : List ℕ
+
+-- What is to be written, each output by one call, one after another, and how the run ends after that: by status 0, or by a
+-- refusal.
+pub record Verdict : Type 0 where
+  pub outputs : List (List ℕ)
+  pub refusal : Option Refused
+
+-- A refusal before anything is written.
+abbrev pub refuse : Status → List ℕ → Verdict
+refuse status text = record { outputs = []; refusal = Some (record { status = status; text = text }) }
+
+-- One output, and no refusal.
+abbrev pub write : List ℕ → Verdict
+write bytes = record { outputs = bytes ∷ []; refusal = None }
 
 -- The scene that these bytes define, where they have no fault.
 abbrev pub scene_of : List ℕ → Obj
 scene_of bytes = record { points = points bytes; faces = faces bytes; names = names bytes; libraries = libraries bytes }
 
-abbrev pub or_unknown : Option ℕ → Drawing → Result Drawing Refusal
-or_unknown (Some line) d = Err (UnknownMaterial line)
-or_unknown None d = Ok d
+abbrev pub or_unknown : Option ℕ → List Triangle → Result (List Triangle) Refusal
+or_unknown (Some line) triangles = Err (UnknownMaterial line)
+or_unknown None triangles = Ok triangles
 
--- A face whose material no library has, or else what is drawn.
-abbrev pub material_line : Job → Obj → List (List ℕ) → Result Drawing Refusal
-material_line job scene libs =
-    or_unknown (unknown libs scene) (drawing_of job (prims job.camera (triangles libs scene)))
+-- A face whose material no library has, or else the triangles of the scene.
+abbrev pub material_line : Obj → List (List ℕ) → Result (List Triangle) Refusal
+material_line scene libs = or_unknown (unknown libs scene) (triangles libs scene)
 
-abbrev pub or_refusal : Option Refusal → Result Drawing Refusal → Result Drawing Refusal
+abbrev pub or_refusal : Option Refusal → Result (List Triangle) Refusal → Result (List Triangle) Refusal
 or_refusal (Some refusal) later = Err refusal
 or_refusal None later = later
 
 -- The libraries in order, and then the materials.
-abbrev pub library_line : Job → Obj → Held → Result Drawing Refusal
-library_line job scene held =
-    or_refusal (first_refusal held scene.libraries) (material_line job scene (contents held scene.libraries))
+abbrev pub library_line : Obj → Held → Result (List Triangle) Refusal
+library_line scene held = or_refusal (first_refusal held scene.libraries) (material_line scene (contents held scene.libraries))
 
 -- A scene without libraries needs no shelf.
 abbrev pub shelf_for : List (List ℕ) → Option Held → Option Held
@@ -54,28 +79,56 @@ shelf_for [] shelf = Some (λ name. None)
 shelf_for (name ∷ names) shelf = shelf
 
 -- The first fault of the scene's lines, and then the libraries.
-abbrev pub fault_line : Job → Obj → Option Held → Option (ℕ × Why) → Option (Result Drawing Refusal)
-fault_line job scene shelf (Some fault) = Some (Err (SceneLine fault.0 fault.1))
-fault_line job scene shelf None = option_map (library_line job scene) (shelf_for scene.libraries shelf)
+abbrev pub fault_line : Obj → Option Held → Option (ℕ × Why) → Option (Result (List Triangle) Refusal)
+fault_line scene shelf (Some fault) = Some (Err (SceneLine fault.0 fault.1))
+fault_line scene shelf None = option_map (library_line scene) (shelf_for scene.libraries shelf)
 
 -- The length of the scene, and then its lines.
-abbrev pub scene_line : Job → Option Held → List ℕ → Option (Result Drawing Refusal)
-scene_line job shelf bytes =
-    if nat_lt 67108864 (length bytes) then Some (Err SceneTooLong) else fault_line job (scene_of bytes) shelf (obj_fault bytes)
+abbrev pub scene_line : Option Held → List ℕ → Option (Result (List Triangle) Refusal)
+scene_line shelf bytes = if nat_lt 67108864 (length bytes) then Some (Err SceneTooLong) else fault_line (scene_of bytes) shelf (obj_fault bytes)
+
+-- The scene of a command: that of the source and the shelf, or `demo`'s own.
+abbrev pub loaded : What → Option (List ℕ) → Option Held → Option (Result (List Triangle) Refusal)
+loaded what scene shelf = option_and_then (scene_line (shelf_of what shelf)) (scene_for what scene)
 
 abbrev pub word_refusal : WordFault → Refusal
 word_refusal fault.Words = Words
 word_refusal (fault.Value option) = Value option
 word_refusal fault.Memory = Words
 
--- The words, and then the scene: that of the source and the shelf, or `demo`'s own.
-abbrev pub words_line : Result Job WordFault → Option (List ℕ) → Option Held → Option (Result Drawing Refusal)
-words_line (Err why) scene shelf = Some (Err (word_refusal why))
-words_line (Ok job) scene shelf = option_and_then (scene_line job (shelf_of job.what shelf)) (scene_for job.what scene)
+-- One drawing of a scene's triangles, unless the scene is refused.
+abbrev pub drawing_line : Job → Result (List Triangle) Refusal → Result Task Refusal
+drawing_line job (Err refusal) = Err refusal
+drawing_line job (Ok triangles) = Ok (Draw (drawing_of job (prims job.camera triangles)))
 
--- The first refusal of the words, the scene, the libraries and the materials, or what is drawn.
-unfoldable pub drawing : List (List ℕ) → Option (List ℕ) → Option Held → Option (Result Drawing Refusal)
-drawing words scene shelf = words_line (job words) scene shelf
+-- An image of them for each shot.
+abbrev pub images_line : Job → List Shot → Result (List Triangle) Refusal → Result Task Refusal
+images_line job shots (Err refusal) = Err refusal
+images_line job shots (Ok triangles) = Ok (Sequence (record { plan = plan_of job; triangles = triangles; shots = shots }))
+
+-- The path, and then the scene.
+abbrev pub shots_line : Job → Option (List ℕ) → Option Held → Result (List Shot) Refusal → Option (Result Task Refusal)
+shots_line job scene shelf (Err refusal) = Some (Err refusal)
+shots_line job scene shelf (Ok shots) = option_map (images_line job shots) (loaded job.what scene shelf)
+
+abbrev pub sequence_line : Job → List ℕ → Option (List ℕ) → Option Held → Option (Result Task Refusal)
+sequence_line job name scene None = None
+sequence_line job name scene (Some held) = shots_line job scene (Some held) (path_line (held name))
+
+abbrev pub command_line : What → Job → Option (List ℕ) → Option Held → Option (Result Task Refusal)
+command_line what.Render job scene shelf = option_map (drawing_line job) (loaded job.what scene shelf)
+command_line (what.Pick x y) job scene shelf = option_map (drawing_line job) (loaded job.what scene shelf)
+command_line (what.Demo number) job scene shelf = option_map (drawing_line job) (loaded job.what scene shelf)
+command_line (what.Sequence name) job scene shelf = sequence_line job name scene shelf
+
+-- The words, and then the path of a sequence and the scene.
+abbrev pub words_line : Result Job WordFault → Option (List ℕ) → Option Held → Option (Result Task Refusal)
+words_line (Err why) scene shelf = Some (Err (word_refusal why))
+words_line (Ok job) scene shelf = command_line job.what job scene shelf
+
+-- The first refusal of the words, the path, the scene, the libraries and the materials, or what is drawn.
+unfoldable pub task : List (List ℕ) → Option (List ℕ) → Option Held → Option (Result Task Refusal)
+task words scene shelf = words_line (job words) scene shelf
 
 -- Where the pool of a whole image has fewer nodes than there are fragments, it is full.
 abbrev pub whole_pool : Drawing → Option FullPool
@@ -97,15 +150,30 @@ full_pool d false None = whole_pool d
 
 -- The full pool, or else the output.
 abbrev pub or_output : Drawing → Option FullPool → Verdict
-or_output d (Some pool) = Refuse 5 (full_text pool)
-or_output d None = Write (output d)
+or_output d (Some pool) = refuse ended.PoolFull (full_text pool)
+or_output d None = write (output d)
 
 abbrev pub pool_line : Drawing → Verdict
 pool_line d = or_output d (full_pool d d.job.peel d.job.bands)
 
-abbrev pub last_line : Result Drawing Refusal → Verdict
-last_line (Err refusal) = Refuse (refusal_status refusal) (refusal_text refusal)
-last_line (Ok d) = pool_line d
+-- The images of a sequence before the first whose pool is full, and then its refusal; or all images, where there is none.
+abbrev pub full_image : Images → Option ℕ → Option Refused
+full_image i (Some k) = Some (record { status = ended.PoolFull; text = full_text (image_pool i k) })
+full_image i None = None
+
+abbrev pub image_line : Images → Verdict
+image_line i = record {
+  outputs = sound_images i.plan i.triangles i.shots;
+  refusal = full_image i (sequence.first_full i.plan i.triangles i.shots);
+}
+
+abbrev pub task_line : Task → Verdict
+task_line (Draw d) = pool_line d
+task_line (Sequence i) = image_line i
+
+abbrev pub last_line : Result Task Refusal → Verdict
+last_line (Err refusal) = refuse (refusal_status refusal) (refusal_text refusal)
+last_line (Ok t) = task_line t
 
 abbrev pub verdict : List (List ℕ) → Option (List ℕ) → Option Held → Option Verdict
-verdict words scene shelf = option_map last_line (drawing words scene shelf)
+verdict words scene shelf = option_map last_line (task words scene shelf)

@@ -1,22 +1,20 @@
 // The demonstration scene, in the place of the source and the shelf.
-ghost use Rattle.std.specs.Prelude.{◌≡◌, ◌≤◌, ◌∷◌, [], IfOk, IfErr, IfSome, Some, length, codes};
+ghost use Rattle.std.specs.Prelude.{◌≡◌, ◌≤◌, ◌∷◌, [], IfOk, IfErr, IfSome, Some, codes};
+ghost use Rattle.abuf_obj.specs.Sound.{IsScene};
 ghost use Rattle.abuf_io.specs.Memory.{steady_pairs};
 ghost use Rattle.abuf_scene.specs.Demo.{obj};
-ghost use Rattle.abuf_cli.specs.Sound.{IsJob};
 ghost use Rattle.abuf_top.specs.Demonstration.{demo_shelf};
 ghost use Rattle.abuf_top.specs.Stopped.{HasReadCause};
 ghost use Rattle.abuf_top.specs.Verdict.{scene_line};
-ghost use Rattle.abuf_top.specs.Prepared.{Prepares};
+ghost use Rattle.abuf_top.specs.Prepared.{Loads};
 
-use crate::prepare::read_text;
+use crate::load::read_text;
+use crate::loaded::Loaded;
 use crate::stop::Stop;
-use abuf_cli::Job;
 use abuf_io::SteadyShelf;
 use abuf_num::{List, NoMemory};
 use abuf_scene::make;
-use abuf_view::Projected;
 use std::alloc::Global;
-use std::thread::Threads;
 
 // A shelf of one library, under the name that the scene has for it.
 fn library_shelf(alloc: Global, library: List<u8>) -> Result<SteadyShelf, NoMemory>
@@ -28,19 +26,12 @@ fn library_shelf(alloc: Global, library: List<u8>) -> Result<SteadyShelf, NoMemo
     Ok(SteadyShelf::new(pairs))
 }
 
-/// The primitives of the demonstration scene of so many triangles.
-pub fn demonstrate<R: Threads + Sync>(
-    rt: &R,
-    alloc: Global,
-    job: &Job,
-    number: u32,
-) -> Result<Projected, Stop>
-    requires job { IsJob job.now }
-    requires number { (1 ≤ number) × (number ≤ 200000) }
-    ensures told { IfSome (scene_line job.now (Some demo_shelf) (obj number)) (λ line. Prepares line ⊥ job.now result) }
+/// The demonstration scene of so many triangles.
+pub fn demonstrate(alloc: Global, number: u32) -> Result<Loaded, Stop>
+    requires { (1 ≤ number) × (number ≤ 200000) }
+    ensures told { IfSome (scene_line (Some demo_shelf) (obj number)) (λ line. Loads line ⊥ result) }
     ensures cause { IfErr result (HasReadCause ⊥) }
-    ensures one_length { IfOk result (λ p. length p.tris ≡ length p.paints) }
-    ensures few { IfOk result (λ p. length p.tris ≤ 2097152) }
+    ensures scene { IfOk result (λ loaded. IsScene loaded.obj) }
 {
     let Ok(made) = make(alloc, number) else {
         return Err(Stop::Memory);
@@ -48,5 +39,5 @@ pub fn demonstrate<R: Threads + Sync>(
     let Ok(mut shelf) = library_shelf(alloc, made.library) else {
         return Err(Stop::Memory);
     };
-    read_text(rt, alloc, job, made.obj, &mut shelf)
+    read_text(alloc, made.obj, &mut shelf)
 }

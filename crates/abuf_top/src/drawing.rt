@@ -2,7 +2,7 @@
 ghost use Rattle.std.specs.Prelude.{◌≡◌, ◌≤◌, length};
 ghost use Rattle.abuf_raster.specs.Region.{IsRegion};
 ghost use Rattle.abuf_cli.specs.Sound.{IsJob};
-ghost use Rattle.abuf_top.specs.Image.{region_of};
+ghost use Rattle.abuf_top.specs.Image.{region_of, DrawsOnce};
 
 use abuf_cli::Job;
 use abuf_picture::{Primitives, Target};
@@ -10,7 +10,7 @@ use abuf_raster::Region;
 use abuf_view::Projected;
 use std::marker::Model;
 
-/// A job, and the primitives of its scene.
+/// A job of one drawing, and the primitives of its scene.
 #[derive(Drop)]
 pub struct Drawing {
     job: Job,
@@ -20,19 +20,20 @@ pub struct Drawing {
 impl Model for Drawing {
     ghost use Rattle.std.specs.Prelude.{◌≡◌, ◌≤◌, length};
     ghost use Rattle.abuf_cli.specs.Sound.{IsJob};
-    ghost use Rattle.abuf_top.specs.Image.{Drawing};
+    ghost use Rattle.abuf_top.specs.Image.{Drawing, DrawsOnce};
 
     ghost Value = { Drawing };
 
     ghost view = { λ d. record { job = d.job; triangles = d.shown.tris; paints = d.shown.paints } };
 
-    ghost invariant = { λ d. IsJob d.job × (length d.shown.tris ≤ 2097152) × (length d.shown.paints ≡ length d.shown.tris) };
+    ghost invariant = { λ d. IsJob d.job × DrawsOnce d.job.what × (length d.shown.tris ≤ 2097152) × (length d.shown.paints ≡ length d.shown.tris) };
 }
 
 impl Drawing {
     /// The drawing of a job's scene.
     pub fn new(job: Job, shown: Projected) -> Drawing
         requires job { IsJob job }
+        requires once { DrawsOnce job.what }
         requires few { length shown.tris ≤ 2097152 }
         requires painted { length shown.paints ≡ length shown.tris }
         ensures { result ≡ record { job = job; triangles = shown.tris; paints = shown.paints } }
@@ -40,11 +41,12 @@ impl Drawing {
         Drawing { job, shown }
     }
 
-    pub fn job(&self) -> Job
-        ensures value { result ≡ self.now.job }
-        ensures sound { IsJob result }
+    pub fn job(&self) -> &Job
+        ensures value { result.now ≡ self.now.job }
+        ensures sound { IsJob result.now }
+        ensures once { DrawsOnce result.now.what }
     {
-        self.job
+        &self.job
     }
 
     pub fn shown(&self) -> &Projected

@@ -7,19 +7,24 @@
 //! asked.
 #![tactic(auto)]
 
+mod commands;
 mod demonstration;
 mod drawing;
-mod finish;
 mod image;
 mod libraries;
+mod load;
+mod loaded;
+mod outcome;
 mod output;
 mod prepare;
-mod render;
 mod report;
+mod status;
 mod stop;
 mod summary;
+mod task;
 mod top;
 mod whole;
 
+pub use status::Status;
 pub use stop::{FullPool, Refusal, Stop};
 pub use top::{Ran, run, run_with};

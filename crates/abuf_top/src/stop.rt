@@ -3,20 +3,28 @@ ghost use Rattle.std.specs.Prelude.{◌≡◌, ◌++◌, ◌∷◌, [], IfOk, co
 ghost use Rattle.std.specs.String.{string_bytes};
 ghost use Rattle.std.specs.Fmt.{decimal};
 ghost use Rattle.abuf_top.specs.declared.stop.FullPool.TheVariants as full;
-ghost use Rattle.abuf_top.specs.Refusals.{option_text, scene_cause, library_cause, line_text, refusal_status, refusal_text, full_text};
+ghost use Rattle.abuf_top.specs.Refusals.{option_text, scene_cause, library_cause, path_cause, line_text, refusal_status, refusal_text, full_text};
 
+use crate::status::Status;
 use abuf_cli::Opt;
 use abuf_mtl::MtlWhy;
 use abuf_obj::Why;
+use abuf_sequence::PathWhy;
 use std::alloc::{AllocError, Global};
 
-/// What is wrong with the words, the scene or a library.
+/// What is wrong with the words, the path of a sequence, the scene or a library.
 #[derive(Clone, Copy, Debug, PartialEq, Eq)]
 pub enum Refusal {
     /// The words aren't understood.
     Words,
     /// The text of this option, or of the command's own value, isn't in its form or range.
     Value(Opt),
+    /// The shelf has no path of the sequence's name.
+    PathMissing,
+    /// The path has more than 1048576 bytes.
+    PathTooLong,
+    /// The first line of the path that is at fault, from 1, and its cause.
+    PathLine(u32, PathWhy),
     /// The scene has more than 67108864 bytes.
     SceneTooLong,
     /// The first line of the scene that is at fault, from 1, and its cause.
@@ -45,12 +53,18 @@ pub enum FullPool {
         fragments: u64,
         nodes: u32,
     },
+    /// That of an image of a sequence, counted from 1: how many fragments the image has.
+    InSequence {
+        image: u32,
+        fragments: u64,
+        nodes: u32,
+    },
 }
 
 /// Why a run stops before its end.
 #[derive(Clone, Copy, Debug, PartialEq, Eq)]
 pub enum Stop {
-    /// By the words, the scene or a library.
+    /// By the words, the path, the scene or a library.
     Refused(Refusal),
     /// By a pool that has fewer nodes than there are fragments.
     PoolFull(FullPool),
@@ -58,7 +72,7 @@ pub enum Stop {
     ReadFault,
     /// The output failed before all of it was written.
     WriteFault,
-    /// Memory ran out; this may come at any time before the output is written.
+    /// Memory ran out; this may come at any time before the last output is written.
     Memory,
 }
 
@@ -77,6 +91,7 @@ fn option_text(option: Opt) -> &'static str
         Opt::Background => "background",
         Opt::Maxval => "maxval",
         Opt::Bands => "bands",
+        Opt::Path => "path",
         Opt::At => "at",
         Opt::Number => "number",
     }
@@ -110,6 +125,17 @@ fn library_cause(why: MtlWhy) -> &'static str
     }
 }
 
+fn path_cause(why: PathWhy) -> &'static str
+    ensures { result.now ≡ path_cause why }
+{
+    match why {
+        PathWhy::WrongCount => "wrong count",
+        PathWhy::BadTurn => "bad turn",
+        PathWhy::BadNumber => "bad number",
+        PathWhy::TooMany => "too many images",
+    }
+}
+
 fn bad_value(alloc: Global, name: &str) -> Result<String, AllocError>
     ensures { IfOk result (λ line. string_bytes line ≡ codes "bad value: " ++ name.now ++ 10 ∷ []) }
 {
@@ -120,6 +146,12 @@ fn at_line(alloc: Global, line: u32, cause: &str) -> Result<String, AllocError>
     ensures { IfOk result (λ text. string_bytes text ≡ line_text line cause.now ++ 10 ∷ []) }
 {
     format!(in alloc; "line {line}: {cause}\n")
+}
+
+fn at_path_line(alloc: Global, line: u32, cause: &str) -> Result<String, AllocError>
+    ensures { IfOk result (λ text. string_bytes text ≡ codes "path line " ++ decimal line ++ codes ": " ++ cause.now ++ 10 ∷ []) }
+{
+    format!(in alloc; "path line {line}: {cause}\n")
 }
 
 fn library_missing(alloc: Global, k: usize) -> Result<String, AllocError>
@@ -152,6 +184,17 @@ fn band_full(alloc: Global, band: u32, fragments: u64, nodes: u32) -> Result<Str
     format!(in alloc; "band {band} full: {fragments} fragments, {nodes} nodes\n")
 }
 
+fn image_of_sequence_full(
+    alloc: Global,
+    image: u32,
+    fragments: u64,
+    nodes: u32,
+) -> Result<String, AllocError>
+    ensures { IfOk result (λ text. string_bytes text ≡ full_text (full.InSequence image fragments nodes) ++ 10 ∷ []) }
+{
+    format!(in alloc; "image {image}: pool full: {fragments} fragments, {nodes} nodes\n")
+}
+
 impl FullPool {
     /// The text, with its line feed. An error means that memory ran out.
     pub fn line(self, alloc: Global) -> Result<String, AllocError>
@@ -164,21 +207,29 @@ impl FullPool {
                 fragments,
                 nodes,
             } => band_full(alloc, band, fragments, nodes),
+            FullPool::InSequence {
+                image,
+                fragments,
+                nodes,
+            } => image_of_sequence_full(alloc, image, fragments, nodes),
         }
     }
 }
 
 impl Refusal {
-    /// The status of the process: 2 for the words, 3 for the scene, 4 for a library.
-    pub fn status(self) -> u8
+    /// Whether the words, the path, the scene or a library are refused.
+    pub fn status(self) -> Status
         ensures { result ≡ refusal_status self }
     {
         match self {
-            Refusal::Words | Refusal::Value(_) => 2,
-            Refusal::SceneTooLong | Refusal::SceneLine(_, _) | Refusal::UnknownMaterial(_) => 3,
+            Refusal::Words | Refusal::Value(_) => Status::Words,
+            Refusal::PathMissing | Refusal::PathTooLong | Refusal::PathLine(_, _) => Status::Path,
+            Refusal::SceneTooLong | Refusal::SceneLine(_, _) | Refusal::UnknownMaterial(_) => {
+                Status::Scene
+            }
             Refusal::LibraryMissing(_)
             | Refusal::LibraryTooLong(_)
-            | Refusal::LibraryLine(_, _, _) => 4,
+            | Refusal::LibraryLine(_, _, _) => Status::Library,
         }
     }
 
@@ -189,6 +240,9 @@ impl Refusal {
         match self {
             Refusal::Words => String::from_str(alloc, "words not understood\n"),
             Refusal::Value(option) => bad_value(alloc, option_text(option)),
+            Refusal::PathMissing => String::from_str(alloc, "path missing\n"),
+            Refusal::PathTooLong => String::from_str(alloc, "path too long\n"),
+            Refusal::PathLine(line, why) => at_path_line(alloc, line, path_cause(why)),
             Refusal::SceneTooLong => String::from_str(alloc, "scene too long\n"),
             Refusal::SceneLine(line, why) => at_line(alloc, line, scene_cause(why)),
             Refusal::UnknownMaterial(line) => at_line(alloc, line, "unknown material"),

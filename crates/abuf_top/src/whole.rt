@@ -7,7 +7,7 @@ ghost use Rattle.abuf_top.specs.Drawn.{IsWholeFrameOf, IsOutputOf};
 
 use crate::drawing::Drawing;
 use crate::image::image_of;
-use crate::output::Output;
+use crate::outcome::Outcome;
 use crate::stop::FullPool;
 use abuf_fan::Gate;
 use abuf_frame::Closed;
@@ -23,16 +23,16 @@ pub fn draw_whole<R: Threads + Sync, G: Gate + Sync>(
     alloc: Global,
     drawing: &Drawing,
     gate: &G,
-) -> Result<Closed, Output>
+) -> Result<Closed, Outcome<List<u8>>>
     requires not_banded { drawing.now.job.bands ≡ None }
     requires not_peeled { drawing.now.job.peel ≡ false }
-    ensures { MatchResult result (IsWholeFrameOf drawing.now) (λ early. IsOutputOf drawing.now early.bytes early.closed) }
+    ensures { MatchResult result (IsWholeFrameOf drawing.now) (λ early. IsOutputOf drawing.now early.result early.closed) }
 {
     let Ok(closed) = draw(rt, alloc, &drawing.primitives(), drawing.target(), gate) else {
-        return Err(Output::out_of_memory());
+        return Err(Outcome::out_of_memory());
     };
     match closed.full() {
-        Some(full) => Err(Output::full(
+        Some(full) => Err(Outcome::full(
             FullPool::Image {
                 fragments: full.fragments,
                 nodes: full.nodes,

@@ -13,9 +13,11 @@ mod seeing;
 #[cfg(test)]
 mod tests;
 mod threads;
+mod turns;
 mod viewpoint;
 
 pub use clipping::{Corners, Seen};
 pub use projection::{Projected, project};
 pub use threads::project_faces;
+pub use turns::turn_from;
 pub use viewpoint::Camera;

@@ -159,6 +159,20 @@ impl Camera {
         self.height
     }
 
+    /// Its focal length, in units of 1/65536.
+    pub fn focal(&self) -> i64
+        ensures { result ≡ self.now.focal }
+    {
+        self.lens.focal
+    }
+
+    /// Its near distance, in units of 1/65536.
+    pub fn near(&self) -> i64
+        ensures { result ≡ self.now.near }
+    {
+        self.lens.near
+    }
+
     /// What is computed once of the camera.
     pub fn eye(&self) -> Eye
         ensures value { result ≡ eye_of self.now }

@@ -4,7 +4,7 @@ use Rattle.clap.specs.Words.{App, is_simple_and_free, rows_of, found_of}
 use Rattle.clap.proofs.OnLiterals.{clap_on_literals}
 use Rattle.abuf_cli.specs.Commands.{app_of_command, matches}
 use Rattle.abuf_cli.specs.declared.command.CommandName.{CommandName}
-use Rattle.abuf_cli.specs.declared.command.CommandName.TheVariants.{Render, Pick, Demo}
+use Rattle.abuf_cli.specs.declared.command.CommandName.TheVariants.{Render, Pick, Demo, Sequence}
 use Rattle.abuf_cli.specs.declared.job.WordFault.TheVariants.{Words}
 use Rattle.abuf_cli.proofs.command.matches_of.Goals as goal
 
@@ -13,6 +13,7 @@ unfolding clap_on_literals
 each_is_simple Render = refl
 each_is_simple Pick = refl
 each_is_simple Demo = refl
+each_is_simple Sequence = refl
 
 pub parse-requires : goal.parse-requires
 parse-requires c = ap is_simple_and_free c.in-Ok.ensures ∙ each_is_simple c.args.name

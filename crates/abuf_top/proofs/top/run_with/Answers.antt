@@ -1,23 +1,34 @@
-use Rattle.std.proofs.Common.{◌≡◌, Result, sym, subst}
-use Rattle.std.specs.Prelude.{IsSome, ◌↔◌, ◌⊎◌}
-use Rattle.abuf_cli.specs.declared.job.Job.{Job}
-use Rattle.abuf_cli.specs.declared.job.WordFault.{WordFault}
-use Rattle.abuf_top.specs.Image.{has_one_frame}
-use Rattle.abuf_top.specs.Ending.{HasOneFrame}
-use Rattle.abuf_top.specs.Verdict.{pool_line}
-use Rattle.abuf_top.proofs.Answering.{drawn_answer}
-use Rattle.abuf_top.proofs.Handing.{handed_back}
+use Rattle.std.proofs.Common.{Some, Result, IfErr, sym, subst}
+use Rattle.std.proofs.KnownBytes.{Keeps-refl}
+use Rattle.abuf_top.specs.Ending.{Ends, Concludes}
+use Rattle.abuf_top.specs.Outside.{sink_change}
+use Rattle.abuf_top.specs.Stopped.{IsOfDrawing}
+use Rattle.abuf_top.specs.Verdict.{image_line}
+use Rattle.abuf_top.specs.declared.stop.Stop.{Stop}
+use Rattle.abuf_top.proofs.Running.{run_drew, run_wrote, run_stopped}
 use Rattle.abuf_top.proofs.top.run_with.Goals as goal
 
-pub returns-in-Ok-clause-answer : goal.returns-in-Ok-clause-answer
-returns-in-Ok-clause-answer g c =
-    drawn_answer _ c.in-Ok.drawing c.conclude.result.status _ _ _ c.in-Ok.ensures.told c.finish-ended.result.result c.finish-ended.ensures.answer c.conclude.ensures.said
+pub returns-in-Ok-Draw : goal.returns-in-Ok-Draw
+returns-in-Ok-Draw g c =
+    let from = c.in-Ok-Draw.ensures in
+    let drew = c.write_output-outcome in
+    run_drew _ _ from.source from.calls from.most _ c.in-Ok-Draw.drawing c.in-Ok-Draw.field-0-is drew.result.result drew.result.closed c.conclude.result from.told from.words
+    drew.ensures.ends drew.ensures.last drew.ensures.closed drew.ensures.handed drew.ensures.stops c.conclude.ensures
 
-pub returns-in-Ok-clause-handed : goal.returns-in-Ok-clause-handed
-returns-in-Ok-clause-handed g c =
-    let status = c.conclude.result.status in
-    let closed = c.conclude.result.closed in
-    let d = c.in-Ok.drawing in
-    subst (λ (r : Result Job WordFault). IsSome closed ↔ (((status ≡ 0) ⊎ ((status ≡ 5) ⊎ (status ≡ 7))) × HasOneFrame r)) (sym c.in-Ok.ensures.words)
-    (handed_back status (has_one_frame d.job) c.finish-ended.result.closed closed (pool_line d) _ _ c.conclude.ensures.some c.conclude.ensures.none
-    c.finish-ended.result.result c.finish-ended.ensures.answer c.conclude.ensures.said c.finish-ended.ensures.handed)
+pub returns-in-Ok-Sequence : goal.returns-in-Ok-Sequence
+returns-in-Ok-Sequence g c =
+    let from = c.in-Ok-Sequence.ensures in
+    let ended = c.without_frame in
+    let ends = subst (λ (r : Result (Unit {0}) Stop). Ends (Some (image_line c.in-Ok-Sequence.images)) ⊥ (sink_change g.O.Sink.taken g.O.Sink.faults c.args.out.now c.write_images-result.new.out) r)
+    (sym ended.ensures.result) c.write_images-result.ensures.ends in
+    let stops = subst (λ (r : Result (Unit {0}) Stop). IfErr r IsOfDrawing) (sym ended.ensures.result) c.write_images-result.ensures.stops in
+    run_wrote _ _ from.source from.calls from.most _ c.in-Ok-Sequence.images c.in-Ok-Sequence.field-0-is ended.result.result ended.result.closed c.conclude-in-Ok-Sequence.result from.told from.words
+    ends stops ended.ensures.closed c.conclude-in-Ok-Sequence.ensures
+
+pub returns-in-Err : goal.returns-in-Err
+returns-in-Err g c =
+    let from = c.in-Err.ensures in
+    let ended = c.without_frame-in-Err in
+    let ran = c.conclude-in-Err in
+    let concludes = subst (λ (r : Result (Unit {0}) Stop). Concludes r ended.result.closed ran.result (sink_change g.E.Sink.taken g.E.Sink.faults c.args.err.now ran.new.err)) ended.ensures.result ran.ensures in
+    run_stopped _ _ from.source from.calls from.most c.in-Err.stop ended.result.closed ran.result from.told from.cause (Keeps-refl (g.O.Sink.taken c.args.out.now)) ended.ensures.closed concludes

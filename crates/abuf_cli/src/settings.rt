@@ -1,0 +1,256 @@
+// What the options ask for.
+ghost use Rattle.std.specs.Prelude.{◌≡◌};
+ghost use Rattle.clap.specs.Words.{rows_of, found_of};
+ghost use Rattle.abuf_view.specs.Camera.{IsSize, IsLens, IsCamera, camera};
+ghost use Rattle.abuf_cli.specs.Poses.{IsPose};
+
+use crate::command::{CommandName, given_text, is_given, text_of};
+use crate::job::{Job, Opt, What, WordFault};
+use crate::values::{
+    Size, background_of, bands_of, focal_of, maxval_of, near_of, nodes_of, pattern_of, shift_of,
+    size_of, threads_of, turn_of,
+};
+use abuf_raster::Pattern;
+use abuf_view::Camera;
+use clap::ArgMatches;
+
+/// Where the camera stands and looks. The shift is in units of 1/65536.
+#[derive(Clone, Copy)]
+pub struct Pose {
+    pub turn: [i32; 4],
+    pub shift: [i64; 3],
+}
+
+impl Pose {
+    ghost use Rattle.std.specs.Prelude.{IfOk};
+    ghost use Rattle.abuf_cli.specs.Poses.{IsPose};
+    ghost use Rattle.abuf_cli.specs.Jobs.{given_pose, default_pose, pose_of};
+
+    // The pose that the texts give.
+    fn given(matches: &ArgMatches) -> Result<Pose, WordFault>
+        ensures value { result ≡ given_pose (rows_of (found_of matches.now)) }
+        ensures sound { IfOk result IsPose }
+    {
+        let Some(turn) = turn_of(text_of(matches, Opt::Turn).as_bytes()) else {
+            return Err(WordFault::Value { option: Opt::Turn });
+        };
+        let Some(shift) = shift_of(text_of(matches, Opt::Shift).as_bytes()) else {
+            return Err(WordFault::Value { option: Opt::Shift });
+        };
+        Ok(Pose { turn, shift })
+    }
+
+    // The pose where no texts are taken for it.
+    fn by_default() -> Pose
+        ensures value { result ≡ default_pose }
+        ensures sound { IsPose result }
+    {
+        Pose {
+            turn: [1, 0, 0, 0],
+            shift: [0, 0, -262144],
+        }
+    }
+
+    // The pose of a command.
+    fn read(name: CommandName, matches: &ArgMatches) -> Result<Pose, WordFault>
+        ensures value { result ≡ pose_of name (rows_of (found_of matches.now)) }
+        ensures sound { IfOk result IsPose }
+    {
+        match name {
+            CommandName::Render | CommandName::Pick | CommandName::Demo => Pose::given(matches),
+            CommandName::Sequence => Ok(Pose::by_default()),
+        }
+    }
+}
+
+/// The lens of the camera, in units of 1/65536.
+#[derive(Clone, Copy)]
+pub struct Lens {
+    pub focal: i64,
+    pub near: i64,
+}
+
+impl Lens {
+    ghost use Rattle.std.specs.Prelude.{IfOk};
+    ghost use Rattle.abuf_view.specs.Camera.{IsLens};
+    ghost use Rattle.abuf_cli.specs.Jobs.{lens_of};
+
+    // The lens that the texts give.
+    fn read(matches: &ArgMatches) -> Result<Lens, WordFault>
+        ensures value { result ≡ lens_of (rows_of (found_of matches.now)) }
+        ensures sound { IfOk result (λ l. IsLens l.focal l.near) }
+    {
+        let Some(focal) = focal_of(text_of(matches, Opt::Focal).as_bytes()) else {
+            return Err(WordFault::Value { option: Opt::Focal });
+        };
+        let Some(near) = near_of(text_of(matches, Opt::Near).as_bytes()) else {
+            return Err(WordFault::Value { option: Opt::Near });
+        };
+        Ok(Lens { focal, near })
+    }
+}
+
+// The camera of this size, pose and lens. What they keep to is Camera's own invariant, in parts.
+fn camera_of(size: Size, pose: Pose, lens: Lens) -> Camera
+    requires size { IsSize size.width size.height }
+    requires pose { IsPose pose }
+    requires lens { IsLens lens.focal lens.near }
+    ensures value { result ≡ camera size.width size.height pose.turn pose.shift lens.focal lens.near }
+    ensures sound { IsCamera result }
+{
+    match Camera::new(
+        size.width,
+        size.height,
+        pose.turn,
+        pose.shift,
+        lens.focal,
+        lens.near,
+    ) {
+        Some(camera) => camera,
+        None => unreachable!(),
+    }
+}
+
+/// How the fragments of a job are stored.
+#[derive(Clone, Copy)]
+pub struct Storage {
+    /// The number of bands, from 1 to the height of the image, where they are given.
+    pub bands: Option<u32>,
+    /// Whether layers are peeled; no bands are given then.
+    pub peel: bool,
+}
+
+impl Storage {
+    ghost use Rattle.std.specs.Prelude.{◌≡◌, ◌≤◌, true, None, option_map, IfOk, IfSome};
+    ghost use Rattle.clap.specs.Words.{rows_of, found_of};
+    ghost use Rattle.abuf_cli.specs.Jobs.{render_storage, storage_of};
+    ghost use Rattle.abuf_cli.specs.Sound.{IsStorage, command_of};
+
+    // How the fragments of a render are stored, by the text of `bands` and whether `peel` is given.
+    fn of_render(height: u32, bands: Option<&str>, peel: bool) -> Result<Storage, WordFault>
+        ensures value { result ≡ render_storage height (option_map (λ t. t.now) bands.entry) peel }
+        ensures bands { IfOk result (λ s. IfSome s.bands (λ b. (1 ≤ b) × (b ≤ height))) }
+        ensures apart { IfOk result (λ s. s.peel ≡ true → s.bands ≡ None) }
+    {
+        match bands {
+            None => Ok(Storage { bands: None, peel }),
+            Some(_) if peel => Err(WordFault::Value { option: Opt::Bands }),
+            Some(text) => match bands_of(height, text.as_bytes()) {
+                Some(bands) => Ok(Storage {
+                    bands: Some(bands),
+                    peel: false,
+                }),
+                None => Err(WordFault::Value { option: Opt::Bands }),
+            },
+        }
+    }
+
+    // How the fragments of a command are stored, where the image has this height.
+    fn read(name: CommandName, height: u32, matches: &ArgMatches) -> Result<Storage, WordFault>
+        ensures value { result ≡ storage_of name height (rows_of (found_of matches.now)) }
+        ensures sound { IfOk result (λ s. (what : What) → command_of what ≡ name → IsStorage height what s.bands s.peel) }
+    {
+        match name {
+            CommandName::Render => {
+                Storage::of_render(
+                    height,
+                    given_text(matches, Opt::Bands.name()),
+                    is_given(matches, "peel"),
+                )
+            }
+            CommandName::Pick | CommandName::Demo | CommandName::Sequence => Ok(Storage {
+                bands: None,
+                peel: false,
+            }),
+        }
+    }
+}
+
+/// What the options ask for.
+#[derive(Clone, Copy)]
+pub struct Settings {
+    pub size: Size,
+    pub pattern: Pattern,
+    pub threads: u32,
+    pub nodes: u32,
+    pub pose: Pose,
+    pub lens: Lens,
+    pub background: [u16; 3],
+    pub maxval: u32,
+    pub storage: Storage,
+}
+
+impl Settings {
+    ghost use Rattle.std.specs.Prelude.{◌≡◌, IfOk};
+    ghost use Rattle.clap.specs.Words.{rows_of, found_of};
+    ghost use Rattle.abuf_cli.specs.Jobs.{settings_of, job_from};
+    ghost use Rattle.abuf_cli.specs.Sound.{IsSettings, IsWhat, IsJob, command_of};
+
+    /// The settings of the texts, in the order in which they are refused.
+    pub fn read(name: CommandName, matches: &ArgMatches) -> Result<Settings, WordFault>
+        ensures value { result ≡ settings_of name (rows_of (found_of matches.now)) }
+        ensures sound { IfOk result (IsSettings name) }
+    {
+        let Some(size) = size_of(text_of(matches, Opt::Size).as_bytes()) else {
+            return Err(WordFault::Value { option: Opt::Size });
+        };
+        let Some(pattern) = pattern_of(text_of(matches, Opt::Samples)) else {
+            return Err(WordFault::Value {
+                option: Opt::Samples,
+            });
+        };
+        let Some(threads) = threads_of(text_of(matches, Opt::Threads).as_bytes()) else {
+            return Err(WordFault::Value {
+                option: Opt::Threads,
+            });
+        };
+        let Some(nodes) = nodes_of(text_of(matches, Opt::Nodes).as_bytes()) else {
+            return Err(WordFault::Value { option: Opt::Nodes });
+        };
+        let pose = Pose::read(name, matches)?;
+        let lens = Lens::read(matches)?;
+        let Some(background) = background_of(text_of(matches, Opt::Background).as_bytes()) else {
+            return Err(WordFault::Value {
+                option: Opt::Background,
+            });
+        };
+        let Some(maxval) = maxval_of(text_of(matches, Opt::Maxval)) else {
+            return Err(WordFault::Value {
+                option: Opt::Maxval,
+            });
+        };
+        let storage = Storage::read(name, size.height, matches)?;
+        Ok(Settings {
+            size,
+            pattern,
+            threads,
+            nodes,
+            pose,
+            lens,
+            background,
+            maxval,
+            storage,
+        })
+    }
+
+    /// The job of these settings that makes this.
+    pub fn job(self, what: What) -> Job
+        requires settings { IsSettings (command_of what) self }
+        requires what { IsWhat self.size.width self.size.height what }
+        ensures value { result ≡ job_from self what }
+        ensures sound { IsJob result }
+    {
+        let background = self.background;
+        Job {
+            what,
+            camera: camera_of(self.size, self.pose, self.lens),
+            pattern: self.pattern,
+            threads: self.threads,
+            nodes: self.nodes,
+            background,
+            maxval: self.maxval,
+            bands: self.storage.bands,
+            peel: self.storage.peel,
+        }
+    }
+}

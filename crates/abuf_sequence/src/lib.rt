@@ -1,0 +1,19 @@
+//! A sequence of images of one scene, one image for each shot of a path.
+//!
+//! [`read_path`] reads the shots, or names the first line that is refused (`specs/Paths.antt`). [`sequence`] draws the image of
+//! each shot and writes it before the next is begun, so that memory holds one image at a time; `specs/Sequences.antt` says what
+//! the images are, which of them are written, and what is answered.
+#![tactic(auto)]
+
+mod fault;
+mod image;
+mod path;
+mod plan;
+#[cfg(test)]
+mod tests;
+mod writing;
+
+pub use fault::SequenceFault;
+pub use path::{PathFault, PathWhy, Shot, read_path};
+pub use plan::Plan;
+pub use writing::sequence;

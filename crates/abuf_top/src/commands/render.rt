@@ -1,0 +1,127 @@
+// The image, by how its fragments are stored: in one pool, in a pool for one band after another, or not at all.
+ghost use Rattle.std.specs.Prelude.{◌≡◌, None, Some, true, false};
+ghost use Rattle.abuf_cli.specs.declared.job.What.TheVariants as what;
+ghost use Rattle.abuf_top.specs.Drawn.{IsOutputOf};
+
+use crate::drawing::Drawing;
+use crate::image::image_of;
+use crate::outcome::Outcome;
+use crate::stop::FullPool;
+use crate::whole::{draw_whole, image_in};
+use abuf_band::{BandFault, render_bands};
+use abuf_fan::Gate;
+use abuf_num::{List, NoMemory};
+use abuf_peel::peel;
+use std::alloc::Global;
+use std::thread::Threads;
+
+/// All fragments in one frame.
+fn render_whole<R: Threads + Sync, G: Gate + Sync>(
+    rt: &R,
+    alloc: Global,
+    drawing: &Drawing,
+    gate: &G,
+) -> Outcome<List<u8>>
+    requires what { drawing.now.job.what ≡ what.Render }
+    requires not_banded { drawing.now.job.bands ≡ None }
+    requires not_peeled { drawing.now.job.peel ≡ false }
+    ensures { IsOutputOf drawing.now result.result result.closed }
+{
+    match draw_whole(rt, alloc, drawing, gate) {
+        Ok(closed) => {
+            let bytes = match image_in(rt, alloc, drawing, &closed) {
+                Ok(image) => Ok(image.bytes),
+                Err(_) => Err(NoMemory),
+            };
+            Outcome::of(bytes, Some(closed))
+        }
+        Err(early) => early,
+    }
+}
+
+/// One band after another.
+fn render_banded<R: Threads + Sync>(
+    rt: &R,
+    alloc: Global,
+    drawing: &Drawing,
+    bands: u32,
+) -> Outcome<List<u8>>
+    requires what { drawing.now.job.what ≡ what.Render }
+    requires bands { drawing.now.job.bands ≡ Some bands }
+    requires not_peeled { drawing.now.job.peel ≡ false }
+    ensures { IsOutputOf drawing.now result.result result.closed }
+{
+    let job = drawing.job();
+    let rendered = render_bands(
+        rt,
+        alloc,
+        drawing.shown(),
+        job.camera.width(),
+        job.camera.height(),
+        job.pattern,
+        job.background,
+        job.nodes,
+        job.threads,
+        bands,
+    );
+    match rendered {
+        Ok(sums) => Outcome::of(image_of(alloc, drawing, sums.as_slice()), None),
+        Err(
+            BandFault::Full {
+                band,
+                fragments,
+                nodes,
+            },
+        ) => Outcome::full(
+            FullPool::Band {
+                band,
+                fragments,
+                nodes,
+            },
+            None,
+        ),
+        Err(BandFault::Memory) => Outcome::out_of_memory(),
+    }
+}
+
+/// Layer by layer.
+fn render_peeled<R: Threads + Sync>(rt: &R, alloc: Global, drawing: &Drawing) -> Outcome<List<u8>>
+    requires what { drawing.now.job.what ≡ what.Render }
+    requires peeled { drawing.now.job.peel ≡ true }
+    ensures { IsOutputOf drawing.now result.result result.closed }
+{
+    let job = drawing.job();
+    let peeled = peel(
+        rt,
+        alloc,
+        drawing.shown(),
+        job.camera.width(),
+        job.camera.height(),
+        job.pattern,
+        job.background,
+        job.threads,
+    );
+    match peeled {
+        Ok(sums) => Outcome::of(image_of(alloc, drawing, sums.as_slice()), None),
+        Err(_) => Outcome::out_of_memory(),
+    }
+}
+
+/// The image. Bands and layers are drawn over no gate of the caller's.
+pub fn render<R: Threads + Sync, G: Gate + Sync>(
+    rt: &R,
+    alloc: Global,
+    drawing: &Drawing,
+    gate: &G,
+) -> Outcome<List<u8>>
+    requires { drawing.now.job.what ≡ what.Render }
+    ensures { IsOutputOf drawing.now result.result result.closed }
+{
+    if drawing.job().peel {
+        return render_peeled(rt, alloc, drawing);
+    }
+    match drawing.job().bands {
+        Some(bands) => render_banded(rt, alloc, drawing, bands),
+        None => render_whole(rt, alloc, drawing, gate),
+    }
+}

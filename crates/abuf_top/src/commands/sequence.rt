@@ -1,0 +1,199 @@
+// `sequence`: an image for each shot of a path.
+ghost use Rattle.std.specs.Prelude.{◌≡◌, ◌⊎◌, ◌≤◌, ◌+◌, All, List as Items, ℕ, length, true, option_map, IfOk, IfErr, IfSome, Some};
+ghost use Rattle.abuf_io.specs.Causes.{Rose};
+ghost use Rattle.abuf_sequence.specs.Paths.{path, IsShot};
+ghost use Rattle.abuf_sequence.specs.Sequences.{IsPlan};
+ghost use Rattle.abuf_cli.specs.Sound.{IsJob};
+ghost use Rattle.abuf_cli.specs.declared.job.What.TheVariants as what;
+ghost use Rattle.abuf_top.specs.Ending.{Ends};
+ghost use Rattle.abuf_top.specs.Fetches.{sequence_fetches, most_for_libraries, CallsAtMost, PathIsRefused};
+ghost use Rattle.abuf_top.specs.Images.{plan_of};
+ghost use Rattle.abuf_top.specs.Libraries.{told_by};
+ghost use Rattle.abuf_top.specs.Outside.{sink_change};
+ghost use Rattle.abuf_top.specs.Paths.{path_line, shots_by};
+ghost use Rattle.abuf_top.specs.Prepared.{LoadsPath, PreparesImages};
+ghost use Rattle.abuf_top.specs.Stopped.{HasReadCause, IsOfDrawing};
+ghost use Rattle.abuf_top.specs.Verdict.{sequence_line, image_line};
+
+use crate::load::load;
+use crate::stop::{FullPool, Refusal, Stop};
+use abuf_cli::Job;
+use abuf_io::{Fetch, Shelf, Sink, Source};
+use abuf_num::List;
+use abuf_scene::Scene;
+use abuf_sequence::{PathFault, Plan, SequenceFault, Shot, read_path, sequence};
+use std::alloc::Global;
+use std::marker::Model;
+use std::thread::Threads;
+
+/// The greatest number of bytes of a path.
+pub const MOST_PATH_BYTES: u64 = 1048576;
+
+/// The triangles of a scene, and how their images are drawn.
+#[derive(Drop)]
+pub struct Images {
+    scene: Scene,
+    shots: List<Shot>,
+    plan: Plan,
+}
+
+impl Model for Images {
+    ghost use Rattle.std.specs.Prelude.{◌≤◌, All, length};
+    ghost use Rattle.abuf_scene.specs.Triangles.{IsNearTriangle};
+    ghost use Rattle.abuf_sequence.specs.Paths.{IsShot};
+    ghost use Rattle.abuf_sequence.specs.Sequences.{IsPlan};
+    ghost use Rattle.abuf_top.specs.Images.{Images};
+
+    ghost Value = { Images };
+
+    ghost view = { λ i. record { plan = i.plan; triangles = i.scene.triangles; shots = i.shots } };
+
+    ghost invariant = { λ i. All IsNearTriangle i.scene.triangles × (length i.scene.triangles ≤ 1048576) × All IsShot i.shots × (length i.shots ≤ 4096) × IsPlan i.plan };
+}
+
+impl Images {
+    ghost use Rattle.std.specs.Prelude.{◌≡◌, ◌≤◌, All, length, Some};
+    ghost use Rattle.abuf_scene.specs.Triangles.{IsNearTriangle};
+    ghost use Rattle.abuf_sequence.specs.Paths.{IsShot};
+    ghost use Rattle.abuf_sequence.specs.Sequences.{IsPlan, IsSequenceAnswer};
+    ghost use Rattle.abuf_top.specs.Outside.{sink_change};
+
+    /// The images of these shots.
+    fn new(scene: Scene, shots: List<Shot>, plan: Plan) -> Images
+        requires near { All IsNearTriangle scene.triangles }
+        requires few { length scene.triangles ≤ 1048576 }
+        requires shots { All IsShot shots }
+        requires few_shots { length shots ≤ 4096 }
+        requires plan { IsPlan plan }
+        ensures { result ≡ record { plan = plan; triangles = scene.triangles; shots = shots } }
+    {
+        Images { scene, shots, plan }
+    }
+
+    /// Draws and writes one image after another.
+    fn write<R: Threads + Sync, O: Sink>(
+        &self,
+        rt: &R,
+        alloc: Global,
+        out: &mut O,
+    ) -> Result<(), SequenceFault>
+        ensures { IsSequenceAnswer self.now.plan self.now.triangles self.now.shots (sink_change O.taken O.faults out.old out.new) result }
+    {
+        sequence(
+            rt,
+            alloc,
+            &self.scene,
+            self.shots.as_slice(),
+            &self.plan,
+            out,
+        )
+    }
+}
+
+// The shots of the bytes of a path.
+fn read_shots(alloc: Global, content: &[u8]) -> Result<List<Shot>, Stop>
+    requires { length content.now ≤ 1048576 }
+    ensures told { LoadsPath (shots_by (path content.now)) ⊥ result }
+    ensures cause { IfErr result (HasReadCause ⊥) }
+    ensures shots { IfOk result (All IsShot) }
+    ensures few { IfOk result (λ shots. length shots ≤ 4096) }
+{
+    match read_path(alloc, content) {
+        Ok(shots) => Ok(shots),
+        Err(PathFault::Line { line, why }) => Err(Stop::Refused(Refusal::PathLine(line, why))),
+        Err(PathFault::Memory) => Err(Stop::Memory),
+    }
+}
+
+// The shots of the path of this name.
+fn fetch_path<H: Shelf>(alloc: Global, shelf: &mut H, name: &[u8]) -> Result<List<Shot>, Stop>
+    ensures told { H.tells shelf.old ≡ true → LoadsPath (path_line (H.holds shelf.old name.now)) (Rose (H.faults shelf.old) (H.faults shelf.new)) result }
+    ensures cause { IfErr result (HasReadCause (Rose (H.faults shelf.old) (H.faults shelf.new))) }
+    ensures shots { IfOk result (All IsShot) }
+    ensures few { IfOk result (λ shots. length shots ≤ 4096) }
+    ensures tells { H.tells shelf.new ≡ H.tells shelf.old }
+    ensures holds { (other : Items ℕ) → H.holds shelf.new other ≡ H.holds shelf.old other }
+    ensures calls { H.calls shelf.new ≤ H.calls shelf.old + 1 }
+    ensures later { H.faults shelf.old ≤ H.faults shelf.new }
+{
+    match shelf.fetch(alloc, name, MOST_PATH_BYTES) {
+        Ok(content) => read_shots(alloc, content.as_slice()),
+        Err(Fetch::Missing) => Err(Stop::Refused(Refusal::PathMissing)),
+        Err(Fetch::TooLong) => Err(Stop::Refused(Refusal::PathTooLong)),
+        Err(Fetch::Failed) => Err(Stop::ReadFault),
+        Err(Fetch::Memory) => Err(Stop::Memory),
+    }
+}
+
+// The plan of a job.
+fn plan_of(job: &Job) -> Plan
+    requires { IsJob job.now }
+    ensures value { result ≡ plan_of job.now }
+    ensures sound { IsPlan result }
+{
+    let background = job.background;
+    Plan {
+        width: job.camera.width(),
+        height: job.camera.height(),
+        focal: job.camera.focal(),
+        near: job.camera.near(),
+        pattern: job.pattern,
+        background,
+        nodes: job.nodes,
+        threads: job.threads,
+        maxval: job.maxval,
+    }
+}
+
+/// The images of a job's path. The path comes first: where it is refused, the scene isn't read. The scene and its libraries
+/// are read and refused by also where the path has no shots.
+pub fn prepare_images<S: Source, H: Shelf>(
+    alloc: Global,
+    job: &Job,
+    name: &[u8],
+    scene: &mut S,
+    shelf: &mut H,
+) -> Result<Images, Stop>
+    requires job { IsJob job.now }
+    requires name { job.now.what ≡ what.Sequence name.now }
+    ensures told { IfSome (sequence_line job.now name.now (S.left scene.old) (told_by (H.tells shelf.old) (H.holds shelf.old))) (λ line. PreparesImages line (Rose (S.faults scene.old) (S.faults scene.new) ⊎ Rose (H.faults shelf.old) (H.faults shelf.new)) result) }
+    ensures cause { IfErr result (HasReadCause (Rose (S.faults scene.old) (S.faults scene.new) ⊎ Rose (H.faults shelf.old) (H.faults shelf.new))) }
+    ensures calls { IfSome (sequence_fetches name.now (S.left scene.old) (told_by (H.tells shelf.old) (H.holds shelf.old))) (CallsAtMost (H.calls shelf.old) (H.calls shelf.new) (H.faults shelf.old) (H.faults shelf.new)) }
+    ensures most { IfSome (option_map (λ n. 1 + n) (most_for_libraries (S.left scene.old))) (λ n. H.calls shelf.new ≤ H.calls shelf.old + n) }
+    ensures source { PathIsRefused name.now (told_by (H.tells shelf.old) (H.holds shelf.old)) → (S.left scene.new ≡ S.left scene.old) × (S.faults scene.new ≡ S.faults scene.old) }
+{
+    let shots = fetch_path(alloc, shelf, name)?;
+    let loaded = load(alloc, job, scene, shelf)?;
+    let scene = loaded.assemble(alloc)?;
+    Ok(Images::new(scene, shots, plan_of(job)))
+}
+
+/// Writes the images, up to the first that is full.
+pub fn write_images<R: Threads + Sync, O: Sink>(
+    rt: &R,
+    alloc: Global,
+    images: &Images,
+    out: &mut O,
+) -> Result<(), Stop>
+    ensures ends { Ends (Some (image_line images.now)) ⊥ (sink_change O.taken O.faults out.old out.new) result }
+    ensures stops { IfErr result IsOfDrawing }
+{
+    match images.write(rt, alloc, out) {
+        Ok(()) => Ok(()),
+        Err(
+            SequenceFault::Full {
+                image,
+                fragments,
+                nodes,
+            },
+        ) => {
+            Err(Stop::PoolFull(FullPool::InSequence {
+                image,
+                fragments,
+                nodes,
+            }))
+        }
+        Err(SequenceFault::Write) => Err(Stop::WriteFault),
+        Err(SequenceFault::Memory { .. }) => Err(Stop::Memory),
+    }
+}

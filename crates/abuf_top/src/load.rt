@@ -1,0 +1,174 @@
+// The work before the projection: the words, the scene, its libraries and their materials.
+ghost use Rattle.std.specs.Prelude.{◌≡◌, ◌⊎◌, ◌≤◌, ◌+◌, [], List as Items, ℕ, length, true, IfOk, IfErr, IfSome, None, OnOk, option_and_then};
+ghost use Rattle.abuf_io.specs.Causes.{Rose};
+ghost use Rattle.abuf_obj.specs.Sound.{IsScene};
+ghost use Rattle.abuf_obj.specs.Scene.{points, faces, names, libraries, obj_fault};
+ghost use Rattle.abuf_obj.specs.Faults.{TellsFirst};
+ghost use Rattle.abuf_cli.specs.Sound.{IsJob};
+ghost use Rattle.abuf_top.specs.Fetches.{fault_fetches, scene_fetches, load_fetches, most_for_libraries, most_for_load, CallsAtMost, LoadNeedsNoSource};
+ghost use Rattle.abuf_top.specs.Libraries.{asked, told_by};
+ghost use Rattle.abuf_top.specs.Prepared.{Loads};
+ghost use Rattle.abuf_top.specs.Stopped.{HasReadCause};
+ghost use Rattle.abuf_top.specs.Verdict.{material_line, library_line, fault_line, scene_line, scene_of, loaded};
+
+use crate::demonstration::demonstrate;
+use crate::libraries::{MOST_BYTES, read_libraries};
+use crate::loaded::Loaded;
+use crate::stop::{Refusal, Stop};
+use abuf_cli::{Job, What, WordFault};
+use abuf_io::{ReadEnd, Shelf, Source, read_all};
+use abuf_num::List;
+use abuf_obj::{Obj, ObjFault, read_obj};
+use abuf_scene::SceneFault;
+use std::alloc::Global;
+
+impl From<ReadEnd> for Stop {
+    ghost use Rattle.abuf_top.specs.Ends.{read_stop};
+
+    ghost from_gives = { λ end stop. stop ≡ read_stop end };
+
+    fn from(end: ReadEnd) -> Self {
+        match end {
+            ReadEnd::ReadFault => Stop::ReadFault,
+            ReadEnd::TooLong => Stop::Refused(Refusal::SceneTooLong),
+            ReadEnd::Memory => Stop::Memory,
+        }
+    }
+}
+
+impl From<ObjFault> for Stop {
+    ghost use Rattle.abuf_top.specs.Ends.{obj_stop};
+
+    ghost from_gives = { λ fault stop. stop ≡ obj_stop fault };
+
+    fn from(fault: ObjFault) -> Self {
+        match fault {
+            ObjFault::Line { line, why } => Stop::Refused(Refusal::SceneLine(line, why)),
+            ObjFault::Memory => Stop::Memory,
+        }
+    }
+}
+
+impl From<SceneFault> for Stop {
+    ghost use Rattle.abuf_top.specs.Ends.{scene_stop};
+
+    ghost from_gives = { λ fault stop. stop ≡ scene_stop fault };
+
+    fn from(fault: SceneFault) -> Self {
+        match fault {
+            SceneFault::UnknownMaterial { line } => Stop::Refused(Refusal::UnknownMaterial(line)),
+            SceneFault::Memory => Stop::Memory,
+        }
+    }
+}
+
+impl From<WordFault> for Stop {
+    ghost use Rattle.abuf_top.specs.Ends.{word_stop};
+
+    ghost from_gives = { λ fault stop. stop ≡ word_stop fault };
+
+    fn from(fault: WordFault) -> Self {
+        match fault {
+            WordFault::Words => Stop::Refused(Refusal::Words),
+            WordFault::Value { option } => Stop::Refused(Refusal::Value(option)),
+            WordFault::Memory => Stop::Memory,
+        }
+    }
+}
+
+// A scene whose libraries are yet to be read.
+fn furnish<H: Shelf>(alloc: Global, obj: Obj, shelf: &mut H) -> Result<Loaded, Stop>
+    requires { IsScene obj }
+    ensures told { H.tells shelf.old ≡ true → Loads (library_line obj (H.holds shelf.old)) (Rose (H.faults shelf.old) (H.faults shelf.new)) result }
+    ensures none { obj.libraries ≡ [] → Loads (material_line obj []) ⊥ result }
+    ensures cause { IfErr result (HasReadCause (Rose (H.faults shelf.old) (H.faults shelf.new))) }
+    ensures scene { IfOk result (λ loaded. IsScene loaded.obj) }
+    ensures calls { H.tells shelf.old ≡ true → H.calls shelf.new ≤ H.calls shelf.old + asked (H.holds shelf.old) obj.libraries }
+    ensures most { H.calls shelf.new ≤ H.calls shelf.old + length obj.libraries }
+    ensures still { obj.libraries ≡ [] → (H.calls shelf.new ≡ H.calls shelf.old) × (H.faults shelf.new ≡ H.faults shelf.old) }
+    ensures later { H.faults shelf.old ≤ H.faults shelf.new }
+{
+    let materials = read_libraries(alloc, shelf, obj.libraries.as_slice())?;
+    Ok(Loaded { obj, materials })
+}
+
+// The scene that these bytes define. They are let go once they are read.
+fn read_list(alloc: Global, bytes: List<u8>) -> Result<Obj, ObjFault>
+    requires { length bytes ≤ 67108864 }
+    ensures fault { IfErr result (TellsFirst (obj_fault bytes)) }
+    ensures sound { OnOk result (obj_fault bytes ≡ None) }
+    ensures points { IfOk result (λ obj. obj.points ≡ points bytes) }
+    ensures faces { IfOk result (λ obj. obj.faces ≡ faces bytes) }
+    ensures names { IfOk result (λ obj. obj.names ≡ names bytes) }
+    ensures libraries { IfOk result (λ obj. obj.libraries ≡ libraries bytes) }
+    ensures scene { IfOk result IsScene }
+{
+    read_obj(alloc, bytes.as_slice())
+}
+
+// The scene that these bytes define, and its libraries.
+fn read_bytes<H: Shelf>(alloc: Global, bytes: List<u8>, shelf: &mut H) -> Result<Loaded, Stop>
+    requires { length bytes ≤ 67108864 }
+    ensures told { IfSome (fault_line (scene_of bytes) (told_by (H.tells shelf.old) (H.holds shelf.old)) (obj_fault bytes)) (λ line. Loads line (Rose (H.faults shelf.old) (H.faults shelf.new)) result) }
+    ensures cause { IfErr result (HasReadCause (Rose (H.faults shelf.old) (H.faults shelf.new))) }
+    ensures scene { IfOk result (λ loaded. IsScene loaded.obj) }
+    ensures calls { IfSome (fault_fetches (libraries bytes) (told_by (H.tells shelf.old) (H.holds shelf.old)) (obj_fault bytes)) (CallsAtMost (H.calls shelf.old) (H.calls shelf.new) (H.faults shelf.old) (H.faults shelf.new)) }
+    ensures most { H.calls shelf.new ≤ H.calls shelf.old + length (libraries bytes) }
+    ensures later { H.faults shelf.old ≤ H.faults shelf.new }
+{
+    let obj = read_list(alloc, bytes)?;
+    furnish(alloc, obj, shelf)
+}
+
+/// The scene that these bytes define, unless they are too many, and its libraries.
+pub fn read_text<H: Shelf>(alloc: Global, bytes: List<u8>, shelf: &mut H) -> Result<Loaded, Stop>
+    ensures told { IfSome (scene_line (told_by (H.tells shelf.old) (H.holds shelf.old)) bytes) (λ line. Loads line (Rose (H.faults shelf.old) (H.faults shelf.new)) result) }
+    ensures cause { IfErr result (HasReadCause (Rose (H.faults shelf.old) (H.faults shelf.new))) }
+    ensures scene { IfOk result (λ loaded. IsScene loaded.obj) }
+{
+    if bytes.as_slice().len() as u64 > MOST_BYTES {
+        return Err(Stop::Refused(Refusal::SceneTooLong));
+    }
+    read_bytes(alloc, bytes, shelf)
+}
+
+// The scene that the source has left, and its libraries.
+fn read_scene<S: Source, H: Shelf>(
+    alloc: Global,
+    scene: &mut S,
+    shelf: &mut H,
+) -> Result<Loaded, Stop>
+    ensures told { IfSome (option_and_then (scene_line (told_by (H.tells shelf.old) (H.holds shelf.old))) (S.left scene.old)) (λ line. Loads line (Rose (S.faults scene.old) (S.faults scene.new) ⊎ Rose (H.faults shelf.old) (H.faults shelf.new)) result) }
+    ensures cause { IfErr result (HasReadCause (Rose (S.faults scene.old) (S.faults scene.new) ⊎ Rose (H.faults shelf.old) (H.faults shelf.new))) }
+    ensures scene { IfOk result (λ loaded. IsScene loaded.obj) }
+    ensures later { H.faults shelf.old ≤ H.faults shelf.new }
+    ensures calls { IfSome (option_and_then (scene_fetches (told_by (H.tells shelf.old) (H.holds shelf.old))) (S.left scene.old)) (CallsAtMost (H.calls shelf.old) (H.calls shelf.new) (H.faults shelf.old) (H.faults shelf.new)) }
+    ensures most { IfSome (most_for_libraries (S.left scene.old)) (λ n. H.calls shelf.new ≤ H.calls shelf.old + n) }
+{
+    let bytes = read_all(alloc, scene, MOST_BYTES)?;
+    read_bytes(alloc, bytes, shelf)
+}
+
+/// The scene of a job, and its libraries: `demo` has its own, and calls neither the source nor the shelf.
+pub fn load<S: Source, H: Shelf>(
+    alloc: Global,
+    job: &Job,
+    scene: &mut S,
+    shelf: &mut H,
+) -> Result<Loaded, Stop>
+    requires { IsJob job.now }
+    ensures told { IfSome (loaded job.now.what (S.left scene.old) (told_by (H.tells shelf.old) (H.holds shelf.old))) (λ line. Loads line (Rose (S.faults scene.old) (S.faults scene.new) ⊎ Rose (H.faults shelf.old) (H.faults shelf.new)) result) }
+    ensures cause { IfErr result (HasReadCause (Rose (S.faults scene.old) (S.faults scene.new) ⊎ Rose (H.faults shelf.old) (H.faults shelf.new))) }
+    ensures scene { IfOk result (λ loaded. IsScene loaded.obj) }
+    ensures calls { IfSome (load_fetches job.now.what (S.left scene.old) (told_by (H.tells shelf.old) (H.holds shelf.old))) (CallsAtMost (H.calls shelf.old) (H.calls shelf.new) (H.faults shelf.old) (H.faults shelf.new)) }
+    ensures later { H.faults shelf.old ≤ H.faults shelf.new }
+    ensures most { IfSome (most_for_load job.now.what (S.left scene.old)) (λ n. H.calls shelf.new ≤ H.calls shelf.old + n) }
+    ensures source { LoadNeedsNoSource job.now.what → (S.left scene.new ≡ S.left scene.old) × (S.faults scene.new ≡ S.faults scene.old) }
+{
+    match job.what {
+        What::Render | What::Pick { .. } | What::Sequence { .. } => {
+            read_scene(alloc, scene, shelf)
+        }
+        What::Demo { number } => demonstrate(alloc, number),
+    }
+}

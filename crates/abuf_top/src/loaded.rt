@@ -1,0 +1,64 @@
+// A scene that was read.
+use crate::stop::Stop;
+use abuf_cli::Job;
+use abuf_mtl::Materials;
+use abuf_obj::Obj;
+use abuf_scene::{Scene, assemble};
+use abuf_view::{Projected, project_faces};
+use std::alloc::Global;
+use std::thread::Threads;
+
+/// A scene and the materials of its libraries. It isn't projected yet.
+#[derive(Drop)]
+pub struct Loaded {
+    pub obj: Obj,
+    pub materials: Materials,
+}
+
+impl Loaded {
+    ghost use Rattle.std.specs.Prelude.{◌≡◌, ◌≤◌, All, List as Items, ℕ, length, IfOk, IfErr};
+    ghost use Rattle.abuf_cli.specs.Sound.{IsJob};
+    ghost use Rattle.abuf_obj.specs.Sound.{IsScene};
+    ghost use Rattle.abuf_scene.specs.Triangles.{IsNearTriangle};
+    ghost use Rattle.abuf_mtl.specs.StandsFor.{StandsFor};
+    ghost use Rattle.abuf_top.specs.Prepared.{Prepares, Assembles};
+    ghost use Rattle.abuf_top.specs.Stopped.{HasReadCause};
+    ghost use Rattle.abuf_top.specs.Verdict.{material_line, drawing_line};
+
+    /// The primitives of the scene, on the job's threads. What was read of the file is then let go.
+    pub fn project<R: Threads + Sync>(
+        self,
+        rt: &R,
+        alloc: Global,
+        job: &Job,
+    ) -> Result<Projected, Stop>
+        requires job { IsJob job.now }
+        requires scene { IsScene self.obj }
+        ensures told { (libraries : Items (Items ℕ)) → StandsFor libraries self.materials → Prepares (drawing_line job.now (material_line self.obj libraries)) ⊥ job.now result }
+        ensures cause { IfErr result (HasReadCause ⊥) }
+        ensures one_length { IfOk result (λ p. length p.tris ≡ length p.paints) }
+        ensures few { IfOk result (λ p. length p.tris ≤ 2097152) }
+    {
+        let shown = project_faces(
+            rt,
+            alloc,
+            &self.obj,
+            &self.materials,
+            &job.camera,
+            job.threads,
+        )?;
+        Ok(shown)
+    }
+
+    /// The triangles of the scene, as they stand in it. What was read of the file is then let go.
+    pub fn assemble(self, alloc: Global) -> Result<Scene, Stop>
+        requires scene { IsScene self.obj }
+        ensures told { (libraries : Items (Items ℕ)) → StandsFor libraries self.materials → Assembles (material_line self.obj libraries) ⊥ result }
+        ensures cause { IfErr result (HasReadCause ⊥) }
+        ensures near { IfOk result (λ scene. All IsNearTriangle scene.triangles) }
+        ensures few { IfOk result (λ scene. length scene.triangles ≤ 1048576) }
+    {
+        let scene = assemble(alloc, &self.obj, &self.materials)?;
+        Ok(scene)
+    }
+}
