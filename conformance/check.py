@@ -41,6 +41,7 @@ SUBJECTS = {
     "depth": "Depth and order",
     "compositing": "Compositing",
     "pools": "Pools",
+    "sequences": "Sequences of images",
     "reading": "Reading of scenes and libraries",
     "refusals": "Refusals",
 }
@@ -91,12 +92,12 @@ def expanded(recipe):
 
 
 def working_copy(subject, folder):
-    """A copy of the scenes and libraries of a subject, the long ones among them."""
+    """A copy of the scenes, libraries and paths of a subject, the long ones among them."""
     for name in os.listdir(folder_of(subject)):
         path = os.path.join(folder_of(subject), name)
         if name.endswith(".lines"):
             write(os.path.join(folder, name[:-len(".lines")]), expanded(read(path)))
-        elif name.endswith((".obj", ".mtl")):
+        elif name.endswith((".obj", ".mtl", ".path")):
             shutil.copyfile(path, os.path.join(folder, name))
 
 
@@ -116,14 +117,23 @@ HEADER = re.compile(rb"P7\nWIDTH (\d+)\nHEIGHT (\d+)\nDEPTH 3\nMAXVAL (\d+)\n"
 
 
 def image_of(data):
-    """The image of a PAM, or None where the bytes are none."""
+    """The image of a PAM, or None where the bytes are none. Of a sequence the images stand one below
+    another."""
     header = HEADER.match(data)
     if header is None:
         return None
     width, height, maxval = map(int, header.groups())
-    values = data[header.end():]
-    pixel = 3 if maxval == 255 else 6
-    return Image(width, height, maxval, values) if len(values) == width * height * pixel else None
+    length = width * height * (3 if maxval == 255 else 6)
+    values, count = [], 0
+    while data:
+        if not data.startswith(header.group()):
+            return None
+        values.append(data[header.end():header.end() + length])
+        data = data[header.end() + length:]
+        count += 1
+    if len(values[-1]) < length:
+        return None
+    return Image(width, count * height, maxval, b"".join(values))
 
 
 def picture_of(image):
@@ -259,10 +269,14 @@ def check_case(program, threads, subject, record, folder):
     return told
 
 
+def is_sequence(command):
+    return command.words[:1] == ["sequence"]
+
+
 def check_triangles(subject, record, folder):
     """What differs in the file of triangles of a case, as lines of text."""
     path = os.path.join(folder_of(subject), record["name"] + ".tri")
-    if "sha256" not in record:
+    if "sha256" not in record or is_sequence(command_of(record["command"])):
         return []
     text = triangles_module().text_of(command_of(record["command"]), folder)
     return [] if os.path.exists(path) and read(path) == text else ["the triangles differ"]
@@ -325,7 +339,7 @@ def write_case(program, subject, case, folder):
         raise Fault(f"{subject}/{case.name}: {answer.status} {answer.err!r}")
     image = image_of(answer.out)
     base = os.path.join(folder_of(subject), case.name)
-    if image:
+    if image and not is_sequence(command):
         write(base + ".tri", triangles_module().text_of(command, folder))
     if image and image.height <= TALLEST:
         write(base + ".png", png_of(image))

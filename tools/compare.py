@@ -13,8 +13,8 @@ A program that doesn't have all features yet can be compared in those that it ha
 
     --only rows | random
     --words-subset LIST     commands with these options alone: size, samples, threads, nodes, turn,
-                            move, focal, near, background, maxval, bands, peel; the commands pick and
-                            demo; and order, for words in any other form than 'render --size WxH'
+                            move, focal, near, background, maxval, bands, peel; the commands pick,
+                            demo and sequence; and order, for words in any other form than 'render --size WxH'
     --without LIST          leave out scenes with: grammar (anything but 'v' and 'f' lines of three
                             plain whole numbers), libraries ('mtllib' lines), clip (a corner behind
                             the near plane)
@@ -22,6 +22,7 @@ A program that doesn't have all features yet can be compared in those that it ha
 
 import argparse
 import contextlib
+import dataclasses
 import os
 import random
 import re
@@ -35,7 +36,8 @@ import rows as worked  # noqa: E402
 
 REFERENCE = [sys.executable, reference.__file__]
 STORED = reference.RENDER_OPTIONS + reference.RENDER_FLAGS
-ALL_WORDS = reference.OPTIONS + STORED + ["pick", "demo", "order"]
+COMMANDS = ["pick", "demo", "sequence"]  # beside render
+ALL_WORDS = reference.OPTIONS + STORED + COMMANDS + ["order"]
 ALL_SCENES = ["grammar", "libraries", "clip"]
 
 
@@ -107,7 +109,7 @@ def word_features(row):
     if row.err == b"words not understood\n":
         return set()
     used = {word[2:].partition("=")[0] for word in words if word.startswith("--")} - {""}
-    used |= {word for word in words[:1] if word in ("pick", "demo")}
+    used |= {word for word in words[:1] if word in COMMANDS}
     plain = len(words) == 3 and words[:2] == ["render", "--size"] and not row.err.startswith(b"bad")
     return used | (set() if plain else {"order"})
 
@@ -132,11 +134,23 @@ def scene_features(row):
         job = reference.job_of(words) if has_job else reference.Job()
     except reference.Refusal:
         return used | {"grammar"}
-    m = sum(part * part for part in job.turn) * job.near
     corners = {corner for face in obj.faces for corner in face.corners}
-    if any(reference.seen(job, obj.points[corner])[2] < m for corner in corners):
-        used.add("clip")
+    for one in jobs_of(row, job):
+        m = sum(part * part for part in one.turn) * one.near
+        if any(reference.seen(one, obj.points[corner])[2] < m for corner in corners):
+            used.add("clip")
     return used
+
+
+def jobs_of(row, job):
+    """The job of each image that the row draws."""
+    if job.path is None:
+        return [job]
+    try:
+        shots = reference.shots_of(job.path, lambda name, most: row.libraries.get(name.decode()))
+    except reference.Refusal:
+        return []
+    return [dataclasses.replace(job, turn=shot.turn, shift=shot.shift) for shot in shots]
 
 
 def is_wanted(row, words, left_out):
@@ -178,7 +192,8 @@ class Maker:
             libraries[name] = self.damaged(libraries[name])
         if libraries and self.chance(2):
             del libraries[rng.choice(sorted(libraries))]
-        return worked.Row(f"random scene {number}", self.command(), scene, libraries=libraries)
+        words = self.command(libraries)
+        return worked.Row(f"random scene {number}", words, scene, libraries=libraries)
 
     def resize(self, width, height):
         self.width, self.height = width, height
@@ -186,7 +201,8 @@ class Maker:
 
     # words
 
-    def command(self):
+    def command(self, libraries):
+        """The words; the path of a sequence is put among the libraries."""
         rng = self.rng
         if self.words == {"size"} or not self.chance(95) and "order" not in self.words:
             return ["render", "--size", f"{self.width}x{self.height}"]
@@ -197,6 +213,10 @@ class Maker:
             if self.chance(35):
                 texts[name] = self.value(name)
         texts.update(self.forced)
+        is_sequence = "sequence" in self.words and self.chance(15)
+        if is_sequence and not self.chance(2):
+            texts.pop("turn", None)
+            texts.pop("move", None)
         if "order" in self.words and self.chance(4):
             name = rng.choice(sorted(texts))
             texts[name] = self.damaged(texts[name].encode()).decode(errors="ignore")
@@ -206,7 +226,11 @@ class Maker:
             joined = value.startswith("-") or "order" in self.words and self.chance(40)
             groups.append([f"--{name}={value}"] if joined else [f"--{name}", value])
         command = "render"
-        if "pick" in self.words and self.chance(35):
+        if is_sequence:
+            command = "sequence"
+            libraries["a path"] = self.path()
+            groups.insert(0, self.positional("a path"))
+        elif "pick" in self.words and self.chance(35):
             command = "pick"
             groups.insert(0, self.positional("{},{}".format(*self.place)))
         elif "demo" in self.words and self.chance(3):
@@ -221,6 +245,20 @@ class Maker:
         if "order" in self.words and self.chance(2):
             words.insert(rng.randrange(len(words) + 1), rng.choice(["--", "-", "x", "--size=1x1"]))
         return [command] + words
+
+    def path(self):
+        """The lines of a few shots, now and then damaged."""
+        rng = self.rng
+        lines = []
+        for _ in range(rng.choice([0, 1, 1, 2, 2, 3, 4])):
+            parts = self.value("turn").split(",") + self.value("move").split(",")
+            lines.append(rng.choice([" ", " ", "  ", "\t", " \r"]).join(parts).encode())
+            if self.chance(20):
+                lines.append(rng.choice([b"", b"# a shot", b" \t\r", b"#1 0 0 0 0 0 0"]))
+            if self.chance(10):
+                lines[-1] += b" # " + lines[-1]
+        path = b"\n".join(lines) + (b"" if self.chance(10) else b"\n")
+        return self.damaged(path) if self.chance(15) else path
 
     def storage(self):
         """The words that say how the fragments are stored; now and then both, or bands of no row."""

@@ -1,5 +1,5 @@
 #!/usr/bin/env python3
-"""Runs abuf on random and broken words, scenes and libraries, and looks at what it answers.
+"""Runs abuf on random and broken words, scenes, libraries and paths, and looks at what it answers.
 
     fuzz.py [--cases N] [--seed S] [--seconds T] [--jobs J] [--program PATH]
 
@@ -8,8 +8,10 @@ Each case is run with 1, 3 and 64 threads, and some once more with little memory
 - a run doesn't end within the limit of time, or ends by a signal;
 - words or lines are refused that reference.py takes, or get another refusal than its;
 - the status or the text isn't one of the table of statuses in docs/FORMATS.md;
-- on status 0 the image, report or summary isn't whole, or standard error isn't empty;
-- on another status there is any output, or something else than one line on standard error;
+- on status 0 the image, report or summary isn't whole, or an image is missing of a sequence, or
+  standard error isn't empty;
+- on another status there is any output but the whole images of a sequence before the first that the
+  pool doesn't hold, or something else than one line on standard error;
 - the answers of the runs aren't the same; with little memory status 8 is well too, and else never.
 
 That the images are right isn't looked at; compare.py does that.
@@ -43,7 +45,7 @@ USUAL_CASES = 2000
 MOST_FAILED = 20  # of one job, which then ends
 
 # The table of statuses, as expressions.
-VALUES = "|".join([*reference.OPTIONS, *reference.RENDER_OPTIONS, "at", "number"]).encode()
+VALUES = "|".join([*reference.OPTIONS, *reference.RENDER_OPTIONS, "path", "at", "number"]).encode()
 CAUSES = rb"bad number|no name|too many materials"
 SCENE_CAUSES = CAUSES + rb"|unknown keyword|bad index|too few elements|too many elements" \
     rb"|too many triangles|too many points|too many libraries|unknown material"
@@ -52,10 +54,12 @@ TEXTS = {
     2: rb"words not understood|bad value: (" + VALUES + rb")",
     3: rb"scene too long|" + LINE + rb"(" + SCENE_CAUSES + rb")",
     4: rb"library [1-9][0-9]* (missing|too long|" + LINE + rb"(" + CAUSES + rb"|no material))",
-    5: rb"(pool|band [1-9][0-9]*) full: [1-9][0-9]* fragments, [1-9][0-9]* nodes",
+    5: rb"((image [1-9][0-9]*: )?pool|band [1-9][0-9]*) full: "
+       rb"[1-9][0-9]* fragments, [1-9][0-9]* nodes",
     6: rb"read fault",
     7: rb"write fault",
     8: rb"no memory",
+    9: rb"path (missing|too long|" + LINE + rb"(wrong count|bad turn|bad number|too many images))",
 }
 
 
@@ -71,7 +75,6 @@ class Answer(NamedTuple):
     err: bytes
 
 
-NO_MEMORY = Answer(8, b"", b"no memory\n")
 
 
 # ---- running
@@ -122,20 +125,22 @@ def write_case(case):
 
 
 def expected(words, scene):
-    """The job of the words, and the status and text of the refusal, as reference.py has them for
-    all that comes before the drawing. Each may be None."""
-    job = None
+    """The job of the words, how many images it asks for, and the status and text of the refusal, as
+    reference.py has them for all that comes before the drawing. Job and refusal may be None."""
+    job, images = None, 1
     try:
         job = reference.job_of([word.decode() for word in words])
+        if job.path is not None:
+            images = len(reference.shots_of(job.path, reference.fetch_from_folder))
         if job.number is None:
             read_all(scene)
     except reference.Refusal as refusal:
-        return job, (refusal.status, refusal.text)
+        return job, images, (refusal.status, refusal.text)
     except reference.ReadFault:
-        return job, (6, "read fault")
+        return job, images, (6, "read fault")
     except UnicodeDecodeError:
-        return job, (2, "words not understood")
-    return job, None
+        return job, images, (2, "words not understood")
+    return job, images, None
 
 
 def read_all(scene):
@@ -155,7 +160,7 @@ def read_all(scene):
     reference.triangles_of(obj, materials)
 
 
-def fault_of(answer, job, refusal):
+def fault_of(answer, job, images, refusal):
     """What is wrong with an answer, or None."""
     status, out, err = answer
     if status is None:
@@ -163,37 +168,62 @@ def fault_of(answer, job, refusal):
     if status == 0:
         if refusal is not None:
             return f"status 0, where '{refusal[1]}' was to come"
-        return "a text on status 0" if err else fault_of_output(out, job)
+        return "a text on status 0" if err else fault_of_output(out, job, images)
     if status not in TEXTS:
         return f"status {status}, which isn't in the table"
     if not re.fullmatch(rb"(" + TEXTS[status] + rb")\n", err):
         return f"status {status} with a text that isn't its own: {err[:200]!r}"
-    if out:
+    if out and not err.startswith(b"image "):
         return f"status {status} with {len(out)} bytes of output"
     if refusal is not None and (status, err) != (refusal[0], refusal[1].encode() + b"\n"):
         return f"{err!r}, where '{refusal[1]}' was to come"
     if refusal is None and status != 5:
         return f"{err!r}, where the words and all lines are right"
-    if status == 5:
-        *band, fragments, nodes = map(int, re.findall(rb"[0-9]+", err))
-        if nodes != job.nodes or fragments <= nodes or job.peel:
-            return f"{err!r} with {job.nodes} nodes"
-        if not all(job.bands and number <= job.bands for number in band) or job.bands and not band:
-            return f"{err!r} with {job.bands or 'no'} bands"
+    return fault_of_full(out, err, job, images) if status == 5 else None
+
+
+def fault_of_full(out, err, job, images):
+    """What is wrong with the refusal of a full pool, or None."""
+    *part, fragments, nodes = map(int, re.findall(rb"[0-9]+", err))
+    if nodes != job.nodes or fragments <= nodes or job.peel:
+        return f"{err!r} with {job.nodes} nodes"
+    if err.startswith(b"image ") != (job.path is not None):
+        return f"{err!r} for another command"
+    if job.path is not None:
+        if part[0] > images:
+            return f"{err!r} with {images} images"
+        return fault_of_images(out, job, part[0] - 1)
+    if not all(job.bands and number <= job.bands for number in part) or job.bands and not part:
+        return f"{err!r} with {job.bands or 'no'} bands"
     return None
 
 
-def fault_of_output(out, job):
-    """What isn't whole in an image, a report or a summary, or None."""
+def fault_of_output(out, job, images):
+    """What isn't whole in an image, a sequence, a report or a summary, or None."""
     if job.number is not None:
         return fault_of_summary(out, job)
     if job.at is not None:
         return fault_of_report(out, job)
-    header, values = reference.image_of(job, [])
-    length = len(header) + job.width * job.height * 3 * (1 if job.maxval == 255 else 2)
-    if not out.startswith(header):
-        return f"an image that begins {out[:80]!r}"
-    return None if len(out) == length else f"an image of {len(out)} bytes, not {length}"
+    return fault_of_images(out, job, images)
+
+
+def length_of_image(job):
+    """The bytes of an image."""
+    header, _ = reference.image_of(job, [])
+    return len(header) + job.width * job.height * 3 * (1 if job.maxval == 255 else 2)
+
+
+def fault_of_images(out, job, images):
+    """What isn't whole in so many images, joined, or None."""
+    header, _ = reference.image_of(job, [])
+    length = length_of_image(job)
+    if len(out) != images * length:
+        return f"{len(out)} bytes, and not {images} images of {length}"
+    for number in range(images):
+        head = out[number * length:number * length + len(header)]
+        if head != header:
+            return f"image {number + 1} begins {head!r}"
+    return None
 
 
 def fault_of_summary(out, job):
@@ -234,6 +264,18 @@ def fault_of_report(out, job):
     return None
 
 
+def is_short_of_memory(answer, whole, job):
+    """Whether a run told that there is no memory, and wrote nothing but images of a sequence."""
+    status, out, err = answer
+    if (status, err) != (8, b"no memory\n"):
+        return False
+    if job is None or job.path is None or not out:
+        return not out
+    length = length_of_image(job)
+    is_last = whole.status == 0 and len(out) == len(whole.out)
+    return whole.out.startswith(out) and len(out) % length == 0 and not is_last
+
+
 # ---- cases
 
 
@@ -242,11 +284,11 @@ def fault_of_case(case, given, statuses):
     runs = runs_of(case, given)
     answers = [answer_of(run, given) for run in runs]
     statuses[answers[0].status] += 1
-    job, refusal = expected(runs[0].words, case.scene)
+    job, images, refusal = expected(runs[0].words, case.scene)
     for run, answer in zip(runs, answers):
-        if run.memory is not None and answer == NO_MEMORY:
+        if run.memory is not None and is_short_of_memory(answer, answers[0], job):
             continue
-        fault = fault_of(answer, job, refusal)
+        fault = fault_of(answer, job, images, refusal)
         if fault is not None:
             return f"{fault}, with {run.title}"
         if answer != answers[0]:

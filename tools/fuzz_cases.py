@@ -1,4 +1,4 @@
-"""Random and broken cases for fuzz.py: words, a scene and its libraries.
+"""Random and broken cases for fuzz.py: words, a scene, its libraries and a path.
 
 The seed and the number of a case decide it, so each case can be made again by itself.
 """
@@ -18,7 +18,7 @@ class Case:
     words: list  # of bytes
     place: int  # where the word --threads=N goes; None where the words have their own or none
     scene: bytes
-    libraries: dict  # by name
+    libraries: dict  # by name, and with them the path of a sequence
     memory: int  # KiB beyond the start of the program, for one more run; None for no such run
 
     def words_for(self, threads):
@@ -54,6 +54,8 @@ VALUES = {
 POSITIONALS = {
     b"pick": ["0,0", "3,3", "0000,0", "00000,0", "4095,4095", "9999,9999", "1", "1,1,1", "1;1",
               "-1,0", "+1,0", ""],
+    b"sequence": ["path", "./path", "a.path", "no/path", "path/x", ".", "..", "/", "", "-", "-path",
+                  "\u00e9", "x" * 300, "/dev/null", "scene.obj"],
     b"demo": ["1", "000001", "0000001", "0", "200000", "200001", "999999", "1.0", "-1", "x", ""],
 }
 ODD_WORDS = [b"--", b"-", b"", b"-h", b"--help", b"-V", b"--version", b"help", b"render", b"--size",
@@ -79,6 +81,16 @@ BAD_KEYWORDS = [b"cstype bezier", b"deg 3", b"curv2 1", b"surf 0 1 0 1 1", b"end
 NAMES = [b"red", b"blue glass", b"#1", b"a#b", b"\xc3\xa9", b"\xff\xfe", b"x" * 300, b"\\", b"\0"]
 PATHS = [b"./a.mtl", b"no.mtl", b"no/a.mtl", b"a.mtl/b", b".", b"..", b"/", b"a\0b", b"\xff.mtl",
          b"x" * 300, b"scene.obj", b"../a.mtl", b"*"]
+# Lines of paths that are taken, and some that aren't.
+SHOTS = ["1 0 0 0 0 0 -4", "0 0 1 0 0 0 -4", "-0 0001 0 -0 .5 -1. 1e-3", "1024 -1024 1 -1 0 0 0",
+         "8 2 -3 0 0.3 -0.2 -6", "1 1 0 0 32767.99999 0 -32767.99999", "\t3\r0  1 0\t0 0 -1e1 ",
+         "0 1 0 0 0 0 -4 # half a turn", "1 0 0 0 0 0 -4 #", "1 0 0 0 0 0 -4\r", "", "#", "# 1 2 3",
+         " \t\r ", "#1 0 0 0 0 0 -4"]
+BAD_SHOTS = ["1", "1 0 0 0 0 0", "1 0 0 0 0 0 -4 0", "1 0 0 0 0 0 # -4", "0 0 0 0 0 0 -4",
+             "1025 0 0 0 0 0 -4", "+1 0 0 0 0 0 -4", "00001 0 0 0 0 0 -4", "1.0 0 0 0 0 0 -4",
+             "1 0 0 0 0 0 x", "1 0 0 0 0 32768 -4", "1,0,0,0 0,0,-4", "1 0 0 0 0 0 -4\0",
+             "\ufeff1 0 0 0 0 0 -4", "0 0 0 0 0 0 x", "0 0 0 0 0 0", "1 0 0 - 0 0 -4", "\\",
+             "1 0 0 0\x0b0 0 -4", "1 0 0 0 0 0 nan", "\u0661 0 0 0 0 0 -4"]
 PIECES = [b"\0", b"\xff", b"\x80", b"\xef\xbb\xbf", b"\xc3\x28", b"\r", b"\n", b"\t", b" ", b"#",
           b"/", b"-", b"+", b".", b"e", b"0", b"9" * 40, b"\\\n", b"\x0b", b"\x85", b"v ", b"f ",
           b"usemtl ", b"\nf 1 2 3\n", b"\nv 0 0 0\n", b"\nnewmtl\n", b"nan", b"\x1a"]
@@ -107,11 +119,14 @@ class Maker:
         kind = rng.choices(list(KINDS), KINDS.values())[0]
         if rng.randrange(HEAVY_ONE_IN) == 0:
             kind = "heavy"
-        self.command = b"demo" if kind == "demo" else rng.choice([b"render", b"render", b"pick"])
+        self.command = b"demo" if kind == "demo" else rng.choice(
+            [b"render", b"render", b"render", b"pick", b"pick", b"sequence", b"sequence"])
         self.choose_size()
         scene = getattr(self, kind)()
         if self.chance(20) and kind != "heavy":
             scene = self.damaged(scene)
+        if self.command == b"sequence":
+            self.libraries["path"] = self.path(len(scene) < 2000)
         for name in sorted(self.libraries):
             if self.chance(12):
                 self.libraries[name] = self.damaged(self.libraries[name])
@@ -135,7 +150,8 @@ class Maker:
         rng = self.rng
         self.options["size"] = f"{self.width}x{self.height}"
         for name in ("samples", "turn", "move", "focal", "near", "background", "maxval"):
-            if self.chance(25):
+            is_taken = self.command != b"sequence" or name not in ("turn", "move")
+            if self.chance(25) and is_taken:
                 self.options.setdefault(name, self.value(name))
         if not self.chance(2):
             self.options.setdefault("nodes", self.value("nodes"))
@@ -174,6 +190,8 @@ class Maker:
             return self.rng.choice(POSITIONALS[self.command])
         if self.command == b"demo":
             return str(self.logarithmic(1, 300))
+        if self.command == b"sequence":
+            return "path"
         return f"{self.rng.randrange(self.width)},{self.rng.randrange(self.height)}"
 
     def value(self, name):
@@ -394,6 +412,37 @@ class Maker:
         form = rng.choice(["Kd {} {} {}", "Kd {} {} {} {}", "Kd {}", "d {}", "d {}", "\td {} # {}",
                            "Ns {}", "illum 2"])
         return form.format(*(share() for _ in range(4))).encode()
+
+    # paths
+
+    def path(self, may_be_long):
+        """The lines of a path: mostly a few that are taken, or the most that are, or one more."""
+        rng = self.rng
+        if may_be_long and self.chance(5):
+            self.width, self.height = rng.randint(1, 2), rng.randint(1, 2)
+            self.options.update(size=f"{self.width}x{self.height}", nodes=str(rng.randint(1, 300)))
+            lines = [rng.choice([SHOTS[0], SHOTS[1]])] * (4096 + rng.randint(0, 1))
+            for _ in range(rng.randint(0, 3)):
+                lines.insert(rng.randint(0, len(lines)), rng.choice(["", "# x", "\t"]))
+            return self.ended([line.encode() for line in lines])
+        if self.chance(2):
+            return self.ended([b"#" + b"x" * (1048574 + rng.randint(0, 2))])
+        if self.chance(4):
+            return self.noise()
+        worst = rng.choice([0, 0, 0, 1, 10])
+        lines = [self.shot(worst) for _ in range(rng.choice([0, 1, 1, 2, 2, 3, 4, 9]))]
+        return self.ended([line.encode() for line in lines])
+
+    def shot(self, worst):
+        """A line of a path; in so many percent one that isn't taken."""
+        if self.chance(worst):
+            return self.rng.choice(BAD_SHOTS)
+        if self.chance(40):
+            return self.rng.choice(SHOTS)
+        parts = self.value("turn").split(",") + self.value("move").split(",")
+        if self.chance(worst):
+            self.rng.shuffle(parts)
+        return self.rng.choice([" ", " ", "  ", "\t", " \r"]).join(parts)
 
     # limits
 

@@ -9,14 +9,17 @@ a line of the shell, run in a new folder in which are
 
     scene.obj       a triangle, white, or red by a library that the check names
     a.mtl           the library with the colour
+    path            the path of a sequence
     folder          an empty folder
 
 'abuf WORDS..' runs the program, whose status is what counts, also within a pipe; 'render' runs
-'abuf render' with few pixels and nodes; 'unblock N' lets no read or write of a descriptor wait. A
-line that doesn't end has failed. The status is 1 where a check failed.
+'abuf render' with few pixels and nodes, and 'sequence' the same along a path, which the line may
+name; 'unblock N' lets no read or write of a descriptor wait. A line that doesn't end has failed.
+The status is 1 where a check failed.
 """
 
 import argparse
+import functools
 import os
 import signal
 import subprocess
@@ -34,11 +37,13 @@ SECONDS = 60
 SHELL = """
 abuf() { "$program" "$@"; echo $? > status; }
 render() { abuf render --size 4x4 --nodes 100 "$@"; }
+sequence() { abuf sequence "${1:-path}" --size 4x4 --nodes 100; }
 unblock() { "$python" -c "import os; os.set_blocking($1, False)"; }
 until_it_ends() { until [ -e status ]; do sleep 0.1; done; }
 """
 TRIANGLE = b"v 0 3 0\nv 3 -3 0\nv -3 -3 0\n%bf 1 2 3\n"
 LIBRARY = b"newmtl red\nKd 1 0 0\n"
+PATH = b"# twelve distances\n" + b"".join(b"1 0 0 0 0 0 -%d\n" % z for z in (5, 4, *range(6, 16)))
 WHOLE = "the image"
 NOTHING = ""
 
@@ -52,6 +57,8 @@ class Check:
     out: str = NOTHING
     library: bytes = None  # its name in the scene
     is_short: bool = False  # of memory: status 8 is well too
+    size: str = "4x4"  # of the images of a sequence
+    part: int = None  # how many bytes of the images of the sequence come, in place of the output
 
 
 # ---- the checks
@@ -65,6 +72,8 @@ def checks():
     yield from of_pipes()
     yield from of_memory()
     yield from of_limits()
+    yield from of_paths()
+    yield from of_streams()
 
 
 def of_the_scene():
@@ -190,6 +199,78 @@ def of_limits():
                 "demo 200000 --nodes 100 --threads 1", 128 + 9, before="exec 2> log; ")
 
 
+def of_paths():
+    """The path of a sequence; nothing is written unless it is taken."""
+    def check(title, name, status, text="", before="", part=0):
+        return Check(title, f"{before}sequence {name} < scene.obj", status, text, part=part)
+
+    fault, missing = "read fault", "path missing"
+    all_of_it = len(images_of("4x4"))
+    yield check("a path", "path", 0, part=all_of_it)
+    yield check("a path through a folder and back", "folder/../path", 0, part=all_of_it)
+    yield check("a path from the root", '"$PWD/path"', 0, part=all_of_it)
+    yield check("a link to a path", "b", 0, before="ln -s path b; ", part=all_of_it)
+    yield check("a path whose name has a blank", "'my path'", 0, before="cp path 'my path'; ",
+                part=all_of_it)
+    yield check("a path from a pipe", "b", 0, before="mkfifo b; cat path > b & ", part=all_of_it)
+    yield check("no such path", "no", 9, missing)
+    yield check("a path in no such folder", "no/../path", 9, missing)
+    yield check("a path that is a link to nothing", "b", 9, missing, "ln -s no b; ")
+    yield check("a path that is a link to itself", "b", 6, fault, "ln -s b b; ")
+    yield check("a path that is a folder", "folder", 6, fault)
+    yield check("a path through a file", "a.mtl/b", 6, fault)
+    yield check("a path's name that is too long", "a" * 300, 6, fault)
+    yield check("a path that is memory that can't be read", "/proc/self/mem", 6, fault)
+    if os.geteuid() != 0:  # to whom nothing is forbidden
+        yield check("a path that may not be read", "path", 6, fault, "chmod 0 path; ")
+    yield check("a path that is an empty device", "/dev/null", 0)
+    yield check("a path that is a device without an end", "/dev/zero", 9, "path too long")
+    yield check("a path whose writer never ends", "b", 9, "path too long",
+                "mkfifo b; cat /dev/zero > b & ")
+    yield check("a scene as the path", "scene.obj", 9, "path line 1: wrong count")
+    yield Check("a path's name that isn't UTF-8", 'sequence "$(printf "p\\377")" < scene.obj', 2,
+                "words not understood")
+    yield Check("a refused path leaves the scene unread",
+                "(sequence no; cmp - scene.obj >&2) < scene.obj", 9, missing)
+    yield Check("a path from the pipe of the scene", "cat path scene.obj | sequence /dev/stdin", 9,
+                "path line 14: wrong count")
+
+
+def of_streams():
+    """The output of a sequence: whole images, and a part of one where it can't go on."""
+    fault = "write fault"
+    image, large = (len(images_of(size)) // 12 for size in ("4x4", "100x100"))
+
+    def cut(title, part):
+        line = f"abuf sequence path --size 100x100 --nodes 10000 < scene.obj | head -c {part}"
+        return Check(title, line, 7, fault, size="100x100", part=part)
+
+    yield cut("its reader goes away after two images", 2 * large)
+    yield cut("its reader goes away within the third", 2 * large + 99)
+    yield cut("its reader goes away within the first header", 20)
+    yield Check("its reader has gone before the first", "(sleep 0.5; sequence < scene.obj) | true",
+                7, fault)
+    yield Check("the disk is full within the fifth image",
+                "(trap '' XFSZ; ulimit -f 1; sequence > other) < scene.obj; cat other", 7, fault,
+                part=512)
+    yield Check("the disk is full from the start", "sequence < scene.obj > /dev/full", 7, fault)
+    yield Check("standard output is closed, and a sequence", "sequence < scene.obj >&-", 7, fault)
+    yield Check("it is closed, and there are no images", "sequence /dev/null < scene.obj >&-", 0)
+    yield Check("its reader is slow, and a sequence", "sequence < scene.obj | (sleep 0.5; cat)", 0,
+                part=12 * image)
+    yield Check("a scene that comes late, and a sequence", "(sleep 0.5; cat scene.obj) | sequence",
+                0, part=12 * image)
+    yield Check("the scene can't be read, and a sequence", "sequence < folder", 6, "read fault")
+    yield Check("the second image fills the pool",
+                "abuf sequence path --size 4x4 --nodes 2 < scene.obj", 5,
+                "image 2: pool full: 3 fragments, 2 nodes", part=image)
+    yield Check("its reader goes away before the image that fills the pool",
+                "(sleep 0.5; abuf sequence path --size 4x4 --nodes 2 < scene.obj) | true", 7, fault)
+    yield Check("the first image fills the pool on a full disk",
+                "abuf sequence path --size 4x4 --nodes 1 < scene.obj > /dev/full", 5,
+                "image 1: pool full: 2 fragments, 1 nodes")
+
+
 # ---- running
 
 
@@ -207,9 +288,23 @@ def image_of(check):
                                lambda name, most: LIBRARY)
 
 
+@functools.lru_cache
+def images_of(size):
+    """The bytes of the images of the sequence, by the reference."""
+    return reference.output_of(["sequence", "path", "--size", size], lambda most: TRIANGLE % b"",
+                               lambda name, most: PATH)
+
+
+def output_of(check):
+    """The bytes that are to come."""
+    if check.part is not None:
+        return images_of(check.size)[:check.part]
+    return image_of(check) if check.out == WHOLE else b""
+
+
 def prepare(check, folder):
     os.mkdir(os.path.join(folder, "folder"))
-    for name, data in (("scene.obj", scene_of(check, folder)), ("a.mtl", LIBRARY)):
+    for name, data in (("scene.obj", scene_of(check, folder)), ("a.mtl", LIBRARY), ("path", PATH)):
         with open(os.path.join(folder, name), "wb") as file:
             file.write(data)
 
@@ -240,7 +335,7 @@ def read(path):
 
 def fault_of(check, answer):
     """What is wrong, or None."""
-    wanted = check.status, image_of(check) if check.out == WHOLE else b"", \
+    wanted = check.status, output_of(check), \
         check.text.encode() + b"\n" if check.text else b""
     if answer == wanted or check.is_short and answer == (8, b"", b"no memory\n"):
         return None

@@ -19,7 +19,7 @@ import io
 import os
 import re
 import sys
-from dataclasses import dataclass
+from dataclasses import dataclass, field, replace
 
 MOST_BYTES = 67108864
 MOST_POINTS = 1048576
@@ -27,17 +27,20 @@ MOST_TRIANGLES = 1048576
 MOST_ELEMENTS = 1024
 MOST_LIBRARIES = 16
 MOST_MATERIALS = 4096
+MOST_PATH_BYTES = 1048576
+MOST_SHOTS = 4096
 FARTHEST = 2147483647
 NEAREST_KEY = 16777215
 
 
 class Refusal(Exception):
-    """The end of a run that writes nothing: a status and a text."""
+    """The end of a run by a status and a text, and the images of a sequence written before."""
 
-    def __init__(self, status, text):
+    def __init__(self, status, text, written=b""):
         super().__init__(status, text)
         self.status = status
         self.text = text
+        self.written = written
 
 
 class ReadFault(Exception):
@@ -79,7 +82,7 @@ def scaled(text, k):
     return result if -FARTHEST <= result <= FARTHEST else None
 
 
-# ---- lines and tokens, of scenes and of libraries
+# ---- lines and tokens, of scenes, libraries and paths
 
 
 @dataclass
@@ -265,6 +268,49 @@ def demonstration(number):
     return ("\n".join(scene) + "\n").encode(), ("\n".join(library) + "\n").encode()
 
 
+# ---- the path of a sequence
+
+
+@dataclass
+class Shot:
+    """What one line of a path says of the camera."""
+    turn: tuple
+    shift: tuple
+
+
+def read_path(data):
+    """The shots of a path, or a Refusal by its first faulty line."""
+    shots = []
+
+    def refuse(line, cause):
+        raise Refusal(9, f"path line {line}: {cause}")
+
+    for line in lines(data):
+        tokens = [line.keyword] + line.arguments
+        if len(tokens) != 7:
+            refuse(line.number, "wrong count")
+        turn = tuple(turn_part(token.decode("latin-1")) for token in tokens[:4])
+        if None in turn or not any(turn):
+            refuse(line.number, "bad turn")
+        shift = tuple(scaled(token, 65536) for token in tokens[4:])
+        if None in shift:
+            refuse(line.number, "bad number")
+        if len(shots) == MOST_SHOTS:
+            refuse(line.number, "too many images")
+        shots.append(Shot(turn, shift))
+    return shots
+
+
+def shots_of(name, fetch):
+    """The shots of the path of this name, or a Refusal."""
+    data = fetch(name, MOST_PATH_BYTES + 1)
+    if data is None:
+        raise Refusal(9, "path missing")
+    if len(data) > MOST_PATH_BYTES:
+        raise Refusal(9, "path too long")
+    return read_path(data)
+
+
 # ---- words
 
 
@@ -282,6 +328,7 @@ class Job:
     maxval: int = 255
     bands: int = None
     peel: bool = False
+    path: bytes = None
     at: tuple = None
     number: int = None
 
@@ -290,7 +337,15 @@ OPTIONS = ["size", "samples", "threads", "nodes", "turn", "move", "focal", "near
            "background", "maxval"]
 RENDER_OPTIONS = ["bands"]
 RENDER_FLAGS = ["peel"]
-POSITIONALS = {"render": None, "pick": "at", "demo": "number"}
+CAMERA_OPTIONS = ["turn", "move"]  # which a sequence doesn't have
+POSITIONALS = {"render": None, "pick": "at", "demo": "number", "sequence": "path"}
+
+
+def options_of(command):
+    """The names of the options of a command that take a value."""
+    if command == "sequence":
+        return [name for name in OPTIONS if name not in CAMERA_OPTIONS]
+    return OPTIONS + RENDER_OPTIONS if command == "render" else OPTIONS
 
 
 def matches_of(command, words):
@@ -300,7 +355,7 @@ def matches_of(command, words):
     order. A value written apart may not begin with '-', unless it is '-' alone. After '--' all is
     positional.
     """
-    options = OPTIONS + RENDER_OPTIONS if command == "render" else OPTIONS
+    options = options_of(command)
     flags = RENDER_FLAGS if command == "render" else []
     found, positionals = {}, []
     only_positionals = False
@@ -415,6 +470,7 @@ def job_of(words):
     job.maxval = take("maxval", lambda t: int(t) if t in ("255", "65535") else None) or job.maxval
     job.peel = "peel" in found
     job.bands = take("bands", lambda t: None if job.peel else whole(t, 4, 1, job.height))
+    job.path = take("path", lambda text: text.encode() or None)
     job.at = take("at", place)
     job.number = take("number", lambda text: whole(text, 6, 1, 200000))
     return job
@@ -603,6 +659,7 @@ def output_of(words, read_scene, fetch):
     the working folder in the same way, or None where there is no such file.
     """
     job = job_of(words)
+    shots = None if job.path is None else shots_of(job.path, fetch)
     if job.number is None:
         scene = read_scene(MOST_BYTES + 1)
         if len(scene) > MOST_BYTES:
@@ -619,33 +676,71 @@ def output_of(words, read_scene, fetch):
         if len(data) > MOST_BYTES:
             raise Refusal(4, f"library {number} too long")
         read_mtl(data, number, materials)
-    primitives = primitives_of(job, triangles_of(obj, materials))
+    triangles = triangles_of(obj, materials)
+    if shots is not None:
+        return sequence_of(job, shots, triangles)
+    drawn = draw(job, primitives_of(job, triangles))
+    if job.bands is not None:
+        check_bands(job, drawn.totals)
+    elif drawn.is_too_large_for(job):
+        raise Refusal(5, drawn.full_pool(job))
+    if drawn.report is not None:
+        return drawn.report
+    header, image = image_of(job, drawn.values)
+    if job.number is None:
+        return header + image
+    text = f"triangles {drawn.primitives}\nfragments {drawn.total}\nlongest {drawn.longest}\n"
+    return (text + f"sum {sum(image)}\n").encode()
 
-    values, totals, longest, report = [], [], 0, None
+
+@dataclass
+class Drawn:
+    """What is known of an image once each sample of each pixel has asked all primitives."""
+    primitives: int  # how many there are
+    values: list = field(default_factory=list)
+    totals: list = field(default_factory=list)  # the fragments of each row
+    longest: int = 0
+    report: bytes = None  # of the pixel that is picked
+
+    @property
+    def total(self):
+        return sum(self.totals)
+
+    def is_too_large_for(self, job):
+        return self.total > job.nodes and not job.peel
+
+    def full_pool(self, job):
+        return f"pool full: {self.total} fragments, {job.nodes} nodes"
+
+
+def draw(job, primitives):
+    """The image of the primitives."""
+    drawn = Drawn(len(primitives))
     for y in range(job.height):
-        totals.append(0)
+        drawn.totals.append(0)
         for x in range(job.width):
             samples = [covering(primitives, s) for s in samples_of(job, x, y)]
             length = len({n for covering_it in samples for _, n in covering_it})
-            totals[y] += length
-            longest = max(longest, length)
+            drawn.totals[y] += length
+            drawn.longest = max(drawn.longest, length)
             if job.at == (x, y):
-                report = report_of(samples)
+                drawn.report = report_of(samples)
             if job.at is None:
                 colours = [sample_colour(job, primitives, one) for one in samples]
-                values += [pixel_value(job, sum(channels)) for channels in zip(*colours)]
-    total = sum(totals)
-    if job.bands is not None:
-        check_bands(job, totals)
-    elif total > job.nodes and not job.peel:
-        raise Refusal(5, f"pool full: {total} fragments, {job.nodes} nodes")
-    if report is not None:
-        return report
-    header, image = image_of(job, values)
-    if job.number is None:
-        return header + image
-    text = f"triangles {len(primitives)}\nfragments {total}\nlongest {longest}\nsum {sum(image)}\n"
-    return text.encode()
+                drawn.values += [pixel_value(job, sum(channels)) for channels in zip(*colours)]
+    return drawn
+
+
+def sequence_of(job, shots, triangles):
+    """The images of all shots, joined, or a Refusal by the first that the pool doesn't hold."""
+    written = b""
+    for number, shot in enumerate(shots, 1):
+        own = replace(job, turn=shot.turn, shift=shot.shift)
+        drawn = draw(own, primitives_of(own, triangles))
+        if drawn.is_too_large_for(own):
+            raise Refusal(5, f"image {number}: {drawn.full_pool(own)}", written)
+        written += b"".join(image_of(own, drawn.values))
+    return written
 
 
 def check_bands(job, totals):
@@ -663,7 +758,7 @@ def answer(words, read_scene, fetch):
     try:
         return 0, output_of(words or [], read_scene, fetch), b""
     except Refusal as refusal:
-        return refusal.status, b"", refusal.text.encode() + b"\n"
+        return refusal.status, refusal.written, refusal.text.encode() + b"\n"
     except ReadFault:
         return 6, b"", b"read fault\n"
 

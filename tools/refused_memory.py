@@ -7,7 +7,7 @@ A run refuses one call, the first, the second and so on, until a run has no such
 run of the program ends well where it writes nothing and ends in status 8, or where it gives the
 answer that it gives when nothing is refused, by reference.py. Where a read or a write fails,
 statuses 6 and 7 take the place of 8, with at most a beginning of the output or of the text; where
-one is short, the answer alone is right.
+one is short, the answer alone is right. In a sequence whole images may be written before status 8.
 
 With CRATE.. the tests of these crates whose names have 'refused_memory' are run in the same way.
 Such a test may end for want of memory. Else it asserts that its calls gave the right answer or told
@@ -47,6 +47,7 @@ MOST_CALLS = 5000
 # How runs end, and the heading of the table's column.
 ENDS = ["status 8", "status 6", "status 7", "cut text", "answer", None]
 
+PATH = b"1 0 0 0 0 0 -40\n1 0 0 0 0 0 -4\n1 0 0 0 0 0 -40\n"  # the second shot is full of it
 SQUARE = b"v -4 4 0\nv 4 4 0\nv 4 -4 0\nv -4 -4 0\nf 1 2 4\nf 2 3 4\n"
 KINDS = {"memory": "memory refused", "io": "reads and writes fail", "short": "and are short"}
 
@@ -58,6 +59,7 @@ class Case:
     shows: str
     scene: bytes = b""
     libraries: dict = field(default_factory=dict)
+    image: int = None  # the bytes of each image of a sequence
 
 
 def missing(text):
@@ -80,8 +82,14 @@ def cases():
         yield Case(f"demo 1 --size 1x1 --move 0,0.3,-4 {few}", "")
         yield Case(f"render --size 4x4 --bands 3 {few}", "a square in bands", SQUARE)
         yield Case(f"render --size 4x4 --peel {few}", "a square in layers", SQUARE)
+        yield Case(f"sequence p --size 4x4 {few}", "three images of a square", SQUARE, {"p": PATH}, 107)
     yield Case("render --size 4x4 --nodes 15", "a square, for which the pool is full", SQUARE)
     yield Case("render --size 4x4 --bands 2 --nodes 7", "a square, whose first band is full", SQUARE)
+    yield Case("sequence p --size 4x4 --nodes 15", "three images, for whose second the pool is full",
+               SQUARE, {"p": PATH}, 107)
+    yield Case("sequence p --size 4x4 --nodes 16", "a faulty path", SQUARE, {"p": PATH + b"1\n"}, 107)
+    yield Case("sequence p --size 4x4 --nodes 16", "no images of a cube", cube[0],
+               {"p": b"# none\n", **cube[1]}, 107)
     yield Case("render --size 4x4 --nodes 16", "a faulty library", b"mtllib a.mtl\n",
                {"a.mtl": b"newmtl red\nd 1\nnewmtl blue\nKd\n"})
 
@@ -128,18 +136,25 @@ class Refuser:
         sys.exit(f"refused_memory: {words} has more than {MOST_CALLS} calls")
 
 
-def ended(answer, own, kind):
+def may_be_written(out, own, image):
+    """Whether a run whose memory runs out may have written this: nothing, or images of a sequence,
+    but not all of them."""
+    if image is None or not out:
+        return not out
+    return own[1].startswith(out) and len(out) % image == 0 and (own[0] != 0 or out != own[1])
+
+
+def ended(answer, own, kind, image):
     """How a run of the program ended, or None, where it didn't end well."""
     status, out, err = answer
     if answer == own:
         return "answer"
-    if kind == "memory" and (status, out) == (8, b"") and b"no memory\n".startswith(err):
-        return "status 8"
+    if kind == "memory" and status == 8 and b"no memory\n".startswith(err):
+        return "status 8" if may_be_written(out, own, image) else None
     if kind == "io" and (status, out, err) == (6, b"", b"read fault\n"):
         return "status 6"
-    if kind == "io" and own[0] == 0:
-        is_start = own[1].startswith(out) and err == b"write fault\n"
-        return "status 7" if status == 7 and is_start else None
+    if kind == "io" and own[1] and (status, err) == (7, b"write fault\n"):
+        return "status 7" if own[1].startswith(out) else None
     if kind == "io" and (status, out) == own[:2] and own[2].startswith(err):
         return "cut text"
     return None
@@ -172,7 +187,7 @@ def run_case(refuser, program, case):
         for kind, title in KINDS.items():
             ends = collections.Counter()
             for call, answer in refuser.each([program, *words], kind, folder):
-                end = ended(answer, own, kind)
+                end = ended(answer, own, kind, case.image)
                 ends[end] += 1
                 if end is None:
                     print(f"{case.words}, {title}, call {call}: {answer}", flush=True)

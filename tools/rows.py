@@ -1,7 +1,7 @@
 """Worked commands with the answers that abuf must give, each written out.
 
-A row is a command, the scene on its standard input, the libraries in its working folder, and the
-answer: the status, the bytes of standard output and the message on standard error.
+A row is a command, the scene on its standard input, the libraries and the paths in its working
+folder, and the answer: the status, the bytes of standard output and the message on standard error.
 """
 
 from dataclasses import dataclass, field
@@ -15,7 +15,7 @@ class Row:
     status: int = 0
     out: bytes = b""
     err: bytes = b""
-    libraries: dict = field(default_factory=dict)
+    libraries: dict = field(default_factory=dict)  # and paths
     stdin: str = "scene"  # or "fault": a descriptor from which no read succeeds
     stdout: str = "taken"  # or "full": a device that takes nothing
     is_slow: bool = False
@@ -639,6 +639,8 @@ def rows():
                   "pick 0,0 --bands 1", "pick 0,0 --peel", "demo 1 --bands 1", "demo 1 --peel"):
         row(words, words + " --size 4x4", SQUARE_SCENE, 2, "words not understood")
 
+    made.extend(row for one in sequences() for row in one)
+
     # the outside
     row("a scene that can't be read", small, b"", 6, "read fault", stdin="fault")
     row("words come before reading", "render --size 0x4", b"", 2, "bad value: size",
@@ -652,6 +654,155 @@ def rows():
     row("a library that is too long", small, b"mtllib a.mtl\n", 4, "library 1 too long",
         libraries={"a.mtl": b"\n" * 67108865}, is_slow=True)
     return made
+
+
+# ---- sequences of images
+
+AHEAD, BEHIND = "1 0 0 0 0 0 -4", "0 0 1 0 0 0 -4"
+AHEAD_IMAGE, BEHIND_IMAGE = UPPER_IMAGE, RIGHT_IMAGE
+BOTH_IMAGES = AHEAD_IMAGE + BEHIND_IMAGE
+
+
+def sequence(title, path, *answer, scene=UPPER_SCENE, words="", out=b"", command=None, **named):
+    """The row of a sequence along a path, of lines or of bytes. The answer is the output, or the
+    status and the message, with what is written before."""
+    libraries = named.pop("libraries", {})
+    if path is not None:
+        libraries = {**libraries, "p": path if isinstance(path, bytes) else join(*path)}
+    command = command or f"sequence p --size 4x4 {words}".strip()
+    command = command.split(" ") if isinstance(command, str) else command
+    if len(answer) == 1:
+        return Row(title, command, scene, 0, answer[0], b"", libraries, **named)
+    return Row(title, command, scene, answer[0], out, text(answer[1]), libraries, **named)
+
+
+def sequences():
+    yield sequences_drawn()
+    yield sequences_refused()
+    yield paths_by_lines()
+    yield words_of_sequences()
+
+
+def sequences_drawn():
+    two = [AHEAD, BEHIND]
+    yield sequence("a sequence of two images", two, BOTH_IMAGES)
+    yield sequence("the images in the order of the path", two[::-1], BEHIND_IMAGE + AHEAD_IMAGE)
+    yield sequence("an image as often as its line", [AHEAD] * 3, AHEAD_IMAGE * 3)
+    yield sequence("a pool that the larger image fits just", two, BOTH_IMAGES, words="--nodes 10")
+    yield sequence("the second image fills the pool", two, 5,
+                   "image 2: pool full: 10 fragments, 6 nodes", words="--nodes 6", out=AHEAD_IMAGE)
+    yield sequence("the first full image ends the sequence", [AHEAD, BEHIND, AHEAD, BEHIND], 5,
+                   "image 2: pool full: 10 fragments, 9 nodes", words="--nodes 9", out=AHEAD_IMAGE)
+    yield sequence("the first image fills the pool", two, 5,
+                   "image 1: pool full: 6 fragments, 5 nodes", words="--nodes 5")
+    yield sequence("an empty path", b"", b"")
+    yield sequence("a path of blank lines and comments", ["", "# nothing", " \t\r", "#"], b"")
+    for threads in (1, 7, 64):
+        yield sequence(f"a sequence on {threads} threads", two, BOTH_IMAGES,
+                       words=f"--threads {threads}")
+    yield sequence("two bytes a value in each image", ["1 0 0 0 0 0 -4"] * 2,
+                   2 * (header(1, 1, 65535) + bytes.fromhex("ffff7fff7fff")), scene=RED_SCENE,
+                   libraries=HALF_RED,
+                   command="sequence p --size 1x1 --background 1,1,1 --maxval 65535")
+    yield sequence("samples of each image", [AHEAD, "1 0 0 0 2 0 -4"],
+                   pixel(128, 128, 128) + pixel(191, 191, 191), scene=LEFT_HALF_SCENE,
+                   command="sequence p --size 1x1 --samples 4")
+    yield sequence("images of an empty scene", two, BLACK_IMAGE * 2, scene=b"")
+    yield sequence("4096 images", [AHEAD] * 4096, pixel(0, 0, 0) * 4096, scene=b"",
+                   command="sequence p --size 1x1 --nodes 1", is_slow=True)
+
+
+def sequences_refused():
+    yield sequence("a path that is missing", None, 9, "path missing")
+    yield sequence("a path that is missing comes before the scene", None, 9, "path missing",
+                   stdin="fault")
+    yield sequence("a faulty path comes before the scene", ["1"], 9, "path line 1: wrong count",
+                   scene=b"v 1 2\n")
+    yield sequence("a faulty path leaves the scene unread", ["1"], 9, "path line 1: wrong count",
+                   stdin="fault")
+    yield sequence("a faulty scene after the path", [AHEAD], 3, "line 1: bad number",
+                   scene=b"v 1 2\n")
+    yield sequence("a faulty scene though no image is asked for", b"", 3, "line 1: bad number",
+                   scene=b"v 1 2\n")
+    yield sequence("a scene that can't be read, though no image is asked for", b"", 6, "read fault",
+                   stdin="fault")
+    yield sequence("a library that is missing, though no image is asked for", b"", 4,
+                   "library 1 missing", scene=b"mtllib a.mtl\n")
+    yield sequence("a path that is a folder", None, 6, "read fault",
+                   command="sequence . --size 4x4")
+    yield sequence("a path through a file", ["1"], 6, "read fault",
+                   command="sequence p/q --size 4x4")
+    yield sequence("a full device at image 1 comes before a full pool at image 2",
+                   [AHEAD, BEHIND], 7, "write fault", words="--nodes 6", stdout="full")
+    yield sequence("a full pool at image 1 on a full device", [AHEAD, BEHIND], 5,
+                   "image 1: pool full: 6 fragments, 5 nodes", words="--nodes 5", stdout="full")
+    yield sequence("no images on a full device", b"", b"", stdout="full")
+    yield sequence("4097 images", [AHEAD] * 4097, 9, "path line 4097: too many images")
+    yield sequence("4097 images between blank lines", ["", "# x", *[AHEAD] * 4097], 9,
+                   "path line 4099: too many images")
+    yield sequence("a bad turn after 4096 images", [AHEAD] * 4096 + ["0 0 0 0 0 0 -4"], 9,
+                   "path line 4097: bad turn")
+    yield sequence("a path of the greatest length", b"#" + b"x" * 1048574 + b"\n", b"")
+    yield sequence("a path that is one byte longer", b"#" + b"x" * 1048575 + b"\n", 9,
+                   "path too long")
+    yield sequence("its length comes before its lines", b"1\n" * 524289, 9, "path too long")
+
+
+def paths_by_lines():
+    for line in ("1 0 0 0 0 0", "1 0 0 0 0 0 -4 0", "1", "1 0 0 0 0 0 # -4", "1 0 0 0 0 0 #-4",
+                 "render", "1,0,0,0 0,0,-4", "\\"):
+        yield sequence(f"the line {line}", [line], 9, "path line 1: wrong count")
+    for turn in ("0 0 0 0", "-0 0 0 -0", "1025 0 0 0", "-1025 0 0 0", "+1 0 0 0", "00001 0 0 0",
+                 "1.0 0 0 0", "1e0 0 0 0", "- 0 0 0", "x 0 0 0", "1 0 0 --1", "1 0 0 0x1"):
+        yield sequence(f"the turn {turn}", [turn + " 0 0 -4"], 9, "path line 1: bad turn")
+    for shift in ("0 0 x", "0 0 32768", "0 0 -32768", "nan 0 -4", "0 . -4", "0 0 1e0001",
+                  "0,0 0 -4", "0 0 0" + "0" * 30):
+        yield sequence(f"the shift {shift}", [f"1 0 0 0 {shift}"], 9, "path line 1: bad number")
+    yield sequence("a count before a turn", ["0 0 0 0 0 0"], 9, "path line 1: wrong count")
+    yield sequence("a turn before a number", ["0 0 0 0 0 0 x"], 9, "path line 1: bad turn")
+    yield sequence("the first faulty line", [AHEAD, "", "1 0 0 0 x 0 -4", "1"], 9,
+                   "path line 3: bad number")
+    yield sequence("a byte order mark", b"\xef\xbb\xbf1 0 0 0 0 0 -4\n", 9, "path line 1: bad turn")
+    yield sequence("a zero byte", b"1 0 0 0 0 0 -4\0\n", 9, "path line 1: bad number")
+    for title, line in (
+            ("forms of the turn", "-0 -0000 0001 0 0 0 -4"), ("a comment behind", BEHIND + " # x"),
+            ("a comment at once", "0 0 1 0 0 0 -4 #"),
+            ("tabs, CRs and blanks", "\t0\r0  1\t0 0 0 -4 \r"),
+            ("forms of the shift", "0 0 1 0 +0. -.0e9 -0.4e+1"),
+            ("another quaternion", "0 0 -1024 0 0 0 -4"),
+            ("a number that is rounded", "0 0 1 0 1e-7 -0.0000076 -4")):
+        yield sequence(f"a path's line with {title}", [line], BEHIND_IMAGE)
+    yield sequence("a path's last line without its end", BEHIND.encode(), BEHIND_IMAGE)
+    yield sequence("a path's lines ended by CR and LF",
+                   join(AHEAD, BEHIND).replace(b"\n", b"\r\n"), BOTH_IMAGES)
+
+
+def words_of_sequences():
+    path = [AHEAD]
+    refused = 2, "words not understood"
+    for words in ("sequence", "sequence --size 4x4", "sequence p q", "sequence p --turn 1,0,0,0",
+                  "sequence p --move 0,0,-4", "sequence p --bands 1", "sequence p --peel",
+                  "sequence -p", "sequence p --path p", "sequence p --size 4x4 --size 4x4",
+                  "render --path p", "Sequence p"):
+        yield sequence(f"the words {words}", path, *refused, command=words)
+    yield sequence("an empty name", path, 2, "bad value: path",
+                   command=["sequence", "", "--size", "4x4"])
+    yield sequence("an option is named before the path", path, 2, "bad value: maxval",
+                   command=["sequence", "", "--maxval", "256"])
+    yield sequence("a path after two hyphens", path, AHEAD_IMAGE,
+                   command="sequence --size 4x4 -- p")
+    yield sequence("a path between the options", path, AHEAD_IMAGE,
+                   command="sequence --threads 3 p --size 4x4")
+    yield sequence("a path that is called as a command", None, AHEAD_IMAGE,
+                   command="sequence demo --size 4x4", libraries={"demo": join(AHEAD)})
+    yield sequence("a path's name with a blank", None, AHEAD_IMAGE,
+                   command=["sequence", "my path", "--size", "4x4"],
+                   libraries={"my path": join(AHEAD)})
+    yield sequence("words come before the path", None, 2, "bad value: size",
+                   command="sequence p --size 0x4")
+    yield sequence("a path that begins with a hyphen", None, 9, "path missing",
+                   command="sequence --size 4x4 -- -p")
+    yield sequence("a hyphen as a path", None, 9, "path missing", command="sequence - --size 4x4")
 
 
 def agreements():

@@ -1,0 +1,181 @@
+#!/usr/bin/env python3
+"""Times a sequence of images beside as many runs of render.
+
+    sequences.py [OPTIONS]      100 images of the lantern at 320x240, and 20 of a mesh, on 1 and on 4 threads
+
+The camera goes once round the scene. One run of `abuf sequence` draws all images, into one file; then `abuf render` is run once for
+each image, one after another, into a file each. A time is that of all runs, from the start of the first process to the end of the
+last; of several rounds the best counts, the two in turn. The images have to be the same bytes. With --pieces N the path is cut into
+N pieces besides, drawn by N processes at a time, each on one thread. README.md here has figures.
+"""
+
+import argparse
+import os
+import subprocess
+import sys
+import tempfile
+import time
+from typing import NamedTuple
+
+import bench
+import scenes
+
+sys.path.insert(0, os.path.join(bench.TOP, "tools"))
+import turntable  # noqa: E402
+
+
+class Sequence(NamedTuple):
+    """A path once round a scene, and the words of all its images."""
+
+    images: int
+    words: str
+    tilt: tuple
+    shift: tuple
+    scene: object  # writes the scene into a folder, and gives its name
+
+
+def lantern(folder):
+    return scenes.example(folder, "lantern")
+
+
+def mesh(folder):
+    return scenes.write(folder, "mesh.obj", scenes.write_mesh)
+
+
+SEQUENCES = {
+    "lantern": Sequence(100, "--size 320x240 --samples 8 --background 0.04,0.045,0.09 --focal 2.7", (8, 1), ("0", "0.36", "-8.6"),
+                        lantern),
+    "mesh": Sequence(20, "--size 320x240", (8, 1), ("0", "0", "-9"), mesh),
+}
+
+
+class Clock:
+    """Runs programs in a folder, over the scene that is there, and adds up their memory's peak."""
+
+    def __init__(self, folder, given):
+        self.folder = folder
+        self.program = os.path.abspath(given.program)
+        self.variables = bench.environment(given)
+        self.peak = 0
+
+    def path(self, name):
+        return os.path.join(self.folder, name)
+
+    def start(self, words, scene, output):
+        with open(self.path(scene), "rb") as source, open(self.path(output), "wb") as sink:
+            return subprocess.Popen([self.program, *words], stdin=source, stdout=sink, stderr=subprocess.PIPE, cwd=self.folder,
+                                    env=self.variables)
+
+    def end(self, child):
+        told = child.stderr.read()
+        child.stderr.close()
+        _, status, usage = os.wait4(child.pid, 0)
+        child.returncode = os.waitstatus_to_exitcode(status)
+        self.peak = max(self.peak, usage.ru_maxrss)
+        if child.returncode != 0:
+            raise bench.Failed(f"{' '.join(child.args[1:])}: status {child.returncode}, {told.decode(errors='replace').strip()}")
+
+    def time(self, runs, at_once=1):
+        """The seconds of runs, so many of which go on at once; each is the words, the scene and the file for the output."""
+        before = time.perf_counter()
+        going = []
+        for run in runs:
+            if len(going) == at_once:
+                self.end(going.pop(0))
+            going.append(self.start(*run))
+        for child in going:
+            self.end(child)
+        return time.perf_counter() - before
+
+    def joined(self, names):
+        found = []
+        for name in names:
+            with open(self.path(name), "rb") as file:
+                found.append(file.read())
+        return b"".join(found)
+
+
+def write_path(clock, name, lines):
+    with open(clock.path(name), "w") as file:
+        file.writelines(line + "\n" for line in lines)
+
+
+def ways(clock, name, scene, given, threads):
+    """For each way to draw the sequence its runs, and how many go on at once."""
+    sequence = SEQUENCES[name]
+    shots = turntable.path(sequence.images, sequence.tilt, sequence.shift, "").splitlines()[1:]
+    words = [*sequence.words.split(), "--threads", str(threads)]
+    write_path(clock, "whole.path", shots)
+    yield "sequence", [(["sequence", "whole.path", *words], scene, "whole")], 1
+    renders = []
+    for number, shot in enumerate(shots):
+        parts = shot.split()
+        camera = ["--turn=" + ",".join(parts[:4]), "--move=" + ",".join(parts[4:])]
+        renders.append((["render", *words, *camera], scene, f"image{number}"))
+    yield "render", renders, 1
+    if given.pieces:
+        pieces = []
+        for number in range(given.pieces):
+            first, end = (k * len(shots) // given.pieces for k in (number, number + 1))
+            write_path(clock, f"{number}.path", shots[first:end])
+            pieces.append((["sequence", f"{number}.path", *sequence.words.split(), "--threads", "1"], scene, f"piece{number}"))
+        yield f"{given.pieces} pieces at once", pieces, given.pieces
+
+
+def measure(clock, name, given, table):
+    scene = SEQUENCES[name].scene(clock.folder)
+    images = SEQUENCES[name].images
+    outputs = set()
+    for threads in given.threads:
+        runs = list(ways(clock, name, scene, given, threads))
+        best = {}
+        for _ in range(given.rounds):
+            for way, of_it, at_once in runs:
+                clock.peak = 0
+                seconds = clock.time(of_it, at_once)
+                best[way] = min(best.get(way, (seconds, clock.peak)), (seconds, clock.peak))
+        first = best["sequence"][0]
+        for way, of_it, _ in runs:
+            seconds, peak = best[way]
+            outputs.add(clock.joined([run[2] for run in of_it]))
+            shown = "1" if way.endswith("at once") else str(threads)
+            table.row([name, str(images), way, shown, bench.milliseconds(seconds), bench.milliseconds(seconds / images),
+                       f"{seconds / first:.2f}", f"{peak / 1024:.0f} MiB"])
+    if len(outputs) > 1:
+        raise bench.Failed("the images aren't the same")
+
+
+def read_words():
+    ask = argparse.ArgumentParser(description=__doc__, formatter_class=argparse.RawDescriptionHelpFormatter)
+    ask.add_argument("--program", default=bench.PROGRAM, help="the program (that of this checkout, which ./abuf builds)")
+    ask.add_argument("--only", metavar="NAMES", type=lambda text: text.split(","), default=list(SEQUENCES),
+                     help="these sequences alone: " + ", ".join(SEQUENCES))
+    ask.add_argument("--threads", metavar="N,N", type=lambda text: [int(part) for part in text.split(",")], default=[1, 4],
+                     help="numbers of threads (1,4)")
+    ask.add_argument("--pieces", metavar="N", type=int, default=0, help="and the path in N pieces at once")
+    ask.add_argument("--rounds", type=int, default=3, help="rounds, of which the best counts (3)")
+    ask.add_argument("--pages", choices=["large", "usual"], default="large",
+                     help=f"large: the programs are started with GLIBC_TUNABLES={bench.LARGE_PAGES} (large)")
+    ask.add_argument("--table", action="store_true", help="print Markdown")
+    given = ask.parse_args()
+    for name in given.only:
+        if name not in SEQUENCES:
+            ask.error(f"no {name}; there are {', '.join(SEQUENCES)}")
+    if not os.access(given.program, os.X_OK):
+        ask.error(f"{given.program} can't be run")
+    return given
+
+
+def main():
+    given = read_words()
+    print(bench.told(given).replace("bench.py", "sequences.py") + "\n", flush=True)
+    with tempfile.TemporaryDirectory() as folder:
+        scenes.start(folder)
+        clock = Clock(folder, given)
+        table = bench.Table(["scene", "images", "way", "threads", "time", "an image", "of sequence", "peak"], given.table)
+        failed = bench.each(given.only, lambda name: measure(clock, name, given, table))
+    sys.exit(1 if failed else 0)
+
+
+if __name__ == "__main__":
+    main()
