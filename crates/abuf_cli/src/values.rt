@@ -1,6 +1,6 @@
 // What the texts of the options and values stand for.
 ghost use Rattle.std.specs.Prelude.{◌≡◌, ◌≤◌, ◌<◌, ◌^◌, ◌⊎◌, pos, IfSome, unsigned_abs};
-ghost use Rattle.abuf_view.specs.Camera.{IsSize, IsTurn, IsNearby, IsFrom, turn_of as quaternion, place_of};
+ghost use Rattle.abuf_view.specs.Camera.{IsSize, IsTurn, IsBounded, IsFrom, turn_of as quaternion, place_of};
 ghost use Rattle.abuf_cli.specs.Values.{size_of, size_within, pattern_of, counted, threads_of, nodes_of, turn_of, three_scaled, shift_of, between, focal_of, near_of, channel, background_of, maxval_of, bands_of, pixel_within, at_of, number_of};
 
 use crate::cuts::{cut_at, four_texts, three_texts};
@@ -127,7 +127,7 @@ fn three_scaled(text: &[u8], k: u32) -> Option<Triple>
 /// A shift, in units of 1/65536.
 pub fn shift_of(text: &[u8]) -> Option<[i64; 3]>
     ensures value { result ≡ shift_of text.now }
-    ensures range { IfSome result (λ t. IsNearby (place_of t)) }
+    ensures range { IfSome result (λ t. IsBounded (place_of t)) }
 {
     let t = three_scaled(text, 65536)?;
     Some([t.x, t.y, t.z])

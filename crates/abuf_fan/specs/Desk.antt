@@ -12,7 +12,7 @@ pub record Stock : Type 0 where
   pub parts : ℕ
 
 -- what contracts see of a turn: the table of its desk, and what it knows
-pub record Held : Type 0 where
+pub record TurnState : Type 0 where
   pub table : TableId
   pub hand : Hand
 

@@ -38,9 +38,9 @@ pub struct Turn {
 
 impl Model for Turn {
     ghost use Rattle.std.specs.Prelude.{◌≡◌, []};
-    ghost use Rattle.abuf_fan.specs.Desk.{Held};
+    ghost use Rattle.abuf_fan.specs.Desk.{TurnState};
 
-    ghost Value = { Held };
+    ghost Value = { TurnState };
 
     ghost view = { λ t. record { table = t.place.table_id; hand = t.place.me.0 } };
 

@@ -10,7 +10,7 @@ use Rattle.abuf_frame.specs.Views.{endowment, loose}
 use Rattle.abuf_frame.specs.Frame.{Shape}
 
 -- the frame that a pass belongs to, and what the pass knows
-pub record Held : Type 0 where
+pub record PassState : Type 0 where
   pub frame : Shape
   pub view : View
 

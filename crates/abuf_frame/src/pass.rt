@@ -30,9 +30,9 @@ pub struct Pass {
 }
 
 impl Model for Pass {
-    ghost use Rattle.abuf_frame.specs.Pass.{Held, Ties};
+    ghost use Rattle.abuf_frame.specs.Pass.{PassState, Ties};
 
-    ghost Value = { Held };
+    ghost Value = { PassState };
 
     ghost view = { λ p. record { frame = record { table = p.place.table_id; pixels = p.pixels; nodes = p.nodes }; view = p.place.me.0 } };
 

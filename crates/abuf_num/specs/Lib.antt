@@ -1,5 +1,6 @@
 pub mod Division
 pub mod Decimal
+pub mod Paints
 pub mod Parts
 pub mod Size
 pub mod Fixed

@@ -3,12 +3,14 @@
 //! [`scaled`] reads a decimal number and gives the whole number nearest to `k` times its value, by
 //! the definition `specs/Decimal.antt`, or says why there is none. [`floor_div`] and
 //! [`round_div`] are the two divisions that round (`specs/Division.antt`). Clauses see a [`List`]
-//! as the list of its items.
+//! as the list of its items. [`limits`] names the limits of scenes, images and runs.
 #![tactic(auto)]
 
+mod colour;
 mod decimal;
 mod division;
 mod fixed;
+pub mod limits;
 mod list;
 mod plain;
 mod sign;
@@ -17,8 +19,9 @@ mod size;
 mod tests;
 mod texts;
 
+pub use colour::channel;
 pub use decimal::{NumFault, scaled};
 pub use division::{floor_div, round_div};
 pub use list::{List, NoMemory};
-pub use plain::{Paint, PixelSum};
+pub use plain::{Paint, PixelSum, WHITE};
 pub use texts::{scaled_number, signed_number, whole_number};

@@ -4,8 +4,8 @@ use Rattle.abuf_obj.specs.declared.face.Face.{Face}
 use Rattle.abuf_obj.specs.declared.scene.Obj.{Obj}
 
 -- each coordinate is at most 2147483647 either way
-abbrev pub IsNear : List ℤ → Type 0
-IsNear point = All (λ z. unsigned_abs z ≤ 2147483647) point
+abbrev pub IsInRange : List ℤ → Type 0
+IsInRange point = All (λ z. unsigned_abs z ≤ 2147483647) point
 
 -- a face has at least three corners, each of them a point, and its name is one of the names
 pub record IsFace (points names : ℕ) (face : Face) : Type 0 where
@@ -22,6 +22,6 @@ abbrev pub triangles_in : List Face → ℕ
 triangles_in faces = sum_by (λ face. length face.corners - 2) faces
 
 pub record IsScene (obj : Obj) : Type 0 where
-  pub near : All IsNear obj.points
+  pub near : All IsInRange obj.points
   pub faces : All (IsFace (length obj.points) (length obj.names)) obj.faces
   pub few : triangles_in obj.faces ≤ 1048576

@@ -1,7 +1,7 @@
 // The point of a `v` line.
 ghost use Rattle.std.specs.Prelude.{◌≡◌, ◌≤◌, All, IfSome, unsigned_abs};
 ghost use Rattle.abuf_obj.specs.Points.{coordinate, point_from, point_of};
-ghost use Rattle.abuf_obj.specs.Sound.{IsNear};
+ghost use Rattle.abuf_obj.specs.Sound.{IsInRange};
 
 use abuf_num::scaled;
 use abuf_text::Statement;
@@ -19,7 +19,7 @@ fn three(x: Option<i64>, y: Option<i64>, z: Option<i64>) -> Option<[i64; 3]>
     requires y { IfSome y (λ y. unsigned_abs y ≤ 2147483647) }
     requires z { IfSome z (λ z. unsigned_abs z ≤ 2147483647) }
     ensures value { result ≡ point_from x y z }
-    ensures near { IfSome result IsNear }
+    ensures near { IfSome result IsInRange }
 {
     match (x, y, z) {
         (Some(x), Some(y), Some(z)) => Some([x, y, z]),
@@ -30,7 +30,7 @@ fn three(x: Option<i64>, y: Option<i64>, z: Option<i64>) -> Option<[i64; 3]>
 /// The point of the first three arguments, if they are three numbers.
 pub fn point(mut arguments: Statement) -> Option<[i64; 3]>
     ensures value { result ≡ point_of arguments.entry }
-    ensures near { IfSome result IsNear }
+    ensures near { IfSome result IsInRange }
 {
     let Some(x) = arguments.next() else {
         return None;

@@ -1,7 +1,7 @@
 // The scene so far, line by line.
 ghost use Rattle.std.specs.Prelude.{◌≡◌, ◌≤◌, ◌<◌, length, All, IfSome};
 ghost use Rattle.std.proofs.Props.{props};
-ghost use Rattle.abuf_obj.specs.Sound.{IsNear, IsFan, triangles_in};
+ghost use Rattle.abuf_obj.specs.Sound.{IsInRange, IsFan, triangles_in};
 
 use crate::corners::corners;
 use crate::face::Face;
@@ -27,7 +27,7 @@ pub struct Reader {
     ghost few_triangles: { triangles ≤ 1048576 },
     ghost few_names: { length names ≤ 4096 },
     ghost few_libraries: { length libraries ≤ 16 },
-    ghost near: { All IsNear points },
+    ghost near: { All IsInRange points },
     ghost fans: { All (IsFan (length names)) faces } by { Prim.hlevel props },
     ghost counts: { triangles_in faces ≡ triangles },
     ghost named: { IfSome name (λ n. n < length names) } by { Prim.hlevel props },

@@ -3,7 +3,7 @@ use Rattle.std.specs.Prelude.{◌≡◌, ◌≤◌, ◌*◌, ℕ, List, min}
 use Rattle.abuf_frame.specs.Closing.{Ended}
 use Rattle.abuf_frame.specs.Draws.{Adds}
 use Rattle.abuf_frame.specs.Frame.{Shape}
-use Rattle.abuf_frame.specs.Pass.{Held}
+use Rattle.abuf_frame.specs.Pass.{PassState}
 use Rattle.abuf_frame.specs.Views.{IsSettled, IsWhole}
 use Rattle.abuf_frame.specs.declared.look.Look.{Look}
 use Rattle.abuf_frame.specs.declared.look.Look.TheVariants as look
@@ -15,7 +15,7 @@ use Rattle.abuf_picture.specs.Picture.{IsFrameOf, fragments, total}
 
 -- The pass is the whole one of the frame, which has a list for each pixel of the region, and it has an entry for each fragment.
 -- The frame has so many nodes, or fewer, where these are enough for all fragments.
-pub record IsDrawn (triangles : List Triangle) (pattern : Pattern) (r : Region) (nodes : ℕ) (frame : Shape) (pass : Held) : Type 0 where
+pub record IsDrawn (triangles : List Triangle) (pattern : Pattern) (r : Region) (nodes : ℕ) (frame : Shape) (pass : PassState) : Type 0 where
   pub belongs : pass.frame ≡ frame
   pub pixels_are : frame.pixels ≡ r.w * r.h
   pub few : frame.nodes ≤ nodes

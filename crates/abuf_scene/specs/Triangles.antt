@@ -4,7 +4,7 @@ use Rattle.std.specs.List.{range_with_len}
 use Rattle.abuf_num.specs.declared.plain.Paint.{Paint}
 use Rattle.abuf_obj.specs.declared.face.Face.{Face}
 use Rattle.abuf_obj.specs.declared.scene.Obj.{Obj}
-use Rattle.abuf_obj.specs.Sound.{IsNear}
+use Rattle.abuf_obj.specs.Sound.{IsInRange}
 use Rattle.abuf_mtl.specs.Material.{material}
 use Rattle.abuf_scene.specs.declared.triangles.Triangle.{Triangle}
 use Rattle.abuf_scene.specs.declared.assembly.SceneFault.{SceneFault}
@@ -71,5 +71,5 @@ Tells found (UnknownMaterial line) = found ≡ Some line
 Tells found Memory = ⊤
 
 -- each coordinate is at most 2147483647 either way
-abbrev pub IsNearTriangle : Triangle → Type 0
-IsNearTriangle t = IsNear t.a × IsNear t.b × IsNear t.c
+abbrev pub IsTriangleInRange : Triangle → Type 0
+IsTriangleInRange t = IsInRange t.a × IsInRange t.b × IsInRange t.c

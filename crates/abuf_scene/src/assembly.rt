@@ -1,8 +1,8 @@
 // The scene of a file's faces.
 ghost use Rattle.std.specs.Prelude.{◌≡◌, ◌+◌, ◌-◌, ◌++◌, All, List as Items, ℕ, length, None, OnOk, IfOk, IfErr};
-ghost use Rattle.abuf_obj.specs.Sound.{IsFace, IsNear, triangles_in};
+ghost use Rattle.abuf_obj.specs.Sound.{IsFace, IsInRange, triangles_in};
 ghost use Rattle.abuf_mtl.specs.StandsFor.{StandsFor};
-ghost use Rattle.abuf_scene.specs.Triangles.{paint_by, triangles_of, triangles_by, unknown_by, triangles, unknown, Tells, IsNearTriangle};
+ghost use Rattle.abuf_scene.specs.Triangles.{paint_by, triangles_of, triangles_by, unknown_by, triangles, unknown, Tells, IsTriangleInRange};
 ghost use Rattle.abuf_scene.specs.Lookup.{look_up, line_if_none};
 ghost use Rattle.abuf_scene.specs.declared.assembly.SceneFault.TheVariants.{Memory};
 
@@ -42,7 +42,7 @@ fn push_face(
     ensures known { OnOk result (line_if_none face.now.line (paint_by (look_up materials.now) obj.now.names face.now.name) ≡ None) }
     ensures triangles { OnOk result (triangles.new ≡ triangles.old ++ triangles_of (look_up materials.now) obj.now face.now) }
     ensures count { OnOk result (length triangles.new ≡ length triangles.old + (length face.now.corners - 2)) }
-    ensures near { All IsNear obj.now.points → All IsNearTriangle triangles.old → OnOk result (All IsNearTriangle triangles.new) }
+    ensures near { All IsInRange obj.now.points → All IsTriangleInRange triangles.old → OnOk result (All IsTriangleInRange triangles.new) }
 {
     match paint_of(materials, obj.names.as_slice(), face.name) {
         None => Err(SceneFault::UnknownMaterial { line: face.line }),
@@ -65,7 +65,7 @@ fn all_fans(alloc: Global, obj: &Obj, materials: &Materials) -> Result<List<Tria
     ensures known { OnOk result (unknown_by (look_up materials.now) obj.now ≡ None) }
     ensures triangles { IfOk result (λ list. list ≡ triangles_by (look_up materials.now) obj.now) }
     ensures count { IfOk result (λ list. length list ≡ triangles_in obj.now.faces) }
-    ensures near { All IsNear obj.now.points → IfOk result (λ list. All IsNearTriangle list) }
+    ensures near { All IsInRange obj.now.points → IfOk result (λ list. All IsTriangleInRange list) }
 {
     let mut triangles = List::new(alloc);
     for face in obj.faces.as_slice() {
@@ -87,7 +87,7 @@ pub fn assemble(alloc: Global, obj: &Obj, materials: &Materials) -> Result<Scene
     ensures known { (libraries : Items (Items ℕ)) → StandsFor libraries materials.now → OnOk result (unknown libraries obj.now ≡ None) }
     ensures triangles { (libraries : Items (Items ℕ)) → StandsFor libraries materials.now → IfOk result (λ scene. scene.triangles ≡ triangles libraries obj.now) }
     ensures count { IfOk result (λ scene. length scene.triangles ≡ triangles_in obj.now.faces) }
-    ensures near { All IsNear obj.now.points → IfOk result (λ scene. All IsNearTriangle scene.triangles) }
+    ensures near { All IsInRange obj.now.points → IfOk result (λ scene. All IsTriangleInRange scene.triangles) }
 {
     let list = all_fans(alloc, obj, materials)?;
     Ok(Scene { triangles: list })

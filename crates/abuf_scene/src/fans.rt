@@ -1,7 +1,7 @@
 // The triangles of one face.
 ghost use Rattle.std.specs.Prelude.{◌≡◌, ◌≤◌, ◌<◌, ◌+◌, ◌-◌, ◌++◌, All, length, OnOk, IfSome};
-ghost use Rattle.abuf_obj.specs.Sound.{IsNear};
-ghost use Rattle.abuf_scene.specs.Triangles.{corner, triangle, fan, paint_by, IsNearTriangle};
+ghost use Rattle.abuf_obj.specs.Sound.{IsInRange};
+ghost use Rattle.abuf_scene.specs.Triangles.{corner, triangle, fan, paint_by, IsTriangleInRange};
 ghost use Rattle.abuf_scene.specs.Lookup.{look_up};
 
 use crate::triangles::Triangle;
@@ -13,7 +13,7 @@ fn corner(points: &[[i64; 3]], corners: &[u32], i: usize) -> [i64; 3]
     requires place { i < length corners.now }
     requires points { All (λ c. c < length points.now) corners.now }
     ensures point { result ≡ corner points.now corners.now i }
-    ensures near { All IsNear points.now → IsNear result }
+    ensures near { All IsInRange points.now → IsInRange result }
 {
     points[corners[i] as usize]
 }
@@ -23,7 +23,7 @@ pub fn fan_triangle(points: &[[i64; 3]], corners: &[u32], paint: Paint, i: usize
     requires place { i + 1 < length corners.now }
     requires points { All (λ c. c < length points.now) corners.now }
     ensures value { result ≡ triangle points.now corners.now paint i }
-    ensures near { All IsNear points.now → IsNearTriangle result }
+    ensures near { All IsInRange points.now → IsTriangleInRange result }
 {
     Triangle {
         a: corner(points, corners, 0),
@@ -44,7 +44,7 @@ pub fn push_fan(
     requires points { All (λ c. c < length points.now) corners.now }
     ensures fan { OnOk result (triangles.new ≡ triangles.old ++ fan points.now corners.now paint) }
     ensures count { OnOk result (length triangles.new ≡ length triangles.old + (length corners.now - 2)) }
-    ensures near { All IsNear points.now → All IsNearTriangle triangles.old → OnOk result (All IsNearTriangle triangles.new) }
+    ensures near { All IsInRange points.now → All IsTriangleInRange triangles.old → OnOk result (All IsTriangleInRange triangles.new) }
 {
     for i in 1..corners.len() - 1 {
         triangles.push(fan_triangle(points, corners, paint, i))?;

@@ -2,7 +2,7 @@
 ghost use Rattle.std.specs.Prelude.{◌≡◌, ◌≤◌, length, MatchOption};
 ghost use Rattle.std.specs.List.{All};
 ghost use Rattle.abuf_raster.specs.Region.{whole_image};
-ghost use Rattle.abuf_scene.specs.Triangles.{IsNearTriangle};
+ghost use Rattle.abuf_scene.specs.Triangles.{IsTriangleInRange};
 ghost use Rattle.abuf_sequence.specs.Paths.{IsShot};
 ghost use Rattle.abuf_sequence.specs.Sequences.{IsPlan, camera_of};
 ghost use Rattle.abuf_sequence.specs.Single.{AreBytes, AreSums, IsDrawAnswer};
@@ -65,7 +65,7 @@ fn sums_of<R: Threads + Sync>(
     shot: Shot,
     plan: &Plan,
 ) -> Result<List<PixelSum>, ImageFault>
-    requires near { All IsNearTriangle scene.now.triangles }
+    requires near { All IsTriangleInRange scene.now.triangles }
     requires few { length scene.now.triangles ≤ 1048576 }
     requires plan { IsPlan plan.now }
     requires shot { IsShot shot }
@@ -95,7 +95,7 @@ pub(crate) fn image_of<R: Threads + Sync>(
     shot: Shot,
     plan: &Plan,
 ) -> Result<List<u8>, ImageFault>
-    requires near { All IsNearTriangle scene.now.triangles }
+    requires near { All IsTriangleInRange scene.now.triangles }
     requires few { length scene.now.triangles ≤ 1048576 }
     requires plan { IsPlan plan.now }
     requires shot { IsShot shot }

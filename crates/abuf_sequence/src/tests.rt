@@ -2,7 +2,7 @@
 ghost use Rattle.std.specs.Prelude.{◌≡◌, ◌≤◌, length, true, IfOk};
 ghost use Rattle.std.specs.List.{All};
 ghost use Rattle.abuf_io.specs.Plans.{IsPlan as IsSinkPlan};
-ghost use Rattle.abuf_scene.specs.Triangles.{IsNearTriangle};
+ghost use Rattle.abuf_scene.specs.Triangles.{IsTriangleInRange};
 ghost use Rattle.abuf_sequence.specs.Sequences.{IsPlan};
 
 use crate::{PathFault, PathWhy, Plan, SequenceFault, Shot, read_path, sequence};
@@ -96,7 +96,7 @@ fn the_image_past_the_last_is_refused(rt: HostRuntime) -> Result<(), Fail> {
 
 // A white triangle over the upper left half of the screen.
 fn scene(alloc: Global) -> Result<Scene, NoMemory>
-    ensures near { IfOk result (λ scene. All IsNearTriangle scene.triangles) }
+    ensures near { IfOk result (λ scene. All IsTriangleInRange scene.triangles) }
     ensures few { IfOk result (λ scene. length scene.triangles ≤ 1048576) }
 {
     let mut triangles = List::new(alloc);

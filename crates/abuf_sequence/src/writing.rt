@@ -1,7 +1,7 @@
 // The images of a sequence, written one after another.
 ghost use Rattle.std.specs.Prelude.{◌≡◌, ◌≤◌, length};
 ghost use Rattle.std.specs.List.{All};
-ghost use Rattle.abuf_scene.specs.Triangles.{IsNearTriangle};
+ghost use Rattle.abuf_scene.specs.Triangles.{IsTriangleInRange};
 ghost use Rattle.abuf_sequence.specs.Paths.{IsShot};
 ghost use Rattle.abuf_sequence.specs.Sequences.{IsPlan, IsSequenceAnswer, Taken};
 ghost use Rattle.abuf_sequence.specs.Single.{IsWriteAnswer};
@@ -24,7 +24,7 @@ fn write_image<R: Threads + Sync, O: Sink>(
     plan: &Plan,
     out: &mut O,
 ) -> Result<(), ImageFault>
-    requires near { All IsNearTriangle scene.now.triangles }
+    requires near { All IsTriangleInRange scene.now.triangles }
     requires few { length scene.now.triangles ≤ 1048576 }
     requires plan { IsPlan plan.now }
     requires shot { IsShot shot }
@@ -51,7 +51,7 @@ pub fn sequence<R: Threads + Sync, O: Sink>(
     plan: &Plan,
     out: &mut O,
 ) -> Result<(), SequenceFault>
-    requires near { All IsNearTriangle scene.now.triangles }
+    requires near { All IsTriangleInRange scene.now.triangles }
     requires few { length scene.now.triangles ≤ 1048576 }
     requires shots { (length shots.now ≤ 4096) × All IsShot shots.now }
     requires plan { IsPlan plan.now }

@@ -12,7 +12,7 @@ use Rattle.abuf_cli.specs.declared.job.What.{What}
 use Rattle.abuf_cli.specs.declared.job.What.TheVariants as what
 use Rattle.abuf_top.specs.Fetches.{CallsAtMost, PathIsRefused, load_fetches, path_fetches, sequence_fetches, scene_fetches}
 use Rattle.abuf_top.specs.Images.{Images, plan_of}
-use Rattle.abuf_top.specs.Libraries.{Held, told_by}
+use Rattle.abuf_top.specs.Libraries.{Holdings, told_by}
 use Rattle.abuf_top.specs.Paths.{path_line}
 use Rattle.abuf_top.specs.Prepared.{Loads, LoadsPath, Assembles, PreparesImages, StopsAt}
 use Rattle.abuf_top.specs.Stopped.{HasReadCause}
@@ -26,7 +26,7 @@ use Rattle.abuf_top.specs.declared.task.Task.{Task}
 use Rattle.abuf_top.specs.declared.task.Task.TheVariants.{Sequence}
 
 -- A shelf that was asked tells what it told.
-pub told_same : (a b : Bool) (h k : Held) → a ≡ b → ((other : List ℕ) → h other ≡ k other) → told_by a h ≡ told_by b k
+pub told_same : (a b : Bool) (h k : Holdings) → a ≡ b → ((other : List ℕ) → h other ≡ k other) → told_by a h ≡ told_by b k
 told_same a b h k e f = λ i. told_by (e i) (λ other. f other i)
 
 -- More causes may be named.
@@ -74,20 +74,20 @@ module _ (job : Job) where
   sound_all shots None few more s f h = tt
   sound_all shots (Some line) few more s f h = sound_as shots line few more s f h
 
-  stops_before : (scene : Option (List ℕ)) (shelf : Option Held) (p : Result (List Shot) Refusal) (few more : Type 0) (s : Stop) → (few → more)
+  stops_before : (scene : Option (List ℕ)) (shelf : Option Holdings) (p : Result (List Shot) Refusal) (few more : Type 0) (s : Stop) → (few → more)
       → StopsAt p few s → IfSome (shots_line job scene shelf p) (λ line. StopsAt line more s)
   stops_before scene shelf (Err r) few more s f h = refused_as r few more s f h
   stops_before scene shelf (Ok shots) few more s f h = sound_all shots (option_map (images_line job shots) (loaded job.what scene shelf)) few more s f h
 
   -- The path is refused, or can't be read.
-  pub path_stops : (name : List ℕ) (scene : Option (List ℕ)) (tells : Bool) (held : Held) (few more : Type 0) (s : Stop) → (few → more)
+  pub path_stops : (name : List ℕ) (scene : Option (List ℕ)) (tells : Bool) (held : Holdings) (few more : Type 0) (s : Stop) → (few → more)
       → (tells ≡ true → StopsAt (path_line (held name)) few s) → IfSome (sequence_line job name scene (told_by tells held)) (λ line. StopsAt line more s)
   path_stops name scene false held few more s f h = tt
   path_stops name scene true held few more s f h = stops_before scene (Some held) (path_line (held name)) few more s f (h refl)
 
   module _ (shots : List Shot) where
     -- The images of a sound path.
-    pub sound_path : (name : List ℕ) (scene : Option (List ℕ)) (tells : Bool) (held : Held) (P : Result Task Refusal → Type 0)
+    pub sound_path : (name : List ℕ) (scene : Option (List ℕ)) (tells : Bool) (held : Holdings) (P : Result Task Refusal → Type 0)
         → (tells ≡ true → path_line (held name) ≡ Ok shots)
         → IfSome (option_map (images_line job shots) (loaded job.what scene (told_by tells held))) P → IfSome (sequence_line job name scene (told_by tells held)) P
     sound_path name scene false held P sound h = tt
@@ -133,7 +133,7 @@ calls_path (Ok shots) None a b c d one = tt
 calls_path (Ok shots) (Some n) a b c d one = record { most = omega (arith, one); none = λ z. absurd (omega arith) }
 
 -- for the path alone,
-pub calls_before : (name : List ℕ) (scene : Option (List ℕ)) (tells : Bool) (held : Held) (a b c d : ℕ)
+pub calls_before : (name : List ℕ) (scene : Option (List ℕ)) (tells : Bool) (held : Holdings) (a b c d : ℕ)
     → b ≤ a + 1 → IfSome (sequence_fetches name scene (told_by tells held)) (CallsAtMost a b c d)
 calls_before name scene false held a b c d one = tt
 calls_before name scene true held a b c d one = calls_path (path_line (held name)) _ a b c d one
@@ -143,7 +143,7 @@ calls_more None a m b e c d one h = tt
 calls_more (Some n) a m b e c d one h = record { most = omega (arith, one, h.most); none = λ z. absurd (omega arith) }
 
 -- and for the path and the libraries.
-pub calls_after : (w : What) (name : List ℕ) (scene : Option (List ℕ)) (tells : Bool) (held : Held) (shots : List Shot) (a m b e c d : ℕ) → w ≡ what.Sequence name
+pub calls_after : (w : What) (name : List ℕ) (scene : Option (List ℕ)) (tells : Bool) (held : Holdings) (shots : List Shot) (a m b e c d : ℕ) → w ≡ what.Sequence name
     → (tells ≡ true → path_line (held name) ≡ Ok shots) → m ≤ a + 1
     → IfSome (load_fetches w scene (told_by tells held)) (CallsAtMost m b e d) → IfSome (sequence_fetches name scene (told_by tells held)) (CallsAtMost a b c d)
 calls_after w name scene false held shots a m b e c d is sound one h = tt
@@ -152,14 +152,14 @@ calls_after w name scene true held shots a m b e c d is sound one h =
     (calls_more (option_and_then (scene_fetches (Some held)) scene) a m b e c d one (subst (λ (x : What). IfSome (load_fetches x scene (Some held)) (CallsAtMost m b e d)) is h))
 
 -- A sound path isn't refused.
-pub isnt_refused : (name : List ℕ) (tells : Bool) (held : Held) (shots : List Shot) → (tells ≡ true → path_line (held name) ≡ Ok shots) → PathIsRefused name (told_by tells held) → ⊥
+pub isnt_refused : (name : List ℕ) (tells : Bool) (held : Holdings) (shots : List Shot) → (tells ≡ true → path_line (held name) ≡ Ok shots) → PathIsRefused name (told_by tells held) → ⊥
 isnt_refused name false held shots sound h = h
 isnt_refused name true held shots sound h = subst (λ (p : Result (List Shot) Refusal). IsErr p → ⊥) (sym (sound refl)) (λ e. no e) h where
   no : IsErr {T = List Shot} {E = Refusal} (Ok shots) → ⊥
   no e = absurd (true≢false (sym e))
 
 -- A job of one drawing goes the way of a drawing.
-pub once_line : (w : What) (job : Job) (scene : Option (List ℕ)) (shelf : Option Held) (P : Result Task Refusal → Type 0) → DrawsOnce w
+pub once_line : (w : What) (job : Job) (scene : Option (List ℕ)) (shelf : Option Holdings) (P : Result Task Refusal → Type 0) → DrawsOnce w
     → IfSome (option_map (drawing_line job) (loaded job.what scene shelf)) P → IfSome (command_line w job scene shelf) P
 once_line what.Render job scene shelf P once h = h
 once_line (what.Pick x y) job scene shelf P once h = h

@@ -8,7 +8,7 @@ use Rattle.abuf_mtl.specs.StandsFor.{StandsFor}
 use Rattle.abuf_scene.specs.declared.triangles.Triangle.{Triangle}
 use Rattle.abuf_cli.specs.declared.job.Job.{Job}
 use Rattle.abuf_view.specs.declared.projection.Projected.{Projected}
-use Rattle.abuf_top.specs.Libraries.{Held, told_by, first_refusal, contents, asked, one_and}
+use Rattle.abuf_top.specs.Libraries.{Holdings, told_by, first_refusal, contents, asked, one_and}
 use Rattle.abuf_top.specs.Prepared.{Loads, Prepares, StopsAt}
 use Rattle.abuf_top.specs.Verdict.{library_line, material_line, drawing_line, or_refusal, shelf_for}
 use Rattle.abuf_top.specs.Fetches.{CallsAtMost}
@@ -67,12 +67,12 @@ pub still : Rose 0 0 → ⊥
 still h = absurd (omega (arith, h))
 
 -- a scene's libraries are read from a shelf that tells, or there are none
-pub furnish_told : (obj : Obj) (tells : Bool) (held : Held) (rose : Type 0) (r : Result Loaded Stop)
+pub furnish_told : (obj : Obj) (tells : Bool) (held : Holdings) (rose : Type 0) (r : Result Loaded Stop)
     → (tells ≡ true → Loads (library_line obj held) rose r) → (obj.libraries ≡ [] → Loads (material_line obj []) ⊥ r)
     → IfSome (option_map (library_line obj) (shelf_for obj.libraries (told_by tells held))) (λ line. Loads line rose r)
 furnish_told obj tells held rose r told none = go obj.libraries refl tells refl where
   P : List (List ℕ) → Bool → Type 0
-  P names t = IfSome (option_map (λ (h : Held). or_refusal (first_refusal h names) (material_line obj (contents h names))) (shelf_for names (told_by t held))) (λ line. Loads line rose r)
+  P names t = IfSome (option_map (λ (h : Holdings). or_refusal (first_refusal h names) (material_line obj (contents h names))) (shelf_for names (told_by t held))) (λ line. Loads line rose r)
 
   go : (names : List (List ℕ)) → obj.libraries ≡ names → (t : Bool) → tells ≡ t → P obj.libraries tells
   go [] e t f = subst (λ (ns : List (List ℕ)). P ns tells) (sym e) (loads-weaker (material_line obj []) ⊥ rose r (λ h. absurd h) (none e))
@@ -83,9 +83,9 @@ one_and-some : (r : Option Refusal) (later : ℕ) → one_and r later ≡ 0 → 
 one_and-some None later e = absurd (omega arith)
 one_and-some (Some refusal) later e = absurd (omega arith)
 
-pub fetches_told : (names : List (List ℕ)) (tells : Bool) (held : Held) (a b c d : ℕ)
+pub fetches_told : (names : List (List ℕ)) (tells : Bool) (held : Holdings) (a b c d : ℕ)
     → (tells ≡ true → b ≤ a + asked held names) → (names ≡ [] → (b ≡ a) × (d ≡ c))
-    → IfSome (option_map (λ (h : Held). asked h names) (shelf_for names (told_by tells held))) (CallsAtMost a b c d)
+    → IfSome (option_map (λ (h : Holdings). asked h names) (shelf_for names (told_by tells held))) (CallsAtMost a b c d)
 fetches_told [] tells held a b c d most none = let e = none refl in record { most = omega (arith, e.0); none = λ zero. e }
 fetches_told (name ∷ names) true held a b c d most none = record { most = most refl; none = λ zero. absurd (one_and-some _ _ zero) }
 fetches_told (name ∷ names) false held a b c d most none = tt

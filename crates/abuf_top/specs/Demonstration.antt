@@ -4,10 +4,10 @@ use Rattle.abuf_io.specs.Fetching.{held}
 use Rattle.abuf_scene.specs.Demo as demo
 use Rattle.abuf_cli.specs.declared.job.What.{What}
 use Rattle.abuf_cli.specs.declared.job.What.TheVariants.{Render, Pick, Demo, Sequence}
-use Rattle.abuf_top.specs.Libraries.{Held}
+use Rattle.abuf_top.specs.Libraries.{Holdings}
 
 -- One library, under the name that the scene has for it.
-abbrev pub demo_shelf : Held
+abbrev pub demo_shelf : Holdings
 demo_shelf = held ((codes "demo.mtl", demo.library) ∷ [])
 
 -- The bytes of the scene: `demo` makes its own, whatever the source has.
@@ -18,7 +18,7 @@ scene_for (Demo number) scene = Some (demo.obj number)
 scene_for (Sequence name) scene = scene
 
 -- What is held for the scene.
-abbrev pub shelf_of : What → Option Held → Option Held
+abbrev pub shelf_of : What → Option Holdings → Option Holdings
 shelf_of Render shelf = shelf
 shelf_of (Pick x y) shelf = shelf
 shelf_of (Demo number) shelf = Some demo_shelf

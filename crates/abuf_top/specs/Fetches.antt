@@ -8,22 +8,22 @@ use Rattle.abuf_cli.specs.declared.job.Job.{Job}
 use Rattle.abuf_cli.specs.declared.job.What.{What}
 use Rattle.abuf_cli.specs.declared.job.What.TheVariants.{Render, Pick, Demo, Sequence}
 use Rattle.abuf_cli.specs.declared.job.WordFault.{WordFault}
-use Rattle.abuf_top.specs.Libraries.{Held, asked}
+use Rattle.abuf_top.specs.Libraries.{Holdings, asked}
 use Rattle.abuf_sequence.specs.declared.path.Shot.{Shot}
 use Rattle.abuf_top.specs.Paths.{path_line}
 use Rattle.abuf_top.specs.Verdict.{shelf_for}
 use Rattle.abuf_top.specs.declared.stop.Refusal.{Refusal}
 
 -- None, where the scene's lines have a fault; otherwise the libraries up to the first that is refused.
-abbrev pub fault_fetches : List (List ℕ) → Option Held → Option (ℕ × Why) → Option ℕ
+abbrev pub fault_fetches : List (List ℕ) → Option Holdings → Option (ℕ × Why) → Option ℕ
 fault_fetches names shelf (Some fault) = Some 0
 fault_fetches names shelf None = option_map (λ held. asked held names) (shelf_for names shelf)
 
-abbrev pub scene_fetches : Option Held → List ℕ → Option ℕ
+abbrev pub scene_fetches : Option Holdings → List ℕ → Option ℕ
 scene_fetches shelf bytes = if nat_lt 67108864 (length bytes) then Some 0 else fault_fetches (libraries bytes) shelf (obj_fault bytes)
 
 -- Those for the scene of a command: none for `demo`, whose scene is its own.
-abbrev pub load_fetches : What → Option (List ℕ) → Option Held → Option ℕ
+abbrev pub load_fetches : What → Option (List ℕ) → Option Holdings → Option ℕ
 load_fetches Render scene shelf = option_and_then (scene_fetches shelf) scene
 load_fetches (Pick x y) scene shelf = option_and_then (scene_fetches shelf) scene
 load_fetches (Demo number) scene shelf = Some 0
@@ -44,22 +44,22 @@ abbrev pub path_fetches : Result (List Shot) Refusal → Option ℕ → Option �
 path_fetches (Err refusal) later = Some 1
 path_fetches (Ok shots) later = option_map (λ n. 1 + n) later
 
-abbrev pub sequence_fetches : List ℕ → Option (List ℕ) → Option Held → Option ℕ
+abbrev pub sequence_fetches : List ℕ → Option (List ℕ) → Option Holdings → Option ℕ
 sequence_fetches name scene None = None
 sequence_fetches name scene (Some held) = path_fetches (path_line (held name)) (option_and_then (scene_fetches (Some held)) scene)
 
-abbrev pub command_fetches : What → Option (List ℕ) → Option Held → Option ℕ
+abbrev pub command_fetches : What → Option (List ℕ) → Option Holdings → Option ℕ
 command_fetches Render scene shelf = load_fetches Render scene shelf
 command_fetches (Pick x y) scene shelf = load_fetches (Pick x y) scene shelf
 command_fetches (Demo number) scene shelf = load_fetches (Demo number) scene shelf
 command_fetches (Sequence name) scene shelf = sequence_fetches name scene shelf
 
-abbrev pub words_fetches : Result Job WordFault → Option (List ℕ) → Option Held → Option ℕ
+abbrev pub words_fetches : Result Job WordFault → Option (List ℕ) → Option Holdings → Option ℕ
 words_fetches (Err why) scene shelf = Some 0
 words_fetches (Ok job) scene shelf = command_fetches job.what scene shelf
 
 -- The number of fetches, where what it hangs on is told.
-unfoldable pub fetches : List (List ℕ) → Option (List ℕ) → Option Held → Option ℕ
+unfoldable pub fetches : List (List ℕ) → Option (List ℕ) → Option Holdings → Option ℕ
 fetches words scene shelf = words_fetches (job words) scene shelf
 
 -- And the path of a sequence.
@@ -86,17 +86,17 @@ LoadNeedsNoSource (Demo number) = Unit {0}
 LoadNeedsNoSource (Sequence name) = ⊥
 
 -- A sequence whose path is refused reads no scene.
-abbrev pub PathIsRefused : List ℕ → Option Held → Type 0
+abbrev pub PathIsRefused : List ℕ → Option Holdings → Type 0
 PathIsRefused name None = ⊥
 PathIsRefused name (Some held) = IsErr (path_line (held name))
 
-abbrev pub CommandNeedsNoSource : What → Option Held → Type 0
+abbrev pub CommandNeedsNoSource : What → Option Holdings → Type 0
 CommandNeedsNoSource Render shelf = ⊥
 CommandNeedsNoSource (Pick x y) shelf = ⊥
 CommandNeedsNoSource (Demo number) shelf = Unit {0}
 CommandNeedsNoSource (Sequence name) shelf = PathIsRefused name shelf
 
 -- The source isn't called for `demo`, nor where the words give no job, nor where the path of a sequence is refused.
-abbrev pub NeedsNoSource : Result Job WordFault → Option Held → Type 0
+abbrev pub NeedsNoSource : Result Job WordFault → Option Holdings → Type 0
 NeedsNoSource (Err why) shelf = Unit {0}
 NeedsNoSource (Ok job) shelf = CommandNeedsNoSource job.what shelf

@@ -6,11 +6,11 @@ use Rattle.abuf_top.specs.declared.stop.Refusal.{Refusal}
 use Rattle.abuf_top.specs.declared.stop.Refusal.TheVariants.{LibraryMissing, LibraryTooLong, LibraryLine}
 
 -- What a shelf holds: the content under a name, or nothing.
-abbrev pub Held : Type 0
-Held = List ℕ → Option (List ℕ)
+abbrev pub Holdings : Type 0
+Holdings = List ℕ → Option (List ℕ)
 
 -- What a shelf tells of what it holds.
-abbrev pub told_by : Bool → Held → Option Held
+abbrev pub told_by : Bool → Holdings → Option Holdings
 told_by true held = Some held
 told_by false held = None
 
@@ -34,12 +34,12 @@ with_content before None = before
 with_content before (Some content) = before ++ content ∷ []
 
 -- The first refusal of the libraries of these names, of which the first has the number k.
-abbrev pub refusal_from : Held → ℕ → List (List ℕ) → List (List ℕ) → Option Refusal
+abbrev pub refusal_from : Holdings → ℕ → List (List ℕ) → List (List ℕ) → Option Refusal
 refusal_from held k before [] = None
 refusal_from held k before (name ∷ names) =
     or_later (library_refusal k before (held name)) (refusal_from held (k + 1) (with_content before (held name)) names)
 
-abbrev pub first_refusal : Held → List (List ℕ) → Option Refusal
+abbrev pub first_refusal : Holdings → List (List ℕ) → Option Refusal
 first_refusal held names = refusal_from held 1 [] names
 
 abbrev pub one_and : Option Refusal → ℕ → ℕ
@@ -47,18 +47,18 @@ one_and None later = 1 + later
 one_and (Some refusal) later = 1
 
 -- How many of the libraries are asked for: up to the first that is refused.
-abbrev pub asked_from : Held → ℕ → List (List ℕ) → List (List ℕ) → ℕ
+abbrev pub asked_from : Holdings → ℕ → List (List ℕ) → List (List ℕ) → ℕ
 asked_from held k before [] = 0
 asked_from held k before (name ∷ names) =
     one_and (library_refusal k before (held name)) (asked_from held (k + 1) (with_content before (held name)) names)
 
-abbrev pub asked : Held → List (List ℕ) → ℕ
+abbrev pub asked : Holdings → List (List ℕ) → ℕ
 asked held names = asked_from held 1 [] names
 
 -- The contents of the libraries of these names, behind others.
-abbrev pub contents_from : Held → List (List ℕ) → List (List ℕ) → List (List ℕ)
+abbrev pub contents_from : Holdings → List (List ℕ) → List (List ℕ) → List (List ℕ)
 contents_from held before [] = before
 contents_from held before (name ∷ names) = contents_from held (with_content before (held name)) names
 
-abbrev pub contents : Held → List (List ℕ) → List (List ℕ)
+abbrev pub contents : Holdings → List (List ℕ) → List (List ℕ)
 contents held names = contents_from held [] names

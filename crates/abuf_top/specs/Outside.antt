@@ -3,7 +3,7 @@
 use Rattle.std.specs.Prelude.{◌⊎◌, Bool, ℕ, List, Option}
 use Rattle.abuf_io.specs.Causes.{Rose}
 use Rattle.abuf_sequence.specs.Sequences.{Taken}
-use Rattle.abuf_top.specs.Libraries.{Held, told_by}
+use Rattle.abuf_top.specs.Libraries.{Holdings, told_by}
 
 -- The bytes that a source had left before the run and has left after it, where it tells, and its counts of faults.
 pub record SourceChange : Type 0 where
@@ -15,7 +15,7 @@ pub record SourceChange : Type 0 where
 -- What a shelf holds, and whether it tells; its counts of calls and of faults before the run and after it.
 pub record ShelfChange : Type 0 where
   pub tells : Bool
-  pub holds : Held
+  pub holds : Holdings
   pub calls_old : ℕ
   pub calls_new : ℕ
   pub faults_old : ℕ
@@ -32,7 +32,7 @@ pub record Outside : Type 0 where
 abbrev pub source_change : {S : Type 0} → (S → Option (List ℕ)) → (S → ℕ) → S → S → SourceChange
 source_change left faults old new = record { left_old = left old; left_new = left new; faults_old = faults old; faults_new = faults new }
 
-abbrev pub shelf_change : {H : Type 0} → (H → Bool) → (H → Held) → (H → ℕ) → (H → ℕ) → H → H → ShelfChange
+abbrev pub shelf_change : {H : Type 0} → (H → Bool) → (H → Holdings) → (H → ℕ) → (H → ℕ) → H → H → ShelfChange
 shelf_change tells holds calls faults old new = record {
   tells = tells old;
   holds = holds old;
@@ -46,7 +46,7 @@ abbrev pub sink_change : {O : Type 0} → (O → Option (List ℕ)) → (O → �
 sink_change taken faults old new = record { old = taken old; new = taken new; faults_old = faults old; faults_new = faults new }
 
 -- What a shelf tells of what it holds.
-abbrev pub told : ShelfChange → Option Held
+abbrev pub told : ShelfChange → Option Holdings
 told shelf = told_by shelf.tells shelf.holds
 
 -- A count of faults of reading rose.

@@ -20,7 +20,7 @@ use Rattle.abuf_sequence.specs.Sequences as sequence
 use Rattle.abuf_sequence.specs.Sequences.{sound_images}
 use Rattle.abuf_top.specs.Paths.{path_line}
 use Rattle.abuf_top.specs.Images.{Images, plan_of, image_pool}
-use Rattle.abuf_top.specs.Libraries.{Held, first_refusal, contents}
+use Rattle.abuf_top.specs.Libraries.{Holdings, first_refusal, contents}
 use Rattle.abuf_top.specs.Demonstration.{scene_for, shelf_of}
 use Rattle.abuf_top.specs.Image.{Drawing, drawing_of, total}
 use Rattle.abuf_top.specs.Output.{output}
@@ -70,25 +70,25 @@ or_refusal (Some refusal) later = Err refusal
 or_refusal None later = later
 
 -- The libraries in order, and then the materials.
-abbrev pub library_line : Obj → Held → Result (List Triangle) Refusal
+abbrev pub library_line : Obj → Holdings → Result (List Triangle) Refusal
 library_line scene held = or_refusal (first_refusal held scene.libraries) (material_line scene (contents held scene.libraries))
 
 -- A scene without libraries needs no shelf.
-abbrev pub shelf_for : List (List ℕ) → Option Held → Option Held
+abbrev pub shelf_for : List (List ℕ) → Option Holdings → Option Holdings
 shelf_for [] shelf = Some (λ name. None)
 shelf_for (name ∷ names) shelf = shelf
 
 -- The first fault of the scene's lines, and then the libraries.
-abbrev pub fault_line : Obj → Option Held → Option (ℕ × Why) → Option (Result (List Triangle) Refusal)
+abbrev pub fault_line : Obj → Option Holdings → Option (ℕ × Why) → Option (Result (List Triangle) Refusal)
 fault_line scene shelf (Some fault) = Some (Err (SceneLine fault.0 fault.1))
 fault_line scene shelf None = option_map (library_line scene) (shelf_for scene.libraries shelf)
 
 -- The length of the scene, and then its lines.
-abbrev pub scene_line : Option Held → List ℕ → Option (Result (List Triangle) Refusal)
+abbrev pub scene_line : Option Holdings → List ℕ → Option (Result (List Triangle) Refusal)
 scene_line shelf bytes = if nat_lt 67108864 (length bytes) then Some (Err SceneTooLong) else fault_line (scene_of bytes) shelf (obj_fault bytes)
 
 -- The scene of a command: that of the source and the shelf, or `demo`'s own.
-abbrev pub loaded : What → Option (List ℕ) → Option Held → Option (Result (List Triangle) Refusal)
+abbrev pub loaded : What → Option (List ℕ) → Option Holdings → Option (Result (List Triangle) Refusal)
 loaded what scene shelf = option_and_then (scene_line (shelf_of what shelf)) (scene_for what scene)
 
 abbrev pub word_refusal : WordFault → Refusal
@@ -107,27 +107,27 @@ images_line job shots (Err refusal) = Err refusal
 images_line job shots (Ok triangles) = Ok (Sequence (record { plan = plan_of job; triangles = triangles; shots = shots }))
 
 -- The path, and then the scene.
-abbrev pub shots_line : Job → Option (List ℕ) → Option Held → Result (List Shot) Refusal → Option (Result Task Refusal)
+abbrev pub shots_line : Job → Option (List ℕ) → Option Holdings → Result (List Shot) Refusal → Option (Result Task Refusal)
 shots_line job scene shelf (Err refusal) = Some (Err refusal)
 shots_line job scene shelf (Ok shots) = option_map (images_line job shots) (loaded job.what scene shelf)
 
-abbrev pub sequence_line : Job → List ℕ → Option (List ℕ) → Option Held → Option (Result Task Refusal)
+abbrev pub sequence_line : Job → List ℕ → Option (List ℕ) → Option Holdings → Option (Result Task Refusal)
 sequence_line job name scene None = None
 sequence_line job name scene (Some held) = shots_line job scene (Some held) (path_line (held name))
 
-abbrev pub command_line : What → Job → Option (List ℕ) → Option Held → Option (Result Task Refusal)
+abbrev pub command_line : What → Job → Option (List ℕ) → Option Holdings → Option (Result Task Refusal)
 command_line what.Render job scene shelf = option_map (drawing_line job) (loaded job.what scene shelf)
 command_line (what.Pick x y) job scene shelf = option_map (drawing_line job) (loaded job.what scene shelf)
 command_line (what.Demo number) job scene shelf = option_map (drawing_line job) (loaded job.what scene shelf)
 command_line (what.Sequence name) job scene shelf = sequence_line job name scene shelf
 
 -- The words, and then the path of a sequence and the scene.
-abbrev pub words_line : Result Job WordFault → Option (List ℕ) → Option Held → Option (Result Task Refusal)
+abbrev pub words_line : Result Job WordFault → Option (List ℕ) → Option Holdings → Option (Result Task Refusal)
 words_line (Err why) scene shelf = Some (Err (word_refusal why))
 words_line (Ok job) scene shelf = command_line job.what job scene shelf
 
 -- The first refusal of the words, the path, the scene, the libraries and the materials, or what is drawn.
-unfoldable pub task : List (List ℕ) → Option (List ℕ) → Option Held → Option (Result Task Refusal)
+unfoldable pub task : List (List ℕ) → Option (List ℕ) → Option Holdings → Option (Result Task Refusal)
 task words scene shelf = words_line (job words) scene shelf
 
 -- Where the pool of a whole image has fewer nodes than there are fragments, it is full.
@@ -175,5 +175,5 @@ abbrev pub last_line : Result Task Refusal → Verdict
 last_line (Err refusal) = refuse (refusal_status refusal) (refusal_text refusal)
 last_line (Ok t) = task_line t
 
-abbrev pub verdict : List (List ℕ) → Option (List ℕ) → Option Held → Option Verdict
+abbrev pub verdict : List (List ℕ) → Option (List ℕ) → Option Holdings → Option Verdict
 verdict words scene shelf = option_map last_line (task words scene shelf)

@@ -19,7 +19,7 @@ impl Loaded {
     ghost use Rattle.std.specs.Prelude.{◌≡◌, ◌≤◌, All, List as Items, ℕ, length, IfOk, IfErr};
     ghost use Rattle.abuf_cli.specs.Sound.{IsJob};
     ghost use Rattle.abuf_obj.specs.Sound.{IsScene};
-    ghost use Rattle.abuf_scene.specs.Triangles.{IsNearTriangle};
+    ghost use Rattle.abuf_scene.specs.Triangles.{IsTriangleInRange};
     ghost use Rattle.abuf_mtl.specs.StandsFor.{StandsFor};
     ghost use Rattle.abuf_top.specs.Prepared.{Prepares, Assembles};
     ghost use Rattle.abuf_top.specs.Stopped.{HasReadCause};
@@ -55,7 +55,7 @@ impl Loaded {
         requires scene { IsScene self.obj }
         ensures told { (libraries : Items (Items ℕ)) → StandsFor libraries self.materials → Assembles (material_line self.obj libraries) ⊥ result }
         ensures cause { IfErr result (HasReadCause ⊥) }
-        ensures near { IfOk result (λ scene. All IsNearTriangle scene.triangles) }
+        ensures near { IfOk result (λ scene. All IsTriangleInRange scene.triangles) }
         ensures few { IfOk result (λ scene. length scene.triangles ≤ 1048576) }
     {
         let scene = assemble(alloc, &self.obj, &self.materials)?;

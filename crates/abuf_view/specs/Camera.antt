@@ -35,8 +35,8 @@ IsTurn t =
     × (¬ ((t.a ≡ pos 0) × (t.b ≡ pos 0) × (t.c ≡ pos 0) × (t.d ≡ pos 0)))
 
 -- Each part is at most 2147483647 either way.
-abbrev pub IsNearby : Place → Type 0
-IsNearby p = (unsigned_abs p.x ≤ 2147483647) × (unsigned_abs p.y ≤ 2147483647) × (unsigned_abs p.z ≤ 2147483647)
+abbrev pub IsBounded : Place → Type 0
+IsBounded p = (unsigned_abs p.x ≤ 2147483647) × (unsigned_abs p.y ≤ 2147483647) × (unsigned_abs p.z ≤ 2147483647)
 
 -- From low to high.
 abbrev pub IsFrom : ℤ → ℤ → ℤ → Type 0
@@ -50,7 +50,7 @@ IsLens focal near = IsFrom (pos 1) (pos 1048576) focal × IsFrom (pos 4096) (pos
 pub record IsCamera (k : Camera) : Type 0 where
   pub size : IsSize k.width k.height
   pub turn : IsTurn k.turn
-  pub shift : IsNearby k.shift
+  pub shift : IsBounded k.shift
   pub lens : IsLens k.focal k.near
 
 -- The norm of the turn (a, b, c, d), a quaternion: the sum of the squares of its parts.

@@ -1,7 +1,7 @@
 -- What is computed once of a camera.
 use Rattle.std.specs.Prelude.{◌≤◌, ℤ, pos, ◌+ℤ◌, ◌*ℤ◌, neg_ℤ, unsigned_abs, List, map, flat_map}
 use Rattle.abuf_num.specs.declared.plain.Paint.{Paint}
-use Rattle.abuf_view.specs.Camera.{Camera, norm, row_x, row_y, row_z, dot, plane, place_of, IsNearby, IsFrom}
+use Rattle.abuf_view.specs.Camera.{Camera, norm, row_x, row_y, row_z, dot, plane, place_of, IsBounded, IsFrom}
 use Rattle.abuf_scene.specs.declared.triangles.Triangle.{Triangle}
 use Rattle.abuf_raster.specs.Triangle.{Triangle as OnScreen}
 use Rattle.abuf_view.specs.Clip.{IsView, clipped}
@@ -47,7 +47,7 @@ pub record IsEye (e : Eye) : Type 0 where
   pub x_row : IsRow e.view.norm e.x
   pub y_row : IsRow e.view.norm e.y
   pub z_row : IsRow e.view.norm e.z
-  pub shift : IsNearby e.shift
+  pub shift : IsBounded e.shift
   pub width : e.screen.width ≤ 4096
   pub height : e.screen.height ≤ 4096
   pub focal : IsFrom (pos 0) (pos 1048576) e.screen.focal

@@ -1,6 +1,6 @@
 // The primitives of faces, without a list of their triangles.
 ghost use Rattle.std.specs.Prelude.{◌≡◌, ◌≤◌, ◌<◌, ◌++◌, All, length, flat_map, None, OnOk, IfOk, IfErr};
-ghost use Rattle.abuf_obj.specs.Sound.{IsFace, IsNear};
+ghost use Rattle.abuf_obj.specs.Sound.{IsFace, IsInRange};
 ghost use Rattle.abuf_scene.specs.Triangles.{fan, paint_by, triangles_of, Tells};
 ghost use Rattle.abuf_scene.specs.Lookup.{look_up, line_if_none};
 ghost use Rattle.abuf_view.specs.Eye.{IsEye, tris_by, paints_by};
@@ -26,7 +26,7 @@ impl Projected {
         requires eye { IsEye eye.now }
         requires three { 3 ≤ length corners.now }
         requires points { All (λ c. c < length points.now) corners.now }
-        requires near { All IsNear points.now }
+        requires near { All IsInRange points.now }
         ensures tris { OnOk result (self.new.tris ≡ self.old.tris ++ tris_by eye.now (fan points.now corners.now paint)) }
         ensures paints { OnOk result (self.new.paints ≡ self.old.paints ++ paints_by eye.now (fan points.now corners.now paint)) }
     {
@@ -47,7 +47,7 @@ impl Projected {
     ) -> Result<(), SceneFault>
         requires eye { IsEye eye.now }
         requires face { IsFace (length obj.now.points) (length obj.now.names) face.now }
-        requires near { All IsNear obj.now.points }
+        requires near { All IsInRange obj.now.points }
         ensures fault { IfErr result (Tells (line_if_none face.now.line (paint_by (look_up materials.now) obj.now.names face.now.name))) }
         ensures known { OnOk result (line_if_none face.now.line (paint_by (look_up materials.now) obj.now.names face.now.name) ≡ None) }
         ensures tris { OnOk result (self.new.tris ≡ self.old.tris ++ tris_by eye.now (triangles_of (look_up materials.now) obj.now face.now)) }
@@ -73,7 +73,7 @@ pub fn project_run(
 ) -> Result<Projected, SceneFault>
     requires eye { IsEye eye.now }
     requires faces { All (IsFace (length obj.now.points) (length obj.now.names)) faces.now }
-    requires near { All IsNear obj.now.points }
+    requires near { All IsInRange obj.now.points }
     ensures fault { IfErr result (Tells (unknown_in (look_up materials.now) obj.now.names faces.now)) }
     ensures known { OnOk result (unknown_in (look_up materials.now) obj.now.names faces.now ≡ None) }
     ensures tris { IfOk result (λ p. p.tris ≡ tris_by eye.now (flat_map (triangles_of (look_up materials.now) obj.now) faces.now)) }

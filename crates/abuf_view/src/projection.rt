@@ -1,10 +1,10 @@
 // A scene's triangles on the screen.
 ghost use Rattle.std.specs.Prelude.{◌≡◌, ◌≤◌, ◌++◌, All, map, length, option_to_list, OnOk, IfOk, IfSome};
-ghost use Rattle.abuf_view.specs.Camera.{IsNearby, place_of};
+ghost use Rattle.abuf_view.specs.Camera.{IsBounded, place_of};
 ghost use Rattle.abuf_view.specs.Clip.{IsInFront};
 ghost use Rattle.abuf_view.specs.Eye.{IsEye, clipped_by, shown_by};
-ghost use Rattle.abuf_obj.specs.Sound.{IsNear};
-ghost use Rattle.abuf_scene.specs.Triangles.{IsNearTriangle};
+ghost use Rattle.abuf_obj.specs.Sound.{IsInRange};
+ghost use Rattle.abuf_scene.specs.Triangles.{IsTriangleInRange};
 ghost use Rattle.abuf_view.specs.Primitives.{prims};
 
 use crate::clipping::{Corners, clip};
@@ -26,9 +26,9 @@ pub struct Projected {
 }
 
 fn place(point: [i64; 3]) -> Place
-    requires { IsNear point }
+    requires { IsInRange point }
     ensures value { result ≡ place_of point }
-    ensures near { IsNearby result }
+    ensures near { IsBounded result }
 {
     Place {
         x: point[0],
@@ -57,7 +57,7 @@ impl Projected {
     /// Puts the primitives of a triangle last.
     pub fn push_triangle(&mut self, eye: &Eye, t: &Triangle) -> Result<(), NoMemory>
         requires eye { IsEye eye.now }
-        requires near { IsNearTriangle t.now }
+        requires near { IsTriangleInRange t.now }
         ensures tris { OnOk result (self.new.tris ≡ self.old.tris ++ map (shown_by eye.now) (clipped_by eye.now t.now)) }
         ensures paints { OnOk result (self.new.paints ≡ self.old.paints ++ map (λ _. t.now.paint) (clipped_by eye.now t.now)) }
     {
@@ -75,7 +75,7 @@ impl Projected {
 /// corners that are in front of the near plane. The caller owes that the scene's coordinates are at most 2147483647 either way, in
 /// units of 1/65536, and that it has at most 1048576 triangles. The error is want of memory alone.
 pub fn project(alloc: Global, scene: &Scene, camera: &Camera) -> Result<Projected, NoMemory>
-    requires near { All IsNearTriangle scene.now.triangles }
+    requires near { All IsTriangleInRange scene.now.triangles }
     requires few { length scene.now.triangles ≤ 1048576 }
     ensures tris { IfOk result (λ p. p.tris ≡ map (λ q. q.triangle) (prims camera.now scene.now.triangles)) }
     ensures paints { IfOk result (λ p. p.paints ≡ map (λ q. q.paint) (prims camera.now scene.now.triangles)) }

@@ -1,7 +1,7 @@
 // Whole scenes before a camera, and the camera's bounds.
 ghost use Rattle.std.specs.Prelude.{◌≤◌, All, IfOk, length, unsigned_abs};
-ghost use Rattle.abuf_obj.specs.Sound.{IsNear};
-ghost use Rattle.abuf_scene.specs.Triangles.{IsNearTriangle};
+ghost use Rattle.abuf_obj.specs.Sound.{IsInRange};
+ghost use Rattle.abuf_scene.specs.Triangles.{IsTriangleInRange};
 ghost use Rattle.abuf_raster.specs.Region.{IsRegion};
 
 use crate::threads::{all_faces, faces_per_run};
@@ -25,7 +25,7 @@ fn point(x: i64, y: i64, z: i64) -> [i64; 3]
     requires x { unsigned_abs x ≤ 2147483647 }
     requires y { unsigned_abs y ≤ 2147483647 }
     requires z { unsigned_abs z ≤ 2147483647 }
-    ensures { IsNear result }
+    ensures { IsInRange result }
 {
     [x, y, z]
 }
@@ -38,9 +38,9 @@ fn seen_by(
     b: [i64; 3],
     c: [i64; 3],
 ) -> Result<Projected, NoMemory>
-    requires a { IsNear a }
-    requires b { IsNear b }
-    requires c { IsNear c }
+    requires a { IsInRange a }
+    requires b { IsInRange b }
+    requires c { IsInRange c }
 {
     let mut triangles = List::new(alloc);
     triangles.push(Triangle {

@@ -1,7 +1,7 @@
 // The camera.
 ghost use Rattle.std.specs.Prelude.{◌≡◌, ◌≤◌, ◌*◌, ◌↔◌, pos, ◌≤ℤ◌, unsigned_abs, IsTrue, MatchOption};
 ghost use Rattle.abuf_view.specs.Eye.{eye_of, IsEye};
-ghost use Rattle.abuf_view.specs.Camera.{Camera as Viewpoint, camera, IsCamera, IsSize, IsTurn, IsNearby, IsFrom, IsLens};
+ghost use Rattle.abuf_view.specs.Camera.{Camera as Viewpoint, camera, IsCamera, IsSize, IsTurn, IsBounded, IsFrom, IsLens};
 
 use crate::clipping::View;
 use crate::screen::Screen;
@@ -82,7 +82,7 @@ fn is_coordinate(part: i64) -> bool
 }
 
 fn is_nearby(place: Place) -> bool
-    ensures { IsTrue result ↔ IsNearby place }
+    ensures { IsTrue result ↔ IsBounded place }
 {
     is_coordinate(place.x) && is_coordinate(place.y) && is_coordinate(place.z)
 }

@@ -39,7 +39,7 @@ pub struct Images {
 
 impl Model for Images {
     ghost use Rattle.std.specs.Prelude.{◌≤◌, All, length};
-    ghost use Rattle.abuf_scene.specs.Triangles.{IsNearTriangle};
+    ghost use Rattle.abuf_scene.specs.Triangles.{IsTriangleInRange};
     ghost use Rattle.abuf_sequence.specs.Paths.{IsShot};
     ghost use Rattle.abuf_sequence.specs.Sequences.{IsPlan};
     ghost use Rattle.abuf_top.specs.Images.{Images};
@@ -48,19 +48,19 @@ impl Model for Images {
 
     ghost view = { λ i. record { plan = i.plan; triangles = i.scene.triangles; shots = i.shots } };
 
-    ghost invariant = { λ i. All IsNearTriangle i.scene.triangles × (length i.scene.triangles ≤ 1048576) × All IsShot i.shots × (length i.shots ≤ 4096) × IsPlan i.plan };
+    ghost invariant = { λ i. All IsTriangleInRange i.scene.triangles × (length i.scene.triangles ≤ 1048576) × All IsShot i.shots × (length i.shots ≤ 4096) × IsPlan i.plan };
 }
 
 impl Images {
     ghost use Rattle.std.specs.Prelude.{◌≡◌, ◌≤◌, All, length, Some};
-    ghost use Rattle.abuf_scene.specs.Triangles.{IsNearTriangle};
+    ghost use Rattle.abuf_scene.specs.Triangles.{IsTriangleInRange};
     ghost use Rattle.abuf_sequence.specs.Paths.{IsShot};
     ghost use Rattle.abuf_sequence.specs.Sequences.{IsPlan, IsSequenceAnswer};
     ghost use Rattle.abuf_top.specs.Outside.{sink_change};
 
     /// The images of these shots.
     fn new(scene: Scene, shots: List<Shot>, plan: Plan) -> Images
-        requires near { All IsNearTriangle scene.triangles }
+        requires near { All IsTriangleInRange scene.triangles }
         requires few { length scene.triangles ≤ 1048576 }
         requires shots { All IsShot shots }
         requires few_shots { length shots ≤ 4096 }

@@ -1,6 +1,6 @@
 use Rattle.std.proofs.Common.{◌+◌, ◌∷◌, [], List, ℕ, length, subst, sym, ap, arith}
 use Rattle.std.proofs.lemmas.List.Elements.{All-nil, All-same}
-use Rattle.abuf_obj.specs.Sound.{IsNear, IsFan, triangles_in}
+use Rattle.abuf_obj.specs.Sound.{IsInRange, IsFan, triangles_in}
 use Rattle.std.proofs.lemmas.List.{map-append}
 use Rattle.abuf_text.specs.Lines.{lines}
 use Rattle.abuf_obj.proofs.Reading.{HasRead, read-more, texts}
@@ -23,7 +23,7 @@ invariant_of-reader c = record {
   few_triangles = omega arith;
   few_names = omega (arith, ap length c.new-3.ensures);
   few_libraries = omega (arith, ap length c.new-4.ensures);
-  near = All-same IsNear c.new.result [] c.new.ensures (All-nil IsNear);
+  near = All-same IsInRange c.new.result [] c.new.ensures (All-nil IsInRange);
   fans = All-same (IsFan (length c.new-3.result)) c.new-2.result [] c.new-2.ensures (All-nil (IsFan (length c.new-3.result)));
   counts = ap triangles_in c.new-2.ensures;
   named = tt;

@@ -1,6 +1,6 @@
 use Rattle.std.proofs.Common.{◌∙◌, ◌++◌, ◌∷◌, [], arith, ap, length, length-append}
 use Rattle.std.proofs.lemmas.List.Elements.{All-same, All-push}
-use Rattle.abuf_scene.specs.Triangles.{triangle, IsNearTriangle}
+use Rattle.abuf_scene.specs.Triangles.{triangle, IsTriangleInRange}
 use Rattle.abuf_scene.proofs.Turns.{fan_more}
 use Rattle.abuf_scene.proofs.fans.push_fan.Goals as goal
 
@@ -15,5 +15,5 @@ loop-i-preserved c =
       low = omega arith;
       fan = pushed ∙ fan_more f c.args.triangles.now c.loop-i.triangles i new before.low before.fan c.fan_triangle.ensures.value;
       count = omega (arith, ap length pushed, length-append c.loop-i.triangles (new ∷ []), before.count, before.low);
-      near = λ points old. All-same IsNearTriangle c.push.new.self (c.loop-i.triangles ++ new ∷ []) pushed (All-push IsNearTriangle c.loop-i.triangles new (before.near points old) (c.fan_triangle.ensures.near points));
+      near = λ points old. All-same IsTriangleInRange c.push.new.self (c.loop-i.triangles ++ new ∷ []) pushed (All-push IsTriangleInRange c.loop-i.triangles new (before.near points old) (c.fan_triangle.ensures.near points));
     }

@@ -1,6 +1,6 @@
 use Rattle.std.proofs.Common.{List as Items, All, arith, ◌≡◌, ◌∙◌, sym, ap, subst, length}
 use Rattle.std.proofs.lemmas.List.{length-map}
-use Rattle.abuf_scene.specs.Triangles.{IsNearTriangle}
+use Rattle.abuf_scene.specs.Triangles.{IsTriangleInRange}
 use Rattle.abuf_view.specs.Primitives.{Primitive, prims}
 use Rattle.abuf_view.proofs.Joining.{all_tris, all_paints, prims_few}
 use Rattle.abuf_view.proofs.projection.project.Goals as goal
@@ -29,5 +29,5 @@ returns-clause-few c =
 
 pub push_triangle-requires-clause-near : goal.push_triangle-requires-clause-near
 push_triangle-requires-clause-near c =
-    let near : All IsNearTriangle c.as_slice-triangle-items.result.now = subst (All IsNearTriangle) (sym c.as_slice-triangle-items.ensures) c.requires.near in
+    let near : All IsTriangleInRange c.as_slice-triangle-items.result.now = subst (All IsTriangleInRange) (sym c.as_slice-triangle-items.ensures) c.requires.near in
     near c.loop-triangle.triangle-index _ (omega arith)
