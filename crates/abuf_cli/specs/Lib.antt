@@ -1,6 +1,6 @@
 pub mod Options
 pub mod Commands
-pub mod Cuts
+pub mod Splits
 pub mod Values
 pub mod Jobs
 pub mod Poses

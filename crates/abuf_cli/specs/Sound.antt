@@ -1,5 +1,6 @@
 -- What every job keeps to.
 use Rattle.std.specs.Prelude.{ℕ, Bool, true, false, length, Option, None, IfSome, ◌≡◌, ◌≤◌, ◌<◌, ◌⊎◌}
+use Rattle.abuf_num.specs.declared.limits.TheConstants.{MAX_NODES, MAX_THREADS}
 use Rattle.abuf_view.specs.Camera.{IsSize, IsLens, IsCamera}
 use Rattle.abuf_cli.specs.Poses.{IsPose}
 use Rattle.abuf_cli.specs.declared.command.CommandName.{CommandName}
@@ -35,8 +36,8 @@ IsStorage height (Sequence name) bands peel = (bands ≡ None) × (peel ≡ fals
 -- What the settings of a command keep to.
 pub record IsSettings (name : CommandName) (s : Settings) : Type 0 where
   pub size : IsSize s.size.width s.size.height
-  pub threads : (1 ≤ s.threads) × (s.threads ≤ 64)
-  pub nodes : (1 ≤ s.nodes) × (s.nodes ≤ 8388608)
+  pub threads : (1 ≤ s.threads) × (s.threads ≤ MAX_THREADS)
+  pub nodes : (1 ≤ s.nodes) × (s.nodes ≤ MAX_NODES)
   pub pose : IsPose s.pose
   pub lens : IsLens s.lens.focal s.lens.near
   pub maxval : (s.maxval ≡ 255) ⊎ (s.maxval ≡ 65535)
@@ -45,7 +46,7 @@ pub record IsSettings (name : CommandName) (s : Settings) : Type 0 where
 pub record IsJob (job : Job) : Type 0 where
   pub what : IsWhat job.camera.width job.camera.height job.what
   pub camera : IsCamera job.camera
-  pub threads : (1 ≤ job.threads) × (job.threads ≤ 64)
-  pub nodes : (1 ≤ job.nodes) × (job.nodes ≤ 8388608)
+  pub threads : (1 ≤ job.threads) × (job.threads ≤ MAX_THREADS)
+  pub nodes : (1 ≤ job.nodes) × (job.nodes ≤ MAX_NODES)
   pub maxval : (job.maxval ≡ 255) ⊎ (job.maxval ≡ 65535)
   pub storage : IsStorage job.camera.height job.what job.bands job.peel

@@ -1,9 +1,11 @@
 -- What the texts of the options and values stand for. None is a text that isn't in its form, or a value out of its range.
-use Rattle.std.specs.Prelude.{◌*◌, ℕ, ℤ, pos, negsuc, min, ◌&&◌, nat_le, nat_lt, int_lt, not, List, [], ◌∷◌, codes, Option, Some, None, option_map, option_and_then, if◌then◌else◌}
+use Rattle.std.specs.Prelude.{◌*◌, ◌≤◌, ℕ, ℤ, pos, unsigned_abs, ◌&&◌, nat_le, nat_lt, int_lt, not, List, [], ◌∷◌, codes, Option, Some, None, option_map, option_and_then, if◌then◌else◌}
 use Rattle.std.specs.Str.{bytes_eq}
+use Rattle.abuf_num.specs.Paints.{channel}
 use Rattle.abuf_num.specs.Texts.{whole_number, scaled_number}
+use Rattle.abuf_num.specs.declared.limits.TheConstants.{MAX_COORDINATE, MAX_NODES, MAX_PIXELS, MAX_SIDE, MAX_THREADS}
 use Rattle.abuf_view.specs.Turns.{turn_part, turn_from}
-use Rattle.abuf_cli.specs.Cuts.{cut_at, three_texts, four_texts}
+use Rattle.abuf_cli.specs.Splits.{split_once, three_texts, four_texts}
 use Rattle.abuf_cli.specs.declared.values.Size.{Size}
 use Rattle.abuf_cli.specs.declared.values.Pixel.{Pixel}
 use Rattle.abuf_cli.specs.declared.values.Triple.{Triple}
@@ -13,7 +15,7 @@ use Rattle.abuf_raster.specs.declared.pattern.Pattern.TheVariants.{One, Two, Fou
 -- A width and a height of 1 to 4096 pixels, whose product is at most 4194304.
 abbrev pub size_within : ℕ → ℕ → Option Size
 size_within width height =
-    if nat_le 1 width && (nat_le width 4096 && (nat_le 1 height && (nat_le height 4096 && nat_le (width * height) 4194304)))
+    if nat_le 1 width && (nat_le width MAX_SIDE && (nat_le 1 height && (nat_le height MAX_SIDE && nat_le (width * height) MAX_PIXELS)))
     then Some (record { width = width; height = height }) else None
 
 -- The size of a width and a height, where both are numbers.
@@ -24,7 +26,7 @@ size_from (Some width) (Some height) = size_within width height
 
 -- `WxH`, each one to four digits; the first `x` (120) divides.
 abbrev pub size_of : List ℕ → Option Size
-size_of text = option_and_then (λ parts. size_from (whole_number 4 parts.0) (whole_number 4 parts.1)) (cut_at 120 text)
+size_of text = option_and_then (λ parts. size_from (whole_number 4 parts.0) (whole_number 4 parts.1)) (split_once 120 text)
 
 -- `1`, `2`, `4`, `8` or `16`.
 abbrev pub pattern_of : List ℕ → Option Pattern
@@ -42,11 +44,11 @@ counted least most (Some n) = if nat_le least n && nat_le n most then Some n els
 
 -- One or two digits, 1 to 64.
 abbrev pub threads_of : List ℕ → Option ℕ
-threads_of text = counted 1 64 (whole_number 2 text)
+threads_of text = counted 1 MAX_THREADS (whole_number 2 text)
 
 -- One to seven digits, 1 to 8388608.
 abbrev pub nodes_of : List ℕ → Option ℕ
-nodes_of text = counted 1 8388608 (whole_number 7 text)
+nodes_of text = counted 1 MAX_NODES (whole_number 7 text)
 
 -- `a,b,c,d`.
 abbrev pub turn_of : List ℕ → Option (List ℤ)
@@ -62,6 +64,10 @@ triple_from (Some x) (Some y) (Some z) = Some (record { x = x; y = y; z = z })
 -- `x,y,z`, each a decimal number, times k.
 abbrev pub three_scaled : ℕ → List ℕ → Option Triple
 three_scaled k text = option_and_then (λ t. triple_from (scaled_number k t.0) (scaled_number k t.1) (scaled_number k t.2)) (three_texts text)
+
+-- Each of the three is at most 2147483647 either way.
+abbrev pub AreInRange : Triple → Type 0
+AreInRange t = (unsigned_abs t.x ≤ MAX_COORDINATE) × (unsigned_abs t.y ≤ MAX_COORDINATE) × (unsigned_abs t.z ≤ MAX_COORDINATE)
 
 -- A shift, in units of 1/65536.
 abbrev pub shift_of : List ℕ → Option (List ℤ)
@@ -80,12 +86,7 @@ focal_of text = between (pos 1) (pos 1048576) (scaled_number 65536 text)
 abbrev pub near_of : List ℕ → Option ℤ
 near_of text = between (pos 4096) (pos 2147483647) (scaled_number 65536 text)
 
--- A channel of a colour, held into 0 to 65535.
-abbrev pub channel : ℤ → ℕ
-channel (pos n) = min n 65535
-channel (negsuc n) = 0
-
--- `r,g,b`, each a decimal number of which 1 is full; what lies past 0 or 1 is held.
+-- `r,g,b`, each a decimal number of which 1 is full; what lies past 0 or 1 is clamped.
 abbrev pub background_of : List ℕ → Option (List ℕ)
 background_of text = option_map (λ t. channel t.x ∷ channel t.y ∷ channel t.z ∷ []) (three_scaled 65535 text)
 
@@ -110,7 +111,7 @@ pixel_from size (Some x) (Some y) = pixel_within size x y
 
 -- `X,Y`, each one to four digits, a pixel within an image of this size; the first comma (44) divides.
 abbrev pub at_of : Size → List ℕ → Option Pixel
-at_of size text = option_and_then (λ parts. pixel_from size (whole_number 4 parts.0) (whole_number 4 parts.1)) (cut_at 44 text)
+at_of size text = option_and_then (λ parts. pixel_from size (whole_number 4 parts.0) (whole_number 4 parts.1)) (split_once 44 text)
 
 -- One to six digits, 1 to 200000.
 abbrev pub number_of : List ℕ → Option ℕ

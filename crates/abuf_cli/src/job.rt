@@ -49,7 +49,7 @@ pub enum Opt {
     Focal,
     /// `--near`, from 1/16 to 2147483647/65536. 0.125 by default.
     Near,
-    /// `--background r,g,b`, of which 1 is full; what lies past 0 or 1 is held. 0,0,0 by default.
+    /// `--background r,g,b`, of which 1 is full; what lies past 0 or 1 is clamped. 0,0,0 by default.
     Background,
     /// `--maxval`: 255 or 65535. 255 by default.
     Maxval,

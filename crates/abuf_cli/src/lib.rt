@@ -6,12 +6,12 @@
 #![tactic(auto)]
 
 mod command;
-mod cuts;
 mod job;
 mod options;
 #[cfg(test)]
 mod refusals;
 mod settings;
+mod splits;
 #[cfg(test)]
 mod tests;
 mod values;

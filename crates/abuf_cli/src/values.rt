@@ -1,10 +1,13 @@
 // What the texts of the options and values stand for.
-ghost use Rattle.std.specs.Prelude.{◌≡◌, ◌≤◌, ◌<◌, ◌^◌, ◌⊎◌, pos, IfSome, unsigned_abs};
+ghost use Rattle.std.specs.Prelude.{◌≡◌, ◌≤◌, ◌<◌, ◌^◌, ◌⊎◌, pos, IfSome};
 ghost use Rattle.abuf_view.specs.Camera.{IsSize, IsTurn, IsBounded, IsFrom, turn_of as quaternion, place_of};
-ghost use Rattle.abuf_cli.specs.Values.{size_of, size_within, pattern_of, counted, threads_of, nodes_of, turn_of, three_scaled, shift_of, between, focal_of, near_of, channel, background_of, maxval_of, bands_of, pixel_within, at_of, number_of};
+ghost use Rattle.abuf_num.specs.declared.limits.TheConstants.{MAX_NODES, MAX_THREADS};
+ghost use Rattle.abuf_cli.specs.Values.{size_of, size_within, pattern_of, counted, threads_of, nodes_of, turn_of, three_scaled, shift_of, between, focal_of};
+ghost use Rattle.abuf_cli.specs.Values.{near_of, background_of, maxval_of, bands_of, pixel_within, at_of, number_of, AreInRange};
 
-use crate::cuts::{cut_at, four_texts, three_texts};
-use abuf_num::{scaled_number, whole_number};
+use crate::splits::{four_texts, split_once, three_texts};
+use abuf_num::limits::{MAX_NODES, MAX_PIXELS, MAX_SIDE, MAX_THREADS};
+use abuf_num::{channel, scaled_number, whole_number};
 use abuf_raster::Pattern;
 use abuf_view::turn_from;
 
@@ -37,7 +40,12 @@ fn size_within(width: u32, height: u32) -> Option<Size>
     ensures value { result ≡ size_within width height }
     ensures within { IfSome result (λ s. IsSize s.width s.height) }
 {
-    if 1 <= width && width <= 4096 && 1 <= height && height <= 4096 && width * height <= 4194304 {
+    if 1 <= width
+        && width <= MAX_SIDE
+        && 1 <= height
+        && height <= MAX_SIDE
+        && width * height <= MAX_PIXELS
+    {
         Some(Size { width, height })
     } else {
         None
@@ -49,7 +57,7 @@ pub fn size_of(text: &[u8]) -> Option<Size>
     ensures value { result ≡ size_of text.now }
     ensures within { IfSome result (λ s. IsSize s.width s.height) }
 {
-    let (width, height) = cut_at(text, b'x')?;
+    let (width, height) = split_once(text, b'x')?;
     match (whole_number(width, 4), whole_number(height, 4)) {
         (Some(width), Some(height)) => size_within(width, height),
         _ => None,
@@ -84,17 +92,17 @@ fn counted(least: u32, most: u32, number: Option<u32>) -> Option<u32>
 /// A number of threads.
 pub fn threads_of(text: &[u8]) -> Option<u32>
     ensures value { result ≡ threads_of text.now }
-    ensures range { IfSome result (λ n. (1 ≤ n) × (n ≤ 64)) }
+    ensures range { IfSome result (λ n. (1 ≤ n) × (n ≤ MAX_THREADS)) }
 {
-    counted(1, 64, whole_number(text, 2))
+    counted(1, MAX_THREADS, whole_number(text, 2))
 }
 
 /// A number of nodes.
 pub fn nodes_of(text: &[u8]) -> Option<u32>
     ensures value { result ≡ nodes_of text.now }
-    ensures range { IfSome result (λ n. (1 ≤ n) × (n ≤ 8388608)) }
+    ensures range { IfSome result (λ n. (1 ≤ n) × (n ≤ MAX_NODES)) }
 {
-    counted(1, 8388608, whole_number(text, 7))
+    counted(1, MAX_NODES, whole_number(text, 7))
 }
 
 /// `a,b,c,d`.
@@ -111,7 +119,7 @@ fn three_scaled(text: &[u8], k: u32) -> Option<Triple>
     requires least { 1 ≤ k }
     requires most { k ≤ 65536 }
     ensures value { result ≡ three_scaled k text.now }
-    ensures range { IfSome result (λ t. (unsigned_abs t.x ≤ 2147483647) × (unsigned_abs t.y ≤ 2147483647) × (unsigned_abs t.z ≤ 2147483647)) }
+    ensures range { IfSome result AreInRange }
 {
     let (x, y, z) = three_texts(text)?;
     match (
@@ -160,13 +168,6 @@ pub fn near_of(text: &[u8]) -> Option<i64>
     between(4096, 2147483647, scaled_number(text, 65536))
 }
 
-// A channel of a colour.
-fn channel(value: i64) -> u16
-    ensures { result ≡ channel value }
-{
-    value.clamp(0, 65535) as u16
-}
-
 /// `r,g,b`, each in parts of 65535.
 pub fn background_of(text: &[u8]) -> Option<[u16; 3]>
     ensures { result ≡ background_of text.now }
@@ -212,7 +213,7 @@ pub fn at_of(size: Size, text: &[u8]) -> Option<Pixel>
     ensures value { result ≡ at_of size text.now }
     ensures within { IfSome result (λ p. (p.x < size.width) × (p.y < size.height)) }
 {
-    let (x, y) = cut_at(text, b',')?;
+    let (x, y) = split_once(text, b',')?;
     match (whole_number(x, 4), whole_number(y, 4)) {
         (Some(x), Some(y)) => pixel_within(size, x, y),
         _ => None,

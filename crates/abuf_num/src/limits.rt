@@ -13,7 +13,7 @@ pub const MAX_POINTS: usize = 1048576;
 pub const MAX_COORDINATE: u64 = 2147483647;
 
 /// The most elements of a face.
-pub const MAX_ELEMENTS: usize = 1024;
+pub const MAX_ELEMENTS: u32 = 1024;
 
 /// The most triangles that the faces of a scene have together.
 pub const MAX_TRIANGLES: u32 = 1048576;

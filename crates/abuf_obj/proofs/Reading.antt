@@ -10,7 +10,7 @@ use Rattle.abuf_obj.specs.Keywords.{keyword_of}
 use Rattle.abuf_obj.specs.Above.{Above, above_of, materials_on, libraries_on, materials_by, libraries_by, last_of}
 use Rattle.abuf_obj.specs.Faults.{why, fault_from}
 use Rattle.abuf_obj.specs.Scene.{points_of, points_in, faces_in, faces_from}
-use Rattle.abuf_obj.specs.Places.{held_face}
+use Rattle.abuf_obj.specs.Places.{clamped_face}
 use Rattle.abuf_obj.specs.Taking.{counted, with_line, name_by, TakesLine}
 use Rattle.abuf_obj.specs.declared.keyword.Keyword.{Keyword}
 use Rattle.abuf_obj.specs.declared.keyword.Keyword.TheVariants as keyword
@@ -27,7 +27,7 @@ pub record HasRead (before after all : List (List ℕ)) (number : ℕ) (r : Read
   pub fault : fault_from before after ≡ fault_from [] all
   pub above : counted r ≡ above_of before
   pub points : r.points ≡ points_of before
-  pub faces : r.faces ++ map held_face (faces_from before after) ≡ map held_face (faces_from [] all)
+  pub faces : r.faces ++ map clamped_face (faces_from before after) ≡ map clamped_face (faces_from [] all)
 
 module _ (before : List (List ℕ)) (line : List ℕ) where
   materials_on-more : materials_on (before ++ line ∷ []) ≡ materials_on before ++ materials_by (keyword_of (statement line)) (rest line)
@@ -78,8 +78,8 @@ module _ (before after all : List (List ℕ)) (number : ℕ) (old : Reader) (lin
         above = takes.counts ∙ ap (with_line (keyword_of (statement line)) (arguments line) (rest line)) read.above ∙ sym (above_of-more before line);
         points = takes.points ∙ ap (λ (ps : List _). ps ++ points_in line) read.points ∙ ap (λ (ps : List _). points_of before ++ ps) (sym (append-nil (points_in line))) ∙ sym (flat_map-append points_in before (line ∷ []));
         faces =
-            ap (λ (fs : List Face). fs ++ map held_face (faces_from (before ++ line ∷ []) after)) (takes.faces ∙ ap (λ (fs : List Face). old.faces ++ map held_face fs) same)
+            ap (λ (fs : List Face). fs ++ map clamped_face (faces_from (before ++ line ∷ []) after)) (takes.faces ∙ ap (λ (fs : List Face). old.faces ++ map clamped_face fs) same)
             ∙ append_assoc old.faces _ _
-            ∙ ap (λ (fs : List Face). old.faces ++ fs) (sym (map-append held_face (faces_in (length before + 1) (above_of before) line) (faces_from (before ++ line ∷ []) after)))
+            ∙ ap (λ (fs : List Face). old.faces ++ fs) (sym (map-append clamped_face (faces_in (length before + 1) (above_of before) line) (faces_from (before ++ line ∷ []) after)))
             ∙ read.faces;
       }

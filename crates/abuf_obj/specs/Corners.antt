@@ -1,5 +1,6 @@
 -- What is wrong with the elements of a face.
 use Rattle.std.specs.Prelude.{ℕ, nat_lt, List, length, Option, Some, None, is_some, if◌then◌else◌}
+use Rattle.abuf_num.specs.declared.limits.TheConstants.{MAX_ELEMENTS}
 use Rattle.abuf_obj.specs.Elements.{places_of}
 use Rattle.abuf_obj.specs.declared.fault.Why.{Why}
 use Rattle.abuf_obj.specs.declared.fault.Why.TheVariants as why_
@@ -8,5 +9,5 @@ use Rattle.abuf_obj.specs.declared.fault.Why.TheVariants as why_
 abbrev pub corners_why : ℕ → List (List ℕ) → Option Why
 corners_why above elements =
     if nat_lt (length elements) 3 then Some why_.TooFewElements
-    else (if nat_lt 1024 (length elements) then Some why_.TooManyElements
+    else (if nat_lt MAX_ELEMENTS (length elements) then Some why_.TooManyElements
     else (if is_some (places_of above elements) then None else Some why_.BadIndex))

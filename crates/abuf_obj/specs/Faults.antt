@@ -1,5 +1,6 @@
 -- What is wrong with a line, asked of each line by itself, by what stands above it.
 use Rattle.std.specs.Prelude.{◌≡◌, ◌||◌, ◌+◌, ◌-◌, ◌++◌, ◌∷◌, [], ℕ, nat_le, nat_lt, List, length, Option, Some, None, is_some, if◌then◌else◌}
+use Rattle.abuf_num.specs.declared.limits.TheConstants.{MAX_ELEMENTS, MAX_LIBRARIES, MAX_MATERIALS, MAX_POINTS, MAX_TRIANGLES}
 use Rattle.abuf_text.specs.Statement.{statement, arguments}
 use Rattle.abuf_text.specs.Rest.{rest}
 use Rattle.abuf_text.specs.Names as names
@@ -17,15 +18,17 @@ use Rattle.abuf_obj.specs.declared.fault.ObjFault.TheVariants.{Line, Memory}
 -- a `v` line: three numbers, and at most 1048576 points
 abbrev pub point_why : Above → List (List ℕ) → Option Why
 point_why above arguments =
-    if is_some (point_of arguments) then (if nat_lt above.points 1048576 then None else Some why_.TooManyPoints) else Some why_.BadNumber
+    if is_some (point_of arguments) then (if nat_lt above.points MAX_POINTS then None else Some why_.TooManyPoints)
+    else Some why_.BadNumber
 
 -- an `f` line: 3 to 1024 elements, each with a place, and at most 1048576 triangles
 abbrev pub face_why : Above → List (List ℕ) → Option Why
 face_why above elements =
     if nat_lt (length elements) 3 then Some why_.TooFewElements
-    else (if nat_lt 1024 (length elements) then Some why_.TooManyElements
+    else (if nat_lt MAX_ELEMENTS (length elements) then Some why_.TooManyElements
     else (if is_some (places_of above.points elements)
-    then (if nat_le (above.triangles + (length elements - 2)) 1048576 then None else Some why_.TooManyTriangles) else Some why_.BadIndex))
+    then (if nat_le (above.triangles + (length elements - 2)) MAX_TRIANGLES then None else Some why_.TooManyTriangles)
+    else Some why_.BadIndex))
 
 -- a line with a name, where there may be so many names
 abbrev pub name_why : ℕ → Why → List (List ℕ) → List ℕ → Option Why
@@ -36,8 +39,8 @@ name_why most too_many known name =
 abbrev pub why_by : Above → Keyword → List (List ℕ) → List ℕ → Option Why
 why_by above keyword.Vertex arguments rest = point_why above arguments
 why_by above keyword.Face arguments rest = face_why above arguments
-why_by above keyword.Material arguments rest = name_why 4096 why_.TooManyMaterials above.names rest
-why_by above keyword.Library arguments rest = name_why 16 why_.TooManyLibraries above.libraries rest
+why_by above keyword.Material arguments rest = name_why MAX_MATERIALS why_.TooManyMaterials above.names rest
+why_by above keyword.Library arguments rest = name_why MAX_LIBRARIES why_.TooManyLibraries above.libraries rest
 why_by above keyword.Passed arguments rest = None
 why_by above keyword.Refused arguments rest = Some why_.Keyword
 

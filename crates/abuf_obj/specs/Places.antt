@@ -3,8 +3,8 @@ use Rattle.std.specs.Prelude.{ℕ, map, min}
 use Rattle.abuf_obj.specs.declared.face.Face.{Face}
 
 -- a place that doesn't fit is no point's, and the last one that fits stands for it
-abbrev pub held : ℕ → ℕ
-held place = min place 4294967295
+abbrev pub clamped : ℕ → ℕ
+clamped place = min place 4294967295
 
-abbrev pub held_face : Face → Face
-held_face face = record face { corners = map held face.corners }
+abbrev pub clamped_face : Face → Face
+clamped_face face = record face { corners = map clamped face.corners }

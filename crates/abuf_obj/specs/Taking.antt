@@ -7,7 +7,7 @@ use Rattle.abuf_obj.specs.Keywords.{keyword_of}
 use Rattle.abuf_obj.specs.Above.{Above, is_vertex, triangles_by, materials_by, libraries_by}
 use Rattle.abuf_obj.specs.Faults.{why_by}
 use Rattle.abuf_obj.specs.Scene.{points_by, faces_by}
-use Rattle.abuf_obj.specs.Places.{held_face}
+use Rattle.abuf_obj.specs.Places.{clamped_face}
 use Rattle.abuf_obj.specs.declared.keyword.Keyword.{Keyword}
 use Rattle.abuf_obj.specs.declared.keyword.Keyword.TheVariants as keyword
 use Rattle.abuf_obj.specs.declared.reader.Reader.{Reader}
@@ -34,7 +34,7 @@ with_line word arguments text above = record {
 pub record TakesBy (number : ℕ) (word : Keyword) (arguments : List (List ℕ)) (text : List ℕ) (old new : Reader) : Type 0 where
   pub sound : why_by (counted old) word arguments text ≡ None
   pub points : new.points ≡ old.points ++ points_by word arguments
-  pub faces : new.faces ≡ old.faces ++ map held_face (faces_by number (counted old) word arguments)
+  pub faces : new.faces ≡ old.faces ++ map clamped_face (faces_by number (counted old) word arguments)
   pub counts : counted new ≡ with_line word arguments text (counted old)
 
 abbrev pub TakesLine : ℕ → List ℕ → Reader → Reader → Type 0

@@ -1,7 +1,7 @@
 // The elements of an `f` line.
 ghost use Rattle.std.specs.Prelude.{◌≡◌, ◌≤◌, ◌<◌, ◌^◌, Some, length, map, min, position, option_map, take, IfOk, IfSome};
 ghost use Rattle.abuf_obj.specs.Elements.{spelled_from, spelled, is_negative, without_minus, is_slash, before_slash, after_slash, is_unused_index, is_normal, is_texture_and_normal, from_last, from_first, place_of_index, place_of, places_of};
-ghost use Rattle.abuf_obj.specs.Places.{held};
+ghost use Rattle.abuf_obj.specs.Places.{clamped};
 
 use abuf_num::{List, NoMemory};
 use abuf_text::Statement;
@@ -59,7 +59,7 @@ fn first_slash(text: &[u8]) -> Option<usize>
 }
 
 // What stands before the first slash, and behind it if there is one.
-fn cut_slash(text: &[u8]) -> (&[u8], Option<&[u8]>)
+fn split_slash(text: &[u8]) -> (&[u8], Option<&[u8]>)
     ensures front { result.0.now ≡ before_slash text.now }
     ensures behind { option_map (λ t. t.now) result.1 ≡ after_slash text.now }
 {
@@ -90,7 +90,7 @@ fn is_texture_and_normal(text: Option<&[u8]>) -> bool
 {
     match text {
         Some(text) => {
-            let (texture, normal) = cut_slash(text);
+            let (texture, normal) = split_slash(text);
             is_unused_index(texture) && is_normal(normal)
         }
         None => true,
@@ -107,9 +107,9 @@ fn from_last(above: u32, n: u64) -> Option<u32>
     }
 }
 
-// Held, since a place past 32 bits is no point's.
+// Clamped, since a place past 32 bits is no point's.
 fn from_first(n: u64) -> Option<u32>
-    ensures { result ≡ option_map held (from_first n) }
+    ensures { result ≡ option_map clamped (from_first n) }
 {
     if n == 0 {
         None
@@ -122,7 +122,7 @@ fn from_first(n: u64) -> Option<u32>
 
 // The place of a point's index.
 fn place_of_index(above: u32, text: &[u8]) -> Option<u32>
-    ensures { result ≡ option_map held (place_of_index above text.now) }
+    ensures { result ≡ option_map clamped (place_of_index above text.now) }
 {
     if begins_negative(text) {
         match spelled(&text[1..]) {
@@ -139,9 +139,9 @@ fn place_of_index(above: u32, text: &[u8]) -> Option<u32>
 
 // The place of an element's point, by the parts of the element.
 fn place_by_parts(above: u32, text: &[u8]) -> Option<u32>
-    ensures { result ≡ option_map held (place_of above text.now) }
+    ensures { result ≡ option_map clamped (place_of above text.now) }
 {
-    let (index, behind) = cut_slash(text);
+    let (index, behind) = split_slash(text);
     if is_texture_and_normal(behind) {
         place_of_index(above, index)
     } else {
@@ -176,7 +176,7 @@ fn leading_digits(text: &[u8]) -> Leading
 
 /// The place of an element's point. An index that begins with a digit, as nearly all do, is read in one pass.
 pub fn place(above: u32, text: &[u8]) -> Option<u32>
-    ensures { result ≡ option_map held (place_of above text.now) }
+    ensures { result ≡ option_map clamped (place_of above text.now) }
 {
     let index = leading_digits(text);
     if index.count == 0 {
@@ -203,7 +203,7 @@ pub fn places(
     elements: Statement,
 ) -> Result<Option<List<u32>>, NoMemory>
     requires { length elements ≡ count }
-    ensures value { IfOk result (λ places. places ≡ option_map (map held) (places_of above elements.entry)) }
+    ensures value { IfOk result (λ places. places ≡ option_map (map clamped) (places_of above elements.entry)) }
     ensures count { IfOk result (λ places. IfSome places (λ list. length list ≡ count)) }
 {
     let mut list = Vec::with_capacity(alloc, count as usize)?;

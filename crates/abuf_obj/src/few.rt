@@ -2,7 +2,7 @@
 ghost use Rattle.std.specs.Prelude.{◌≡◌, [], Some, length, map, option_map, IfOk, IfSome};
 ghost use Rattle.abuf_obj.specs.Elements.{places_of, put_first};
 ghost use Rattle.abuf_obj.specs.Few.{elements_of};
-ghost use Rattle.abuf_obj.specs.Places.{held};
+ghost use Rattle.abuf_obj.specs.Places.{clamped};
 
 use crate::element::place;
 use abuf_num::{List, NoMemory};
@@ -81,7 +81,7 @@ impl<'a> Few<'a> {
 
     /// The places of the elements, if each has one.
     pub fn places(self, alloc: Global, above: u32) -> Result<Option<List<u32>>, NoMemory>
-        ensures value { IfOk result (λ places. places ≡ option_map (map held) (places_of above (elements_of self.entry))) }
+        ensures value { IfOk result (λ places. places ≡ option_map (map clamped) (places_of above (elements_of self.entry))) }
         ensures count { IfOk result (λ places. IfSome places (λ list. length list ≡ length (elements_of self.entry))) }
     {
         let (first, second, third) = (

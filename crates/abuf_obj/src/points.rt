@@ -1,5 +1,6 @@
 // The point of a `v` line.
 ghost use Rattle.std.specs.Prelude.{◌≡◌, ◌≤◌, All, IfSome, unsigned_abs};
+ghost use Rattle.abuf_num.specs.declared.limits.TheConstants.{MAX_COORDINATE};
 ghost use Rattle.abuf_obj.specs.Points.{coordinate, point_from, point_of};
 ghost use Rattle.abuf_obj.specs.Sound.{IsInRange};
 
@@ -9,15 +10,15 @@ use abuf_text::Statement;
 // A number in units of 1/65536.
 fn coordinate(text: &[u8]) -> Option<i64>
     ensures value { result ≡ coordinate text.now }
-    ensures near { IfSome result (λ z. unsigned_abs z ≤ 2147483647) }
+    ensures near { IfSome result (λ z. unsigned_abs z ≤ MAX_COORDINATE) }
 {
     scaled(text, 65536).ok()
 }
 
 fn three(x: Option<i64>, y: Option<i64>, z: Option<i64>) -> Option<[i64; 3]>
-    requires x { IfSome x (λ x. unsigned_abs x ≤ 2147483647) }
-    requires y { IfSome y (λ y. unsigned_abs y ≤ 2147483647) }
-    requires z { IfSome z (λ z. unsigned_abs z ≤ 2147483647) }
+    requires x { IfSome x (λ x. unsigned_abs x ≤ MAX_COORDINATE) }
+    requires y { IfSome y (λ y. unsigned_abs y ≤ MAX_COORDINATE) }
+    requires z { IfSome z (λ z. unsigned_abs z ≤ MAX_COORDINATE) }
     ensures value { result ≡ point_from x y z }
     ensures near { IfSome result IsInRange }
 {

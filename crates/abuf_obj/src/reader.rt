@@ -1,18 +1,18 @@
 // The scene so far, line by line.
 ghost use Rattle.std.specs.Prelude.{◌≡◌, ◌≤◌, ◌<◌, length, All, IfSome};
 ghost use Rattle.std.proofs.Props.{props};
+ghost use Rattle.abuf_num.specs.declared.limits.TheConstants.{MAX_LIBRARIES, MAX_MATERIALS, MAX_POINTS, MAX_TRIANGLES};
 ghost use Rattle.abuf_obj.specs.Sound.{IsInRange, IsFan, triangles_in};
 
 use crate::corners::corners;
 use crate::face::Face;
 use crate::fault::{ObjFault, Why};
-use crate::keyword::{Keyword, cut_line};
+use crate::keyword::{Keyword, split_line};
 use crate::points::point;
 use abuf_num::List;
+use abuf_num::limits::{MAX_LIBRARIES, MAX_MATERIALS, MAX_POINTS, MAX_TRIANGLES};
 use abuf_text::{Names, Statement, rest};
 use std::alloc::Global;
-
-const MOST: u32 = 1048576;
 
 /// What has been read so far, and the place of the name in use.
 #[derive(Drop)]
@@ -23,10 +23,10 @@ pub struct Reader {
     pub libraries: Names,
     pub triangles: u32,
     pub name: Option<u32>,
-    ghost few_points: { length points ≤ 1048576 },
-    ghost few_triangles: { triangles ≤ 1048576 },
-    ghost few_names: { length names ≤ 4096 },
-    ghost few_libraries: { length libraries ≤ 16 },
+    ghost few_points: { length points ≤ MAX_POINTS },
+    ghost few_triangles: { triangles ≤ MAX_TRIANGLES },
+    ghost few_names: { length names ≤ MAX_MATERIALS },
+    ghost few_libraries: { length libraries ≤ MAX_LIBRARIES },
     ghost near: { All IsInRange points },
     ghost fans: { All (IsFan (length names)) faces } by { Prim.hlevel props },
     ghost counts: { triangles_in faces ≡ triangles },
@@ -44,7 +44,9 @@ impl Reader {
     {
         match point(arguments) {
             None => Err(Why::BadNumber.at(line)),
-            Some(_) if self.points.as_slice().len() >= 1048576 => Err(Why::TooManyPoints.at(line)),
+            Some(_) if self.points.as_slice().len() >= MAX_POINTS => {
+                Err(Why::TooManyPoints.at(line))
+            }
             Some(point) => {
                 self.points.push(point)?;
                 Ok(())
@@ -59,7 +61,7 @@ impl Reader {
         let above = self.points.as_slice().len() as u32;
         let corners = corners(alloc, line, above, arguments)?;
         let triangles = self.triangles + (corners.as_slice().len() as u32 - 2);
-        if MOST < triangles {
+        if MAX_TRIANGLES < triangles {
             return Err(Why::TooManyTriangles.at(line));
         }
         self.faces.push(Face {
@@ -83,7 +85,7 @@ impl Reader {
                 self.name = Some(place);
                 Ok(())
             }
-            None if self.names.len() < 4096 => {
+            None if self.names.len() < MAX_MATERIALS => {
                 let place = self.names.len() as u32;
                 self.names.push(alloc, name)?;
                 self.name = Some(place);
@@ -102,7 +104,7 @@ impl Reader {
         }
         match self.libraries.find(name) {
             Some(_) => Ok(()),
-            None if self.libraries.len() < 16 => {
+            None if self.libraries.len() < MAX_LIBRARIES => {
                 self.libraries.push(alloc, name)?;
                 Ok(())
             }
@@ -115,7 +117,7 @@ impl Reader {
         ensures fault { IfErr result (TellsWhy number (why (counted self.old) line.now)) }
         ensures ok { OnOk result (TakesLine number line.now self.old self.new) }
     {
-        let (keyword, arguments) = cut_line(line);
+        let (keyword, arguments) = split_line(line);
         match keyword {
             Keyword::Vertex => self.take_point(number, arguments),
             Keyword::Face => self.take_face(alloc, number, arguments),

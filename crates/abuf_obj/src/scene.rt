@@ -3,7 +3,7 @@ ghost use Rattle.std.specs.Prelude.{◌≡◌, ◌<◌, ◌-◌, ◌^◌, [], le
 ghost use Rattle.abuf_text.specs.Lines.{lines};
 ghost use Rattle.abuf_obj.specs.Above.{names_of, libraries_of};
 ghost use Rattle.abuf_obj.specs.Faults.{fault_from, TellsFirst};
-ghost use Rattle.abuf_obj.specs.Places.{held_face};
+ghost use Rattle.abuf_obj.specs.Places.{clamped_face};
 ghost use Rattle.abuf_obj.specs.Scene.{points_of, faces_of, is_astray, astray_line, points, faces, names, libraries, obj_fault};
 ghost use Rattle.abuf_obj.specs.Sound.{IsScene};
 
@@ -32,7 +32,7 @@ fn read_lines(alloc: Global, bytes: &[u8]) -> Result<Reader, ObjFault>
     ensures fault { IfErr result (TellsFirst (fault_from [] (lines bytes.now))) }
     ensures sound { OnOk result (fault_from [] (lines bytes.now) ≡ None) }
     ensures points { IfOk result (λ r. r.points ≡ points_of (lines bytes.now)) }
-    ensures faces { IfOk result (λ r. r.faces ≡ map held_face (faces_of (lines bytes.now))) }
+    ensures faces { IfOk result (λ r. r.faces ≡ map clamped_face (faces_of (lines bytes.now))) }
     ensures names { IfOk result (λ r. r.names ≡ names_of (lines bytes.now)) }
     ensures libraries { IfOk result (λ r. r.libraries ≡ libraries_of (lines bytes.now)) }
 {

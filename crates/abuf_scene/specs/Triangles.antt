@@ -1,6 +1,7 @@
 -- The triangles of a scene: the fans of its faces, each with the paint of its material.
-use Rattle.std.specs.Prelude.{◌≡◌, ℕ, ℤ, ◌+◌, ◌-◌, Bool, List, [], ◌∷◌, map, flat_map, find, length, slice_index_or, Option, Some, None, option_map, is_none, ⊤}
+use Rattle.std.specs.Prelude.{◌≡◌, ℕ, ℤ, ◌+◌, ◌-◌, Bool, List, [], map, flat_map, find, length, slice_index_or, Option, Some, None, option_map, is_none, ⊤}
 use Rattle.std.specs.List.{range_with_len}
+use Rattle.abuf_num.specs.Paints.{white}
 use Rattle.abuf_num.specs.declared.plain.Paint.{Paint}
 use Rattle.abuf_obj.specs.declared.face.Face.{Face}
 use Rattle.abuf_obj.specs.declared.scene.Obj.{Obj}
@@ -27,15 +28,12 @@ triangle points corners paint i = record {
 abbrev pub fan : List (List ℤ) → List ℕ → Paint → List Triangle
 fan points corners paint = map (triangle points corners paint) (range_with_len 1 (length corners - 2))
 
--- the paint of a face without a name, which is that of a new material
-abbrev pub white : Paint
-white = record { colour = 65535 ∷ 65535 ∷ 65535 ∷ []; alpha = 65535 }
-
 -- what gives each name its paint, if it is the name of a material
 abbrev pub Look : Type 0
 Look = List ℕ → Option Paint
 
--- the paint of a face by its name's place among the names; none where the name has no material
+-- the paint of a face by its name's place among the names; none where the name has no material. A face without a name has that
+-- of a new material.
 abbrev pub paint_by : Look → List (List ℕ) → Option ℕ → Option Paint
 paint_by look names None = Some white
 paint_by look names (Some n) = look (slice_index_or names n [])
@@ -70,6 +68,6 @@ abbrev pub Tells : Option ℕ → SceneFault → Type 0
 Tells found (UnknownMaterial line) = found ≡ Some line
 Tells found Memory = ⊤
 
--- each coordinate is at most 2147483647 either way
+-- each coordinate is at most 2147483647 either way, in units of 1/65536
 abbrev pub IsTriangleInRange : Triangle → Type 0
 IsTriangleInRange t = IsInRange t.a × IsInRange t.b × IsInRange t.c

@@ -6,7 +6,7 @@ ghost use Rattle.abuf_scene.specs.Lookup.{look_up};
 
 use crate::triangles::Triangle;
 use abuf_mtl::Materials;
-use abuf_num::{List, NoMemory, Paint};
+use abuf_num::{List, NoMemory, Paint, WHITE};
 
 // The point of the corner in this place.
 fn corner(points: &[[i64; 3]], corners: &[u32], i: usize) -> [i64; 3]
@@ -51,12 +51,6 @@ pub fn push_fan(
     }
     Ok(())
 }
-
-// The paint of a face without a name.
-const WHITE: Paint = Paint {
-    colour: [65535; 3],
-    alpha: 65535,
-};
 
 /// The paint of a face by the place of its name among the names, if the name has a material. White and opaque without a name.
 pub fn paint_of(materials: &Materials, names: &[List<u8>], name: Option<u32>) -> Option<Paint>

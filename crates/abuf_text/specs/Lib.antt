@@ -1,5 +1,5 @@
 pub mod Lines
 pub mod Statement
 pub mod Rest
-pub mod Cut
+pub mod Split
 pub mod Names

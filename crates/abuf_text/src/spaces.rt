@@ -73,7 +73,7 @@ fn trim_end(bytes: &[u8]) -> &[u8]
 }
 
 /// The bytes up to the first blank, and those from there on.
-pub fn cut_token(bytes: &[u8]) -> (&[u8], &[u8])
+pub fn split_token(bytes: &[u8]) -> (&[u8], &[u8])
     ensures word { result.0.now ≡ first_token bytes.now }
     ensures after { result.1.now ≡ after_token bytes.now }
 {
@@ -84,5 +84,5 @@ pub fn cut_token(bytes: &[u8]) -> (&[u8], &[u8])
 pub fn rest(line: &[u8]) -> &[u8]
     ensures { result.now ≡ rest line.now }
 {
-    trim_end(trim_start(cut_token(trim_start(line)).1))
+    trim_end(trim_start(split_token(trim_start(line)).1))
 }

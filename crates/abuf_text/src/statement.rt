@@ -3,7 +3,7 @@ ghost use Rattle.std.specs.Prelude.{◌≡◌, List, length};
 ghost use Rattle.std.specs.Iterator.{YieldsFirstBy, item_count};
 ghost use Rattle.abuf_text.specs.Statement.{statement, is_comment};
 
-use crate::spaces::{cut_token, trim_start};
+use crate::spaces::{split_token, trim_start};
 use std::marker::Model;
 
 /// The tokens of a line that are still to come, up to a comment: first the keyword, then its arguments.
@@ -52,7 +52,7 @@ impl<'a> Iterator for Statement<'a> {
             self.left = text;
             return None;
         }
-        let (token, after) = cut_token(text);
+        let (token, after) = split_token(text);
         if begins_comment(token) {
             self.left = &[];
             None

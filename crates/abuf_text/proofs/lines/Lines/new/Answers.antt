@@ -1,8 +1,8 @@
 use Rattle.std.proofs.Common.{◌∙◌, ap, arith}
 use Rattle.std.proofs.lemmas.List.{length-map}
 use Rattle.bstr.specs.Records.{trim_record}
-use Rattle.abuf_text.specs.Cut.{trimmed}
-use Rattle.abuf_text.proofs.CutLines.{trimmed-lines_of}
+use Rattle.abuf_text.specs.Split.{trimmed}
+use Rattle.abuf_text.proofs.SplitLines.{trimmed-lines_of}
 use Rattle.abuf_text.proofs.lines.Lines.new.Goals as goal
 
 pub returns : goal.returns

@@ -14,14 +14,14 @@ returns-then-is_empty-clause-steps c =
 pub returns-then-begins_comment-clause-steps : goal.returns-then-begins_comment-clause-steps
 returns-then-begins_comment-clause-steps c =
     let some : 0 < length c.trim_start-text.result.now = grind (arith, nat_tests) in
-    let comment : is_comment (first_token (trim_start c.self.inside.left.now)) ≡ true = rw (← c.trim_start-text.ensures, ← c.cut_token.ensures.word) (sym c.begins_comment.ensures ∙ c.if-begins_comment.true) in
+    let comment : is_comment (first_token (trim_start c.self.inside.left.now)) ≡ true = rw (← c.trim_start-text.ensures, ← c.split_token.ensures.word) (sym c.begins_comment.ensures ∙ c.if-begins_comment.true) in
     (sym c.self.view_is ∙ statement-comment c.self.inside.left.now (subst (λ (t : List ℕ). 0 < length t) c.trim_start-text.ensures some) comment, statement-nil)
 
-first : (c : Else-begins_comment) → c.args.self.now ≡ c.cut_token.result.0.now ∷ statement c.cut_token.result.1.now
+first : (c : Else-begins_comment) → c.args.self.now ≡ c.split_token.result.0.now ∷ statement c.split_token.result.1.now
 first c =
     let some : 0 < length c.trim_start-text.result.now = grind (arith, nat_tests) in
-    let plain : is_comment (first_token (trim_start c.self.inside.left.now)) ≡ false = rw (← c.trim_start-text.ensures, ← c.cut_token.ensures.word) (sym c.begins_comment.ensures ∙ c.if-begins_comment.false) in
-    rw (c.cut_token.ensures.word, c.cut_token.ensures.after, c.trim_start-text.ensures)
+    let plain : is_comment (first_token (trim_start c.self.inside.left.now)) ≡ false = rw (← c.trim_start-text.ensures, ← c.split_token.ensures.word) (sym c.begins_comment.ensures ∙ c.if-begins_comment.false) in
+    rw (c.split_token.ensures.word, c.split_token.ensures.after, c.trim_start-text.ensures)
     (sym c.self.view_is ∙ statement-first c.self.inside.left.now (subst (λ (t : List ℕ). 0 < length t) c.trim_start-text.ensures some) plain)
 
 pub returns-else-begins_comment-clause-steps : goal.returns-else-begins_comment-clause-steps

@@ -1,6 +1,6 @@
 // Texts cut at a byte.
 ghost use Rattle.std.specs.Prelude.{◌≡◌, ◌==◌, option_map, position};
-ghost use Rattle.abuf_cli.specs.Cuts.{cut_at, three_texts, four_texts};
+ghost use Rattle.abuf_cli.specs.Splits.{split_once, three_texts, four_texts};
 
 // Where the first such byte stands.
 fn place_of(text: &[u8], byte: u8) -> Option<usize>
@@ -10,8 +10,8 @@ fn place_of(text: &[u8], byte: u8) -> Option<usize>
 }
 
 /// The parts before and after the first such byte.
-pub fn cut_at(text: &[u8], byte: u8) -> Option<(&[u8], &[u8])>
-    ensures { option_map (λ p. (p.0.now, p.1.now)) result ≡ cut_at byte text.now }
+pub fn split_once(text: &[u8], byte: u8) -> Option<(&[u8], &[u8])>
+    ensures { option_map (λ p. (p.0.now, p.1.now)) result ≡ split_once byte text.now }
 {
     match place_of(text, byte) {
         Some(place) => Some((&text[..place], &text[place + 1..])),
@@ -23,8 +23,8 @@ pub fn cut_at(text: &[u8], byte: u8) -> Option<(&[u8], &[u8])>
 pub fn three_texts(text: &[u8]) -> Option<(&[u8], &[u8], &[u8])>
     ensures { option_map (λ p. (p.0.now, p.1.now, p.2.now)) result ≡ three_texts text.now }
 {
-    let (first, rest) = cut_at(text, b',')?;
-    let (second, third) = cut_at(rest, b',')?;
+    let (first, rest) = split_once(text, b',')?;
+    let (second, third) = split_once(rest, b',')?;
     Some((first, second, third))
 }
 
@@ -32,7 +32,7 @@ pub fn three_texts(text: &[u8]) -> Option<(&[u8], &[u8], &[u8])>
 pub fn four_texts(text: &[u8]) -> Option<(&[u8], &[u8], &[u8], &[u8])>
     ensures { option_map (λ p. (p.0.now, p.1.now, p.2.now, p.3.now)) result ≡ four_texts text.now }
 {
-    let (first, rest) = cut_at(text, b',')?;
+    let (first, rest) = split_once(text, b',')?;
     let (second, third, fourth) = three_texts(rest)?;
     Some((first, second, third, fourth))
 }

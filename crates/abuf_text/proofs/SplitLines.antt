@@ -6,7 +6,7 @@ use Rattle.bstr.specs.Text.{line_len, lines_of}
 use Rattle.bstr.specs.Records.{trim_record}
 use Rattle.bstr.proofs.lemmas.LineLemmas.{line_len-bounds, lines-nil, lines-step}
 use Rattle.abuf_text.specs.Lines.{lines, in_front}
-use Rattle.abuf_text.specs.Cut.{trimmed}
+use Rattle.abuf_text.specs.Split.{trimmed}
 
 cond-cons : (v : Bool) (b : ℕ) (p q : List ℕ) → cond v (b ∷ p) (b ∷ q) ≡ b ∷ cond v p q
 cond-cons true b p q = refl
@@ -37,18 +37,18 @@ lines-first (b ∷ c ∷ rest) some =
     (λ other. rw other.0 (ap (in_front b) inner ∙ ap (λ line. line ∷ lines (drop (line_len (c ∷ rest)) (c ∷ rest))) (sym (trim_record-cons b front longer))))
     (eqb_tells b 10)
 
-cut_within : (n : ℕ) (bs : List ℕ) → length bs ≤ n → trimmed (lines_of bs) ≡ lines bs
+split_within : (n : ℕ) (bs : List ℕ) → length bs ≤ n → trimmed (lines_of bs) ≡ lines bs
 unfolding lines
-cut_within n [] short = rw lines-nil refl
-cut_within zero (b ∷ bs) short = absurd (omega arith)
-cut_within (suc n) (b ∷ bs) short =
+split_within n [] short = rw lines-nil refl
+split_within zero (b ∷ bs) short = absurd (omega arith)
+split_within (suc n) (b ∷ bs) short =
     let all = b ∷ bs in
     let bounds = line_len-bounds all (omega arith) in
     let rest = drop (line_len all) all in
     let shorter : length rest ≤ n = omega (arith, length-drop (line_len all) all) in
     ap (map (trim_record 10)) (lines-step all (omega arith))
-    ∙ ap (λ (ls : List (List ℕ)). trim_record 10 (take (line_len all) all) ∷ ls) (cut_within n rest shorter)
+    ∙ ap (λ (ls : List (List ℕ)). trim_record 10 (take (line_len all) all) ∷ ls) (split_within n rest shorter)
     ∙ sym (lines-first all (omega arith))
 
 pub trimmed-lines_of : (bs : List ℕ) → trimmed (lines_of bs) ≡ lines bs
-trimmed-lines_of bs = cut_within (length bs) bs (omega arith)
+trimmed-lines_of bs = split_within (length bs) bs (omega arith)
