@@ -1,5 +1,5 @@
 -- What a pass and those split off from it add together.
-use Rattle.std.proofs.Common.{◌≡◌, ℕ, Bool, true, false, cond, List, [], ◌∷◌, ◌++◌, length, sym, refl, ap, ◌∙◌, subst, arith, ⊎_elim, inl, inr, All, length-append, append_assoc, append-nil}
+use Rattle.std.proofs.Common.{◌≡◌, ℕ, Bool, true, false, List, [], ◌∷◌, ◌++◌, length, sym, refl, ap, ◌∙◌, subst, arith, ⊎_elim, inl, inr, All, length-append, append_assoc, append-nil, if◌then◌else◌}
 use Rattle.std.specs.List.{Contains}
 use Rattle.std.proofs.lemmas.List.Elements.{All-nil, All-cons, All-head, All-tail, All-append, All-contains, All-contains_itself, Contains-append_left, Contains-append_right}
 use Rattle.abuf_frame.specs.declared.view.Entry.{Entry}
@@ -13,6 +13,7 @@ use Rattle.abuf_frame.proofs.Counting.{total-append}
 use Rattle.abuf_fan.specs.Grows.{Grows, IsKnown, IsOwn}
 use Rattle.abuf_fan.specs.Workers.{Parted}
 
+-- What a pass draws alone adds its entries, and nothing that it is told of.
 pub grows_once : (items : List (ℕ × ℕ)) (v w : View) → Draws items v w → Grows items v w
 grows_once items v w d = record {
   added = d.added;
@@ -26,6 +27,7 @@ grows_once items v w d = record {
   walks_are = ap (λ (u : View). u.walks) d.after;
 }
 
+-- A property of all items that has another one as its consequence.
 all_more : {X : Type 0} (P Q : X → Type 0) → ((x : X) → P x → Q x) → (xs : List X) → All P xs → All Q xs
 all_more P Q f xs h k d l = f _ (h k d l)
 
@@ -33,47 +35,59 @@ all_more P Q f xs h k d l = f _ (h k d l)
 linked_some : (all es : List Entry) → All (Contains all) es → All (λ e. Contains all e × (is_linked e.stage ≡ true)) (linked_of es)
 linked_some all [] h = All-nil _
 linked_some all (e ∷ es) h = go (is_linked e.stage) refl (linked_some all es (All-tail (Contains all) e es h)) where
-  go : (b : Bool) → is_linked e.stage ≡ b → All (λ e. Contains all e × (is_linked e.stage ≡ true)) (linked_of es) → All (λ e. Contains all e × (is_linked e.stage ≡ true)) (cond b (e ∷ linked_of es) (linked_of es))
+  go : (b : Bool) → is_linked e.stage ≡ b → All (λ e. Contains all e × (is_linked e.stage ≡ true)) (linked_of es) → All (λ e. Contains all e × (is_linked e.stage ≡ true)) (if b then e ∷ linked_of es else linked_of es)
   go true is r = let here : Contains all e × (is_linked e.stage ≡ true) = (All-head (Contains all) e es h, is) in All-cons (λ e. Contains all e × (is_linked e.stage ≡ true)) e (linked_of es) here r
   go false is r = r
 
 -- what was split off and drawn by two passes, joined again
 module _ (items left right : List (ℕ × ℕ)) (v v1 v2 o1 o2 w : View) (cut : items ≡ left ++ right) (parted : Parted v v1 o1) (g : Grows left v1 v2) (h : Grows right o1 o2) (ew : w ≡ united v2 o2) where
+  -- What was left of the first view,
   ev : v1 ≡ cut_left parted.moved v
   ev = parted.left_is
 
+  -- and the view that was split off from it.
   eo : o1 ≡ cut_right parted.moved v
   eo = parted.right_is
 
+  -- The joined view has the entries of both.
   entries_w : w.entries ≡ v2.entries ++ o2.entries
   entries_w = ap (λ (u : View). u.entries) ew
 
+  -- An own Linked entry of the left view is one of the joined view,
   left_own : (e : Entry) → IsOwn v2 e → IsOwn w e
   left_own e o = (subst (λ (es : List Entry). Contains es e) (sym entries_w) (Contains-append_left v2.entries o2.entries e o.0), o.1)
 
+  -- and so is one of the right view,
   right_own : (e : Entry) → IsOwn o2 e → IsOwn w e
   right_own e o = (subst (λ (es : List Entry). Contains es e) (sym entries_w) (Contains-append_right v2.entries o2.entries e o.0), o.1)
 
+  -- and one of the view before the split.
   first_own : (e : Entry) → IsOwn v e → IsOwn w e
   first_own e o = left_own e (subst (λ (es : List Entry). Contains es e) (sym (g.entries_are ∙ ap (λ (u : View). u.entries ++ g.added) ev)) (Contains-append_left v.entries g.added e o.0), o.1)
 
+  -- The split leaves what the left pass was told of as it was,
   told_v1 : v1.told ≡ v.told
   told_v1 = ap (λ (u : View). u.told) ev
 
+  -- and tells the right one of the Linked entries besides.
   told_o1 : o1.told ≡ linked_of v.entries ++ v.told
   told_o1 = ap (λ (u : View). u.told) eo
 
+  -- All that the right pass was told of at first is known in the end,
   known_first : All (IsKnown v w) o1.told
   known_first = subst (All (IsKnown v w)) (sym told_o1) (All-append (IsKnown v w) (linked_of v.entries) v.told
       (all_more (λ e. Contains v.entries e × (is_linked e.stage ≡ true)) (IsKnown v w) (λ e o. inr (first_own e o)) (linked_of v.entries) (linked_some v.entries v.entries (All-contains_itself v.entries)))
       (all_more (Contains v.told) (IsKnown v w) (λ e o. inl o) v.told (All-contains_itself v.told)))
 
+  -- so is what the left pass was told of since,
   known_left : All (IsKnown v w) g.news
   known_left = all_more (IsKnown v1 v2) (IsKnown v w) (λ e k. ⊎_elim (λ (c : Contains v1.told e). inl (subst (λ (es : List Entry). Contains es e) told_v1 c)) (λ (o : IsOwn v2 e). inr (left_own e o)) k) g.news g.told_own
 
+  -- and what the right one was.
   known_right : All (IsKnown v w) h.news
   known_right = all_more (IsKnown o1 o2) (IsKnown v w) (λ e k. ⊎_elim (λ (c : Contains o1.told e). All-contains (IsKnown v w) o1.told e known_first c) (λ (o : IsOwn o2 e). inr (right_own e o)) k) h.news h.told_own
 
+  -- Both together have drawn the items of both.
   pub grows_both : Grows items v w
   grows_both = let a = g.spent in let b = h.spent in let c = ap (λ (u : View). u.credit) ev in let d = ap (λ (u : View). u.credit) eo in let e = ap (λ (u : View). u.credit) ew in
       let f = parted.enough in let l = ap (λ (xs : List (ℕ × ℕ)). length xs) cut in let m = length-append left right in record {
@@ -90,8 +104,10 @@ module _ (items left right : List (ℕ × ℕ)) (v v1 v2 o1 o2 w : View) (cut : 
       }
 
 module _ (items : List (ℕ × ℕ)) (v w : View) (g : Grows items v w) where
+  -- Drawing spends as much credit as it adds entries, so the endowment stays.
   pub grows_endowment : endowment w ≡ endowment v
   grows_endowment = let c = g.spent in let e = ap (λ (es : List Entry). length es) g.entries_are in let l = length-append v.entries g.added in let n = g.adds.count in omega arith
 
+  -- It adds no loose entries.
   pub grows_loose : loose w.entries ≡ loose v.entries
-  grows_loose = let e = ap loose g.entries_are in let l = total-append (λ (x : Entry). cond (is_loose x.stage) 1 0) v.entries g.added in let n = g.adds.settled in omega arith
+  grows_loose = let e = ap loose g.entries_are in let l = total-append (λ (x : Entry). if is_loose x.stage then 1 else 0) v.entries g.added in let n = g.adds.settled in omega arith

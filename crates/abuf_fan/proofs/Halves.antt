@@ -21,6 +21,7 @@ use Rattle.abuf_fan.specs.Parts.{part_fragments, parts_of}
 use Rattle.abuf_fan.specs.Workers.{Served}
 use Rattle.abuf_fan.proofs.Taken.{taken_all, past_all}
 
+-- The items of a drawing may stand in any order.
 pub grows_permuted : (items others : List (ℕ × ℕ)) (v w : View) → IsPermutation items others → Grows items v w → Grows others v w
 grows_permuted items others v w p g = let l = length_permutation items others p in let s = g.spent in record {
   added = g.added;
@@ -35,6 +36,7 @@ grows_permuted items others v w p g = let l = length_permutation items others p 
 }
 
 module _ (ts : List Triangle) (os : List (ℤ × ℤ)) (r : Region) (parts : ℕ) where
+  -- Where a pass and a turn are split off and joined again, both halves together have drawn the parts of the numbers of both.
   pub served_both : (credit : ℕ) (h h1 k1 h2 k2 k : Hand) (v v1 v2 o1 o2 w : View) → credit ≤ h.credit → h1 ≡ holding (h.credit - credit) h.drawn → h2 ≡ holding credit [] → k ≡ holding (k1.credit + k2.credit) (k1.drawn ++ k2.drawn) → EachOnceIfWhole k
       → Parted v v1 o1 → w ≡ united v2 o2 → Served ts os r parts h1 k1 v1 v2 → Served ts os r parts h2 k2 o1 o2 → Served ts os r parts h k v w
   served_both credit h h1 k1 h2 k2 k v v1 v2 o1 o2 w fits e1 e2 ek whole parted ew a b =

@@ -1,6 +1,6 @@
 pub mod Parts
 pub mod Growing
-pub mod Numbers
+pub mod DeskSteps
 pub mod Taken
 pub mod Serving
 pub mod Halves

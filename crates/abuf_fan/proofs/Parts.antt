@@ -8,19 +8,24 @@ use Rattle.abuf_raster.specs.Triangle.{Triangle}
 use Rattle.abuf_raster.specs.Hits.{all_fragments, fragments, hits, placed}
 use Rattle.abuf_raster.proofs.Hits.{hits_few}
 
+-- The items from index i on are item i and those after it.
 pub next_of : (ts : List Triangle) (i : ℕ) (t : Triangle) → i < length ts → t ≡ slice_index_or ts i t → drop i ts ≡ t ∷ drop (i + 1) ts
 next_of ts i t l e = let s : suc i ≡ i + 1 = omega arith in drop-cons ts i t l ∙ λ k. sym e k ∷ drop (s k) ts
 
+-- Credit for some triangles on each pixel is enough for one of them,
 pub one_more : (n area credit : ℕ) → suc n * area ≤ credit → area ≤ credit
 one_more n area credit l = omega arith
 
+-- what one leaves of it is enough for the others,
 pub one_less : (n area credit after : ℕ) → suc n * area ≤ credit → credit ≤ after + area → n * area ≤ after
 one_less n area credit after l f = omega arith
 
+-- and all together have spent no more than that.
 pub still_few : (n area start now after all : ℕ) → start + suc n * area ≤ now + all → now ≤ after + area → start + n * area ≤ after + all
 still_few n area start now after all l f = omega arith
 
 module _ (os : List (ℤ × ℤ)) (r : Region) where
+  -- The fragments of two lists of triangles are those of the first, and then those of the second, numbered after them.
   pub all_fragments-append : (xs ys : List Triangle) (n : ℕ) → all_fragments (xs ++ ys) n os r ≡ all_fragments xs n os r ++ all_fragments ys (n + length xs) os r
   all_fragments-append [] ys n = let z : n ≡ n + 0 = omega arith in ap (λ (k : ℕ). all_fragments ys k os r) z
   all_fragments-append (x ∷ xs) ys n = let z : n + 1 + length xs ≡ n + length (x ∷ xs) = omega arith in

@@ -17,7 +17,7 @@ use Rattle.abuf_raster.specs.Hits.{all_fragments}
 use Rattle.abuf_fan.proofs.Parts.{all_fragments-append}
 use Rattle.abuf_fan.specs.Parts.{part_fragments, parts_of}
 
--- lists of the same numbers lead to the same items
+-- Lists of the same numbers lead to the same items, in some order.
 pub flat_same : {A : Type 0} (f : ℕ → List A) (xs ys : List ℕ) → ((n : ℕ) → times n xs ≡ times n ys) → IsPermutation (flat_map f xs) (flat_map f ys)
 flat_same f [] ys h = subst (λ (l : List ℕ). IsPermutation (flat_map f []) (flat_map f l)) (sym (none_in ys (λ n. sym (h n)))) (IsPermutation-refl (flat_map f []))
 flat_same {A} f (x ∷ xs) ys h = let t = ap (λ (b : Bool). cond {A = ℕ} b 1 0) (eq-eqb x x refl) in let a = h x in let s = split_at x ys (omega arith) in
@@ -27,11 +27,12 @@ flat_same {A} f (x ∷ xs) ys h = let t = ap (λ (b : Bool). cond {A = ℕ} b 1 
     let two : IsPermutation (f x ++ (f0 ++ f1)) (f0 ++ (f x ++ f1)) = subst (λ (l : List A). IsPermutation l (f0 ++ (f x ++ f1))) (append_assoc (f x) f0 f1) (subst (λ (l : List A). IsPermutation ((f x ++ f0) ++ f1) l) (append_assoc f0 (f x) f1) (IsPermutation-append (f x ++ f0) (f0 ++ f x) f1 f1 (IsPermutation-append_comm (f x) f0) (IsPermutation-refl f1))) in
     subst (λ (l : List A). IsPermutation (f x ++ flat_map f xs) l) (sym (ap (flat_map f) s.2 ∙ flat_map-append f s.0 (x ∷ s.1))) (IsPermutation-trans (f x ++ flat_map f xs) (f x ++ (f0 ++ f1)) (f0 ++ (f x ++ f1)) one two)
 
--- a range has each of its numbers once
+-- A range has each of its numbers once.
 times_range : (n a count : ℕ) → times n (range_with_len a count) + below n a ≡ below n (a + count)
 times_range n a zero = let e : a ≡ a + 0 = omega arith in let b = ap (below n) e in omega arith
 times_range n a (suc count) = let r = times_range n (a + 1) count in let m = below_more n a in let e : a + 1 + count ≡ a + suc count = omega arith in let b = ap (below n) e in omega arith
 
+-- The numbers from 0 on up to a count have each number below it once.
 pub times_first : (n count : ℕ) → times n (range_with_len 0 count) ≡ below n count
 times_first n count = let r = times_range n 0 count in let z = none n in let e : 0 + count ≡ count = omega arith in let b = ap (below n) e in omega arith
   where
@@ -39,11 +40,12 @@ times_first n count = let r = times_range n 0 count in let z = none n in let e :
     none n = grind arith
 
 module _ (ts : List Triangle) (os : List (ℤ × ℤ)) (r : Region) where
+  -- Without triangles it makes no difference what the first number is.
   all_at : (xs : List Triangle) (a b : ℕ) → (length xs ≡ 0) ⊎ (a ≡ b) → all_fragments xs a os r ≡ all_fragments xs b os r
   all_at xs a b (inl e) = let n = nil_from_length xs e in ap (λ (l : List Triangle). all_fragments l a os r) n ∙ sym (ap (λ (l : List Triangle). all_fragments l b os r) n)
   all_at xs a b (inr e) = ap (λ (k : ℕ). all_fragments xs k os r) e
 
-  -- the triangles from a part on are those of the part and those from the next part on
+  -- The fragments of the triangles from a part on are those of the part, and of those from the next part on.
   one_part : (p : ℕ) → all_fragments (drop (64 * p) ts) (64 * p) os r ≡ part_fragments ts os r p ++ all_fragments (drop (64 * (p + 1)) ts) (64 * (p + 1)) os r
   one_part p = let xs : List Triangle = drop (64 * p) ts in let ys : List Triangle = drop (64 * (p + 1)) ts in
       let w : 64 * (p + 1) - 64 * p ≡ 64 = omega arith in let cut : xs ≡ take 64 xs ++ ys = drop_split ts (64 * p) (64 * (p + 1)) (omega arith) ∙ ap (λ (k : ℕ). take k xs ++ ys) w in
@@ -54,13 +56,16 @@ module _ (ts : List Triangle) (os : List (ℤ × ℤ)) (r : Region) where
       number p = let l = length-drop (64 * p) ts in let m = length-drop (64 * (p + 1)) ts in
           ⊎_elim (λ (h : length ts < 64 * (p + 1)). inl (omega arith)) (λ (h : 64 * (p + 1) ≤ length ts). let k = length-take-le 64 (drop (64 * p) ts) (omega arith) in inr (omega arith)) (cases_lt (length ts) (64 * (p + 1)))
 
+  -- The fragments of so many parts that follow each other, and of what comes after them, are those of all triangles from the first
+  -- of these parts on.
   from_part : (count p : ℕ) → flat_map (part_fragments ts os r) (range_with_len p count) ++ all_fragments (drop (64 * (p + count)) ts) (64 * (p + count)) os r ≡ all_fragments (drop (64 * p) ts) (64 * p) os r
   from_part zero p = let e : p + 0 ≡ p = omega arith in ap (λ (k : ℕ). all_fragments (drop (64 * k) ts) (64 * k) os r) e
   from_part (suc count) p = let e : p + suc count ≡ p + 1 + count = omega arith in
       append_assoc (part_fragments ts os r p) (flat_map (part_fragments ts os r) (range_with_len (p + 1) count)) (all_fragments (drop (64 * (p + suc count)) ts) (64 * (p + suc count)) os r)
       ∙ (ap (λ (l : List (ℕ × ℕ)). part_fragments ts os r p ++ l) (ap (λ (k : ℕ). flat_map (part_fragments ts os r) (range_with_len (p + 1) count) ++ all_fragments (drop (64 * k) ts) (64 * k) os r) e ∙ from_part count (p + 1)) ∙ sym (one_part p))
 
-  -- Where numbers are those below their count, each once, and that is not below the parts, they give all triangles.
+  -- Where numbers are those below their count, each once, and all triangles lie in so many parts, they give the fragments of all
+  -- triangles.
   pub taken_all : (numbers : List ℕ) → ((n : ℕ) → times n numbers ≡ below n (length numbers)) → length ts ≤ 64 * length numbers → IsPermutation (flat_map (part_fragments ts os r) numbers) (all_fragments ts 0 os r)
   taken_all numbers once enough = let d : ℕ = length numbers in let f = flat_same (part_fragments ts os r) numbers (range_with_len 0 d) (λ n. once n ∙ sym (times_first n d)) in
       let gone : drop (64 * (0 + d)) ts ≡ [] = nil_from_length (drop (64 * (0 + d)) ts) (let l = length-drop (64 * (0 + d)) ts in omega arith) in
@@ -68,22 +73,25 @@ module _ (ts : List Triangle) (os : List (ℤ × ℤ)) (r : Region) where
       sym (append-nil (flat_map (part_fragments ts os r) (range_with_len 0 d))) ∙ (sym (ap (λ (l : List Triangle). flat_map (part_fragments ts os r) (range_with_len 0 d) ++ all_fragments l (64 * (0 + d)) os r) gone) ∙ from_part d 0) in
       subst (IsPermutation (flat_map (part_fragments ts os r) numbers)) all f
 
+-- Where one of the numbers below their count is beyond the parts, all triangles lie in parts of the numbers.
 pub past_all : (numbers : List ℕ) (count beyond : ℕ) → ((n : ℕ) → times n numbers ≡ below n (length numbers)) → 0 < times beyond numbers → parts_of count ≤ beyond → count ≤ 64 * length numbers
 past_all numbers count beyond once taken is = let o = once beyond in let l = below_from beyond (length numbers) (omega arith) in omega arith
 
--- a part of a slice
+-- The first 64 items, cut from a slice by its length.
 pub take_part : {A : Type 0} (xs : List A) (n m : ℕ) → n ≡ length xs → m ≡ min n 64 → take m (take n xs) ≡ take 64 xs
 take_part xs n m e f = ap (take m) (take_all n xs (omega arith)) ∙ ⊎_elim (λ (h : n < 64). take_all m xs (omega arith) ∙ sym (take_all 64 xs (omega arith))) (λ (h : 64 ≤ n). let g : m ≡ 64 = omega arith in ap (λ (k : ℕ). take k xs) g) (cases_lt n 64)
 
+-- What is above all numbers of a list is above its last one.
 pub under_last : (m p : ℕ) (ns : List ℕ) → All (λ n. n < m) (ns ++ p ∷ []) → p < m
 under_last m p [] u = All-head (λ n. n < m) p [] u
 under_last m p (n ∷ ns) u = under_last m p ns (All-tail (λ n. n < m) n (ns ++ p ∷ []) u)
 
--- a part further on costs no more than what is left, and leaves what stands after it
+-- Credit for what is left at one part is enough for a part further on.
 pub part_room : (ts : List Triangle) (next p area credit : ℕ) → next ≤ p → length (drop (64 * next) ts) * area ≤ credit → length (take 64 (drop (64 * p) ts)) * area ≤ credit
 part_room ts next p area credit l room = let a = length-drop (64 * next) ts in let b = length-drop (64 * p) ts in let c = length-take 64 (drop (64 * p) ts) in
     let d : length (take 64 (drop (64 * p) ts)) ≤ length (drop (64 * next) ts) = omega arith in let e = mul-le-mul d (le_refl area) in omega arith
 
+-- What such a part leaves is enough for those after it.
 pub rest_room : (ts : List Triangle) (next p area credit after : ℕ) → next ≤ p → length (drop (64 * next) ts) * area ≤ credit → credit ≤ after + length (take 64 (drop (64 * p) ts)) * area → length (drop (64 * (p + 1)) ts) * area ≤ after
 rest_room ts next p area credit after l room few = let a = length-drop (64 * next) ts in let b = length-drop (64 * p) ts in let c = length-take 64 (drop (64 * p) ts) in let d = length-drop (64 * (p + 1)) ts in
     let e : length (take 64 (drop (64 * p) ts)) + length (drop (64 * (p + 1)) ts) ≤ length (drop (64 * next) ts) = omega arith in let f = mul-le-mul e (le_refl area) in omega arith

@@ -1,8 +1,9 @@
 -- When the state of a desk is lawful, and what its calls tell. A state has the desk's one word, which is the count of the
 -- numbers drawn, and the views of all turns that were ever made.
-use Rattle.std.specs.Prelude.{◌≡◌, ℕ, ◌+◌, ◌-◌, ◌^◌, ◌<◌, List, [], ◌∷◌, ◌++◌, length, slice_index, All}
-use Rattle.atomic_table.specs.Table.{State}
+use Rattle.std.specs.Prelude.{◌≡◌, ℕ, ◌+◌, ◌-◌, ◌^◌, ◌<◌, ◌≤◌, List, [], ◌∷◌, ◌++◌, length, slice_index, All, Option, MatchOption}
+use Rattle.atomic_table.specs.Table.{Splits, State}
 use Rattle.atomic_table.specs.Seated.{TableId}
+use Rattle.atomic_table.specs.declared.shared.Seat.{Seat}
 use Rattle.abuf_frame.specs.Counting.{total, times, below}
 use Rattle.abuf_fan.specs.declared.rule.Hand.{Hand}
 
@@ -28,6 +29,10 @@ whole_hand = holding (2 ^ 60) []
 abbrev pub endowment : Hand → ℕ
 endowment v = v.credit + length v.drawn
 
+-- less so much credit, which a turn that is split off has
+abbrev pub with_less : ℕ → Hand → Hand
+with_less credit v = holding (v.credit - credit) v.drawn
+
 -- after a number was drawn
 abbrev pub drawing : ℕ → Hand → Hand
 drawing number v = holding (v.credit - 1) (v.drawn ++ number ∷ [])
@@ -51,3 +56,14 @@ EachOnceIfWhole v = endowment v ≡ 2 ^ 60 → (n : ℕ) → times n v.drawn ≡
 -- what a turn learns where it draws a number: the number is above each that it had
 abbrev pub Shown : ℕ → Hand → Type 0
 Shown number v = All (λ n. n < number) v.drawn × EachOnceIfWhole (drawing number v)
+
+-- From v to w a turn has drawn a number above each that it had. It is the number of a part, which the call gives, or it is at or
+-- beyond the number of parts, and the call gives none.
+abbrev pub HasTaken : ℕ → Option ℕ → Hand → Hand → Type 0
+HasTaken parts part v w =
+    (number : ℕ) × (w ≡ drawing number v) × All (λ n. n < number) v.drawn × MatchOption part (parts ≤ number) (λ p. (p ≡ number) × (number < parts))
+
+-- The seat is one of the desk's table, and so much credit may be split off from it.
+abbrev pub MaySplit : TableId → Seat (Unit {0}) Hand → ℕ → Type 0
+MaySplit table seat credit =
+    (seat.table_id ≡ table) × (0 < table.words) × Splits Lawful seat.id seat.me.0 (with_less credit seat.me.0) (holding credit [])

@@ -2,3 +2,4 @@ pub mod Desk
 pub mod Parts
 pub mod Grows
 pub mod Workers
+pub mod Most

@@ -2,24 +2,30 @@
 use Rattle.std.specs.Prelude.{◌≡◌, ℕ, ◌+◌, ◌*◌, ◌<◌, ◌≤◌, ℤ, List, ◌++◌, length}
 use Rattle.std.specs.List.{flat_map}
 use Rattle.abuf_raster.specs.declared.region.Region.{Region}
-use Rattle.abuf_raster.specs.Region.{IsRegion}
+use Rattle.abuf_raster.specs.Samples.{offsets_of}
 use Rattle.abuf_raster.specs.Triangle.{Triangle}
 use Rattle.abuf_frame.specs.declared.view.View.{View}
 use Rattle.abuf_frame.specs.Counting.{times}
-use Rattle.abuf_frame.specs.Frame.{Shape}
+use Rattle.abuf_frame.specs.Pass.{PassState}
 use Rattle.abuf_frame.specs.Steps.{cut_left, cut_right}
+use Rattle.abuf_fan.specs.declared.desk.TheConstants.{MAX_PARTS}
 use Rattle.abuf_fan.specs.declared.rule.Hand.{Hand}
-use Rattle.abuf_fan.specs.Desk.{EachOnceIfWhole}
+use Rattle.abuf_fan.specs.declared.work.Work.{Work}
+use Rattle.abuf_fan.specs.Desk.{EachOnceIfWhole, TurnState}
 use Rattle.abuf_fan.specs.Grows.{Grows}
-use Rattle.abuf_fan.specs.Parts.{part_fragments}
+use Rattle.abuf_fan.specs.Parts.{part_fragments, parts_of}
 
--- the limits of a drawing of so many triangles by so many workers
-pub record CanDraw (shape : Shape) (r : Region) (count threads : ℕ) : Type 0 where
-  pub is_region : IsRegion r
-  pub fits : r.w * r.h ≤ shape.pixels
-  pub few : count ≤ 2097152
-  pub some : 1 ≤ threads
-  pub not_many : threads ≤ 64
+-- the credit of a pass that so many workers need: each of them could draw every triangle on each pixel
+abbrev pub credit_for : Work → ℕ → ℕ
+credit_for work workers = workers * (length work.tris.now * (work.region.w * work.region.h))
+
+-- The turn and the pass are of the work's desk and frame, and have credit for so many workers: a turn draws each part's number
+-- and one more.
+pub record CanServe (work : Work) (workers : ℕ) (turn : TurnState) (pass : PassState) : Type 0 where
+  pub of_frame : pass.frame ≡ work.frame.now
+  pub of_desk : turn.table ≡ work.desk.now.table
+  pub numbers : workers * (MAX_PARTS + 1) ≤ turn.hand.credit
+  pub fragments : credit_for work workers ≤ pass.view.credit
 
 -- v was split into what was left of it and the view of a new pass
 pub record Parted (v left right : View) : Type 0 where
@@ -39,3 +45,9 @@ pub record Served (ts : List Triangle) (offsets : List (ℤ × ℤ)) (r : Region
   pub is_beyond : parts ≤ beyond
   pub each_once : EachOnceIfWhole k
   pub grows : Grows (flat_map (part_fragments ts offsets r) numbers) v w
+
+-- From h to k a turn, and from p to q a pass, have served the work.
+pub record HaveServed (work : Work) (h k : TurnState) (p q : PassState) : Type 0 where
+  pub same_frame : q.frame ≡ p.frame
+  pub same_desk : k.table ≡ h.table
+  pub served : Served work.tris.now (offsets_of work.pattern) work.region (parts_of (length work.tris.now)) h.hand k.hand p.view q.view

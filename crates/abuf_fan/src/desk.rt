@@ -1,13 +1,16 @@
 // A desk from which threads draw the numbers of parts.
-ghost use Rattle.std.specs.Prelude.{◌≡◌, ℕ, ◌-◌, ◌<◌, ◌≤◌, [], IfOk, MatchOption, All};
-ghost use Rattle.atomic_table.specs.Table.{Splits};
-ghost use Rattle.abuf_fan.specs.Desk.{Lawful, EachOnceIfWhole, drawing, endowment, holding, united, whole_hand};
+ghost use Rattle.std.specs.Prelude.{◌≡◌, ◌<◌, ◌≤◌, [], IfOk};
+ghost use Rattle.abuf_fan.specs.Desk.{EachOnceIfWhole, HasTaken, MaySplit, holding, united, whole_hand, with_less};
+ghost use Rattle.abuf_fan.specs.declared.desk.TheConstants.{MAX_PARTS};
 
-use crate::rule::{Cut, Hand, Moved, Numbers, Place, Take, Tell, Union, Words};
+use crate::rule::{DeskSeat, Hand, Moved, Numbers, SplitOff, Take, Tell, Union, Words};
 use abuf_num::NoMemory;
 use atomic_table::Table;
 use std::alloc::Global;
 use std::marker::{Brand, Model};
+
+/// The most parts of a desk: those of `MAX_PRIMITIVES` triangles, 64 in each.
+pub const MAX_PARTS: u32 = 32768;
 
 /// A counter that many threads draw numbers from by atomic steps, and how many of them are the numbers of parts. A `&Desk` may
 /// be shared between threads.
@@ -33,7 +36,7 @@ impl Model for Desk {
 /// 2^60.
 #[derive(Drop)]
 pub struct Turn {
-    place: Place,
+    seat: DeskSeat,
 }
 
 impl Model for Turn {
@@ -42,28 +45,28 @@ impl Model for Turn {
 
     ghost Value = { TurnState };
 
-    ghost view = { λ t. record { table = t.place.table_id; hand = t.place.me.0 } };
+    ghost view = { λ t. record { table = t.seat.table_id; hand = t.seat.me.0 } };
 
-    ghost invariant = { λ t. t.place.me.1 ≡ [] };
+    ghost invariant = { λ t. t.seat.me.1 ≡ [] };
 }
 
-fn split_at<N: Moved>(words: &Words, place: &mut Place, _credit: u64) -> Place
-    requires { (place.old.table_id ≡ words.now.table_id) × (0 < words.now.table_id.words) × Splits Lawful place.old.id place.old.me.0 (holding (place.old.me.0.credit - N.credit) place.old.me.0.drawn) (holding N.credit []) }
-    ensures left { (place.new.table_id ≡ place.old.table_id) × (place.new.me ≡ (holding (place.old.me.0.credit - N.credit) place.old.me.0.drawn, place.old.me.1)) }
-    ensures right { (result.table_id ≡ place.old.table_id) × (result.me ≡ (holding N.credit [], [])) }
+fn split_at<N: Moved>(words: &Words, seat: &mut DeskSeat, _credit: u64) -> DeskSeat
+    requires { MaySplit words.now.table_id seat.old N.credit }
+    ensures left { (seat.new.table_id ≡ seat.old.table_id) × (seat.new.me ≡ (with_less N.credit seat.old.me.0, seat.old.me.1)) }
+    ensures right { (result.table_id ≡ seat.old.table_id) × (result.me ≡ (holding N.credit [], [])) }
 {
-    words.split_seat::<Cut<N>>(place)
+    words.split_seat::<SplitOff<N>>(seat)
 }
 
 impl Desk {
-    /// A desk of at most 32768 parts, with a turn that has the whole credit of 2^60 and no numbers. It takes one small block;
+    /// A desk of at most `MAX_PARTS` parts, with a turn that has the whole credit of 2^60 and no numbers. It takes one small block;
     /// no call on the desk or a turn takes memory after it.
     pub fn start(alloc: Global, parts: u32) -> Result<(Desk, Turn), NoMemory>
-        requires { parts ≤ 32768 }
+        requires { parts ≤ MAX_PARTS }
         ensures { IfOk result (λ r. (r.0.parts ≡ parts) × (r.1.table ≡ r.0.table) × (r.1.hand ≡ whole_hand)) }
     {
-        let (table, place) = Table::of_words(alloc, &[0], &())?;
-        Ok((Desk { table, parts }, Turn { place }))
+        let (table, seat) = Table::of_words(alloc, &[0], &())?;
+        Ok((Desk { table, parts }, Turn { seat }))
     }
 
     /// Draws the next number, which no other turn has and which is above each that this turn had. None comes exactly where it
@@ -72,10 +75,10 @@ impl Desk {
         requires desk { turn.old.table ≡ self.now.table }
         requires credit { 1 ≤ turn.old.hand.credit }
         ensures table { turn.new.table ≡ turn.old.table }
-        ensures number { (number : ℕ) × (turn.new.hand ≡ drawing number turn.old.hand) × All (λ n. n < number) turn.old.hand.drawn × MatchOption result (self.now.parts ≤ number) (λ p. (p ≡ number) × (number < self.now.parts)) }
+        ensures number { HasTaken self.now.parts result turn.old.hand turn.new.hand }
         ensures each_once { EachOnceIfWhole turn.new.hand }
     {
-        let number = self.table.shared.fetch_add::<Take>(&mut turn.place, 0, 1);
+        let number = self.table.shared.fetch_add::<Take>(&mut turn.seat, 0, 1);
         if number < self.parts as u64 {
             Some(number as u32)
         } else {
@@ -89,11 +92,11 @@ impl Turn {
     pub fn split(&mut self, desk: &Desk, credit: u64) -> Turn
         requires desk { self.old.table ≡ desk.now.table }
         requires credit { credit ≤ self.old.hand.credit }
-        ensures left { (self.new.table ≡ self.old.table) × (self.new.hand ≡ holding (self.old.hand.credit - credit) self.old.hand.drawn) }
+        ensures left { (self.new.table ≡ self.old.table) × (self.new.hand ≡ with_less credit self.old.hand) }
         ensures right { (result.table ≡ self.old.table) × (result.hand ≡ holding credit []) }
     {
-        let place = split_at::<Brand>(&desk.table.shared, &mut self.place, credit);
-        Turn { place }
+        let seat = split_at::<Brand>(&desk.table.shared, &mut self.seat, credit);
+        Turn { seat }
     }
 
     /// Joins the other turn into this one: its credit and numbers are added.
@@ -104,10 +107,10 @@ impl Turn {
         ensures hand { self.new.hand ≡ united self.old.hand other.hand }
         ensures each_once { EachOnceIfWhole self.new.hand }
     {
-        let Turn { place } = other;
+        let Turn { seat } = other;
         let words = &desk.table.shared;
-        words.join_seat::<Union>(&mut self.place, place);
+        words.join_seat::<Union>(&mut self.seat, seat);
         // One more load tells what the whole endowment means for the numbers.
-        words.load::<Tell>(&mut self.place, 0);
+        words.load::<Tell>(&mut self.seat, 0);
     }
 }

@@ -1,17 +1,18 @@
 // The workers, each with a turn and a pass of its own.
 ghost use Rattle.std.specs.Prelude.{◌≡◌, ℕ, ◌+◌, ◌-◌, ◌*◌, ◌/◌, ◌^◌, ◌<◌, ◌≤◌, length, take, drop, OnOk, OnErr};
+ghost use Rattle.abuf_num.specs.declared.limits.TheConstants.{MAX_PRIMITIVES, MAX_THREADS};
 ghost use Rattle.abuf_raster.specs.Samples.{offsets_of};
 ghost use Rattle.abuf_raster.specs.Region.{IsRegion};
 ghost use Rattle.abuf_raster.specs.Hits.{all_fragments};
 ghost use Rattle.abuf_frame.specs.Views.{endowment, loose};
 ghost use Rattle.abuf_fan.specs.Grows.{Grows};
-ghost use Rattle.abuf_fan.specs.Parts.{parts_of};
-ghost use Rattle.abuf_fan.specs.Workers.{CanDraw, Parted, Served};
+ghost use Rattle.abuf_fan.specs.Workers.{CanServe, HaveServed, Parted, credit_for};
 ghost use denote.Param.Send.{IsSync};
 
-use crate::desk::{Desk, Turn};
+use crate::desk::{Desk, MAX_PARTS, Turn};
 use crate::gate::Gate;
 use crate::part::{draw_part, part_of};
+use crate::work::{Work, Workers};
 use abuf_frame::{Frame, Pass};
 use abuf_num::NoMemory;
 use abuf_raster::{Pattern, Region, ScreenTri};
@@ -19,30 +20,16 @@ use std::alloc::Global;
 use std::thread::{Threads, join_mut};
 
 /// Takes parts from the desk and draws them, until none is left.
-fn work<G: Gate>(
-    gate: &G,
-    worker: u32,
-    frame: &Frame,
-    desk: &Desk,
-    pass: &mut Pass,
-    turn: &mut Turn,
-    tris: &[ScreenTri],
-    region: Region,
-    pattern: Pattern,
-)
-    requires frame { pass.old.frame ≡ frame.now }
-    requires desk { (turn.old.table ≡ desk.now.table) × (desk.now.parts ≡ parts_of (length tris.now)) }
-    requires can { CanDraw frame.now region (length tris.now) 1 }
-    requires turns { parts_of (length tris.now) + 1 ≤ turn.old.hand.credit }
-    requires credit { length tris.now * (region.w * region.h) ≤ pass.old.view.credit }
-    ensures frame { (pass.new.frame ≡ pass.old.frame) × (turn.new.table ≡ turn.old.table) }
-    ensures served { Served tris.now (offsets_of pattern) region (parts_of (length tris.now)) turn.old.hand turn.new.hand pass.old.view pass.new.view }
+fn draw_parts<G: Gate>(gate: &G, worker: u32, work: &Work, pass: &mut Pass, turn: &mut Turn)
+    requires can { CanServe work.now 1 turn.old pass.old }
+    ensures served { HaveServed work.now turn.old turn.new pass.old pass.new }
 {
     gate.pass_by(worker, pass);
     // One above the last part drawn, and 0 before the first.
     let mut next = 0;
-    while let Some(part) = desk.take(turn) {
-        draw_part(frame, pass, part_of(tris, part), 64 * part, region, pattern);
+    while let Some(part) = work.desk.take(turn) {
+        let tris = part_of(work.tris, part);
+        draw_part(work.frame, pass, tris, 64 * part, work.region, work.pattern);
         if next == 0 {
             gate.pass_by(worker, pass);
         }
@@ -54,95 +41,56 @@ fn work<G: Gate>(
 }
 
 /// Splits off a pass with the credit that so many workers of the right half need, and keeps what those of the left half need.
-fn lend(
-    frame: &Frame,
-    pass: &mut Pass,
-    tris: &[ScreenTri],
-    region: Region,
-    left: u32,
-    right: u32,
-) -> Pass
-    requires frame { pass.old.frame ≡ frame.now }
-    requires can { CanDraw frame.now region (length tris.now) (left + right) }
-    requires credit { (left + right) * (length tris.now * (region.w * region.h)) ≤ pass.old.view.credit }
-    ensures left { (pass.new.frame ≡ pass.old.frame) × (left * (length tris.now * (region.w * region.h)) ≤ pass.new.view.credit) }
-    ensures right { (result.frame ≡ pass.old.frame) × (right * (length tris.now * (region.w * region.h)) ≤ result.view.credit) }
+fn lend(work: &Work, pass: &mut Pass, left: u32, right: u32) -> Pass
+    requires frame { pass.old.frame ≡ work.now.frame.now }
+    requires workers { left + right ≤ MAX_THREADS }
+    requires credit { credit_for work.now (left + right) ≤ pass.old.view.credit }
+    ensures left { (pass.new.frame ≡ pass.old.frame) × (credit_for work.now left ≤ pass.new.view.credit) }
+    ensures right { (result.frame ≡ pass.old.frame) × (credit_for work.now right ≤ result.view.credit) }
     ensures views { Parted pass.old.view pass.new.view result.view }
 {
-    let each = tris.len() as u64 * (region.w * region.h) as u64;
-    pass.split(frame, right as u64 * each)
+    let each = work.tris.len() as u64 * (work.region.w * work.region.h) as u64;
+    pass.split(work.frame, right as u64 * each)
 }
 
-/// Draws parts by `count` workers from number `first` on: each half of them on a thread of its own, the right one by a pass and
-/// a turn that are split off, and joined when both halves have returned. A turn of a worker has credit for each part and one
-/// more number.
+/// Draws parts by these workers: each half of them on a thread of its own, the right one by a pass and a turn that are split
+/// off, and joined when both halves have returned.
 fn draw_workers<R: Threads + Sync, G: Gate + Sync>(
     rt: &R,
     gate: &G,
-    frame: &Frame,
-    desk: &Desk,
+    work: &Work,
+    workers: Workers,
     pass: &mut Pass,
     turn: &mut Turn,
-    tris: &[ScreenTri],
-    region: Region,
-    pattern: Pattern,
-    first: u32,
-    count: u32,
 )
-    requires frame { pass.old.frame ≡ frame.now }
-    requires desk { (turn.old.table ≡ desk.now.table) × (desk.now.parts ≡ parts_of (length tris.now)) }
-    requires can { CanDraw frame.now region (length tris.now) count }
-    requires workers { first + count ≤ 64 }
-    requires turns { count * 32769 ≤ turn.old.hand.credit }
-    requires credit { count * (length tris.now * (region.w * region.h)) ≤ pass.old.view.credit }
-    ensures frame { (pass.new.frame ≡ pass.old.frame) × (turn.new.table ≡ turn.old.table) }
-    ensures served { Served tris.now (offsets_of pattern) region (parts_of (length tris.now)) turn.old.hand turn.new.hand pass.old.view pass.new.view }
+    requires can { CanServe work.now workers.count turn.old pass.old }
+    ensures served { HaveServed work.now turn.old turn.new pass.old pass.new }
 {
-    if count == 1 {
-        work(gate, first, frame, desk, pass, turn, tris, region, pattern);
+    if workers.count == 1 {
+        draw_parts(gate, workers.first, work, pass, turn);
         return;
     }
-    let left = count / 2;
-    let right = count - left;
-    let middle = first + left;
-    let mut other = lend(frame, pass, tris, region, left, right);
-    let mut other_turn = turn.split(desk, right as u64 * 32769);
+    let (left, right) = workers.halves();
+    let mut other = lend(work, pass, left.count, right.count);
+    let mut other_turn = turn.split(work.desk, right.count as u64 * (MAX_PARTS + 1) as u64);
     join_mut(
         rt,
         &mut ||
-            requires { IsSync R.row × IsSync G.row × (pass.now.frame ≡ frame.now) × (turn.now.table ≡ desk.now.table) × (desk.now.parts ≡ parts_of (length tris.now)) × CanDraw frame.now region (length tris.now) left × (first + left ≤ 64) × (left * 32769 ≤ turn.now.hand.credit) × (left * (length tris.now * (region.w * region.h)) ≤ pass.now.view.credit) }
-            ensures { (pass.exit.now.frame ≡ pass.entry.now.frame) × (turn.exit.now.table ≡ turn.entry.now.table) × Served tris.entry.now (offsets_of pattern) region (parts_of (length tris.entry.now)) turn.entry.now.hand turn.exit.now.hand pass.entry.now.view pass.exit.now.view }
-        {
-            draw_workers(
-                rt, gate, frame, desk, pass, turn, tris, region, pattern, first, left,
-            )
-        },
+            requires { IsSync R.row × IsSync G.row × CanServe work.now left.count turn.now pass.now }
+            ensures { HaveServed work.entry.now turn.entry.now turn.exit.now pass.entry.now pass.exit.now }
+        { draw_workers(rt, gate, work, left, pass, turn) },
         &mut ||
-            requires { IsSync R.row × IsSync G.row × (other.frame ≡ frame.now) × (other_turn.table ≡ desk.now.table) × (desk.now.parts ≡ parts_of (length tris.now)) × CanDraw frame.now region (length tris.now) right × (middle + right ≤ 64) × (right * 32769 ≤ other_turn.hand.credit) × (right * (length tris.now * (region.w * region.h)) ≤ other.view.credit) }
-            ensures { (other.exit.frame ≡ other.entry.frame) × (other_turn.exit.table ≡ other_turn.entry.table) × Served tris.entry.now (offsets_of pattern) region (parts_of (length tris.entry.now)) other_turn.entry.hand other_turn.exit.hand other.entry.view other.exit.view }
-        {
-            draw_workers(
-                rt,
-                gate,
-                frame,
-                desk,
-                &mut other,
-                &mut other_turn,
-                tris,
-                region,
-                pattern,
-                middle,
-                right,
-            )
-        },
+            requires { IsSync R.row × IsSync G.row × CanServe work.now right.count other_turn other }
+            ensures { HaveServed work.entry.now other_turn.entry other_turn.exit other.entry other.exit }
+        { draw_workers(rt, gate, work, right, &mut other, &mut other_turn) },
     );
-    pass.join(frame, other);
-    turn.join(desk, other_turn);
+    pass.join(work.frame, other);
+    turn.join(work.desk, other_turn);
 }
 
 /// Draws all triangles into the frame, triangle i as primitive number i, by `threads` workers, of 1 to 64: a new entry for each
 /// fragment in the region, Linked or Lost. A whole pass stays whole, and a settled one settled. What the pass is told of may
-/// grow, by Linked entries that are its own at the return. After want of memory nothing was drawn, and the pass is unchanged.
+/// grow, by Linked entries that are its own at the return. Where memory runs out, nothing was drawn, and the pass is unchanged.
 pub fn draw_all<R: Threads + Sync, G: Gate + Sync>(
     rt: &R,
     alloc: Global,
@@ -157,8 +105,8 @@ pub fn draw_all<R: Threads + Sync, G: Gate + Sync>(
     requires frame { pass.old.frame ≡ frame.now }
     requires region { IsRegion region }
     requires pixels { region.w * region.h ≤ frame.now.pixels }
-    requires count { length tris.now ≤ 2097152 }
-    requires threads { (1 ≤ threads) × (threads ≤ 64) }
+    requires count { length tris.now ≤ MAX_PRIMITIVES }
+    requires threads { (1 ≤ threads) × (threads ≤ MAX_THREADS) }
     requires credit { threads * (length tris.now * (region.w * region.h)) ≤ pass.old.view.credit }
     ensures frame { pass.new.frame ≡ pass.old.frame }
     ensures drawn { OnOk result (Grows (all_fragments tris.now 0 (offsets_of pattern) region) pass.old.view pass.new.view) }
@@ -167,9 +115,18 @@ pub fn draw_all<R: Threads + Sync, G: Gate + Sync>(
     ensures endowment { endowment pass.new.view ≡ endowment pass.old.view }
     ensures loose { loose pass.new.view.entries ≡ loose pass.old.view.entries }
 {
-    let (desk, mut turn) = Desk::start(alloc, ((tris.len() + 63) / 64) as u32)?;
-    draw_workers(
-        rt, gate, frame, &desk, pass, &mut turn, tris, region, pattern, 0, threads,
-    );
+    let (desk, mut turn) = Desk::start(alloc, tris.len().div_ceil(64) as u32)?;
+    let work = Work {
+        frame,
+        desk: &desk,
+        tris,
+        region,
+        pattern,
+    };
+    let workers = Workers {
+        first: 0,
+        count: threads,
+    };
+    draw_workers(rt, gate, &work, workers, pass, &mut turn);
     Ok(())
 }

@@ -16,15 +16,16 @@
 mod desk;
 mod drawing;
 mod gate;
-#[cfg(test)]
-mod meet;
+mod meeting;
 mod most;
 mod part;
 mod rule;
 #[cfg(test)]
 mod tests;
+mod work;
 
-pub use desk::{Desk, Turn};
+pub use desk::{Desk, MAX_PARTS, Turn};
 pub use drawing::draw_all;
 pub use gate::{Gate, OpenGate};
+pub use meeting::MeetingGate;
 pub use most::most_fragments;

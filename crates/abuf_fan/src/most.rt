@@ -1,8 +1,10 @@
 // How many fragments triangles have at most.
 ghost use Rattle.std.specs.Prelude.{ℕ, ◌+◌, ◌*◌, ◌<◌, ◌≤◌, IsTrue, ◌↔◌, length};
+ghost use Rattle.abuf_num.specs.declared.limits.TheConstants.{MAX_PIXELS, MAX_PRIMITIVES, MAX_THREADS};
 ghost use Rattle.abuf_raster.specs.Samples.{offsets_of};
 ghost use Rattle.abuf_raster.specs.Region.{IsRegion};
-ghost use Rattle.abuf_raster.specs.Hits.{all_fragments};
+ghost use Rattle.abuf_fan.specs.Most.{CanCount, IsMost};
+ghost use Rattle.abuf_fan.specs.declared.most.TheConstants.{LITTLE};
 ghost use denote.Param.Send.{IsSync};
 
 use abuf_raster::{Pattern, Region, ScreenTri, most_hits};
@@ -11,9 +13,9 @@ use std::thread::{Threads, join};
 /// The sum of what each of the triangles has at most.
 fn sum_of(tris: &[ScreenTri], region: Region, pattern: Pattern) -> u64
     requires region { IsRegion region }
-    requires few { length tris.now ≤ 2097152 }
-    ensures bound { (first : ℕ) → length (all_fragments tris.now first (offsets_of pattern) region) ≤ result }
-    ensures small { result ≤ length tris.now * 4194304 }
+    requires few { length tris.now ≤ MAX_PRIMITIVES }
+    ensures bound { IsMost tris.now (offsets_of pattern) region result }
+    ensures small { result ≤ length tris.now * MAX_PIXELS }
 {
     let mut sum = 0;
     for t in tris {
@@ -23,20 +25,20 @@ fn sum_of(tris: &[ScreenTri], region: Region, pattern: Pattern) -> u64
 }
 
 /// About how many pixels may be asked of one thread: where there are no more, starting another takes longer.
-const LITTLE: u64 = 1 << 22;
+const LITTLE: u64 = 4194304;
 
 /// One thread soon has asked so many triangles about the tiles of the region.
 fn is_little(count: usize, region: Region) -> bool
     requires region { IsRegion region }
-    requires few { count ≤ 2097152 }
-    ensures { IsTrue result ↔ (count * (region.w * region.h + 64) ≤ 4194304) }
+    requires few { count ≤ MAX_PRIMITIVES }
+    ensures { IsTrue result ↔ (count * (region.w * region.h + 64) ≤ LITTLE) }
 {
     count as u64 * u64::from(region.w * region.h + 64) <= LITTLE
 }
 
 /// At least as many as the triangles have fragments in the region, whatever number the first of them has: the sum of what each
-/// has at most, found on 1 to 64 threads, or on one where that is soon done. A frame of so many nodes loses none, so one of more would only take memory, and time
-/// to clear it. The call takes no memory.
+/// has at most, found on 1 to 64 threads, or on one where that is soon done. A frame of so many nodes loses none, and more nodes
+/// would only take memory, and time to clear them. The call takes no memory.
 pub fn most_fragments<R: Threads + Sync>(
     rt: &R,
     tris: &[ScreenTri],
@@ -45,10 +47,10 @@ pub fn most_fragments<R: Threads + Sync>(
     threads: u32,
 ) -> u64
     requires region { IsRegion region }
-    requires few { length tris.now ≤ 2097152 }
-    requires threads { (1 ≤ threads) × (threads ≤ 64) }
-    ensures bound { (first : ℕ) → length (all_fragments tris.now first (offsets_of pattern) region) ≤ result }
-    ensures small { result ≤ length tris.now * 4194304 }
+    requires few { length tris.now ≤ MAX_PRIMITIVES }
+    requires threads { (1 ≤ threads) × (threads ≤ MAX_THREADS) }
+    ensures bound { IsMost tris.now (offsets_of pattern) region result }
+    ensures small { result ≤ length tris.now * MAX_PIXELS }
 {
     if threads == 1 || is_little(tris.len(), region) {
         return sum_of(tris, region, pattern);
@@ -56,16 +58,16 @@ pub fn most_fragments<R: Threads + Sync>(
     let left = threads / 2;
     let right = threads - left;
     let (front, back) = tris.split_at(tris.len() * left as usize / threads as usize);
-    let (before, behind) = join(
+    let (before, after) = join(
         rt,
         move || -> u64
-            requires { IsSync R.row × IsRegion region × (length front.now ≤ 2097152) × (1 ≤ left) × (left ≤ 64) }
-            ensures { ((first : ℕ) → length (all_fragments front.entry.now first (offsets_of pattern) region) ≤ result) × (result ≤ length front.entry.now * 4194304) }
+            requires { IsSync R.row × CanCount front.now region left }
+            ensures { IsMost front.entry.now (offsets_of pattern) region result × (result ≤ length front.entry.now * MAX_PIXELS) }
         { most_fragments(rt, front, region, pattern, left) },
         move || -> u64
-            requires { IsSync R.row × IsRegion region × (length back.now ≤ 2097152) × (1 ≤ right) × (right ≤ 64) }
-            ensures { ((first : ℕ) → length (all_fragments back.entry.now first (offsets_of pattern) region) ≤ result) × (result ≤ length back.entry.now * 4194304) }
+            requires { IsSync R.row × CanCount back.now region right }
+            ensures { IsMost back.entry.now (offsets_of pattern) region result × (result ≤ length back.entry.now * MAX_PIXELS) }
         { most_fragments(rt, back, region, pattern, right) },
     );
-    before + behind
+    before + after
 }

@@ -1,5 +1,6 @@
 // Parts of 64 triangles that follow each other.
 ghost use Rattle.std.specs.Prelude.{◌≡◌, ℕ, ◌+◌, ◌*◌, ◌≤◌, length, take, drop};
+ghost use Rattle.abuf_num.specs.declared.limits.TheConstants.{MAX_PRIMITIVES};
 ghost use Rattle.abuf_raster.specs.Samples.{offsets_of};
 ghost use Rattle.abuf_raster.specs.Region.{IsRegion};
 ghost use Rattle.abuf_raster.specs.Hits.{all_fragments};
@@ -12,7 +13,7 @@ use abuf_raster::{Pattern, Region, ScreenTri};
 /// The triangles of a part.
 pub(crate) fn part_of(tris: &[ScreenTri], part: u32) -> &[ScreenTri]
     requires part { 64 * part ≤ length tris.now }
-    requires few { length tris.now ≤ 2097152 }
+    requires few { length tris.now ≤ MAX_PRIMITIVES }
     ensures { result.now ≡ take 64 (drop (64 * part) tris.now) }
 {
     let rest = &tris[64 * part as usize..];
@@ -31,7 +32,7 @@ pub(crate) fn draw_part(
     requires frame { pass.old.frame ≡ frame.now }
     requires region { IsRegion region }
     requires pixels { region.w * region.h ≤ frame.now.pixels }
-    requires count { first + length tris.now ≤ 2097152 }
+    requires count { first + length tris.now ≤ MAX_PRIMITIVES }
     requires credit { length tris.now * (region.w * region.h) ≤ pass.old.view.credit }
     ensures frame { pass.new.frame ≡ pass.old.frame }
     ensures draws { Draws (all_fragments tris.now first (offsets_of pattern) region) pass.old.view pass.new.view }

@@ -20,7 +20,7 @@ impl TableRule<(), Hand, ()> for Numbers {
     ghost first = { λ _. whole_hand };
 }
 
-/// How much credit a split moves.
+/// How much credit moves to the turn that is split off.
 pub trait Moved {
     ghost use Rattle.std.specs.Prelude.{ℕ};
 
@@ -31,19 +31,21 @@ impl Moved for Brand {
     ghost credit = { 0 };
 }
 
-pub struct Cut<N> {
+/// The split that moves this credit.
+pub struct SplitOff<N> {
     moved: PhantomData<N>,
 }
 
-impl<N: Moved> Split<Hand> for Cut<N> {
-    ghost use Rattle.abuf_fan.specs.Desk.{holding};
-    ghost use Rattle.std.specs.Prelude.{◌-◌, []};
+impl<N: Moved> Split<Hand> for SplitOff<N> {
+    ghost use Rattle.abuf_fan.specs.Desk.{holding, with_less};
+    ghost use Rattle.std.specs.Prelude.{[]};
 
-    ghost left = { λ v. holding (v.credit - N.credit) v.drawn };
+    ghost left = { λ v. with_less N.credit v };
 
     ghost right = { λ v. holding N.credit [] };
 }
 
+/// The join that adds credits and numbers.
 pub struct Union;
 
 impl Join<Hand> for Union {
@@ -77,4 +79,5 @@ impl Play<(), Hand> for Tell {
 
 pub(crate) type Words = Shared<(), Hand, (), Numbers>;
 
-pub(crate) type Place = Seat<(), Hand>;
+/// A turn's seat at the desk's table.
+pub(crate) type DeskSeat = Seat<(), Hand>;

@@ -1,6 +1,7 @@
-use Rattle.std.proofs.Common.{arith}
+use Rattle.std.proofs.Common.{ap, arith}
 use Rattle.abuf_raster.specs.Samples.{offsets_of}
 use Rattle.abuf_raster.specs.Hits.{all_fragments}
+use Rattle.abuf_fan.specs.declared.rule.Hand.{Hand}
 use Rattle.abuf_fan.specs.Grows.{Grows}
 use Rattle.abuf_fan.proofs.Parts.{all_fragments_few}
 use Rattle.abuf_fan.proofs.Growing.{grows_endowment, grows_loose}
@@ -10,10 +11,14 @@ use Rattle.abuf_fan.proofs.drawing.draw_all.Goals.{After-drop-desk-inside}
 use Rattle.abuf_fan.proofs.drawing.draw_all.Given.{Over}
 
 pub draw_workers-requires-clause-can : goal.draw_workers-requires-clause-can
-draw_workers-requires-clause-can g c = let r = c.requires in λ k l. record { is_region = r.region; fits = r.pixels; few = r.count; some = r.threads.0; not_many = r.threads.1 }
+draw_workers-requires-clause-can g c = λ κs within.
+    let start = c.in_ok-desk.ensures in
+    let credit = ap (λ (h : Hand). h.credit) start.2 in
+    let threads = c.requires.threads in
+    record { of_frame = c.requires.frame; of_desk = start.1; numbers = omega arith; fragments = c.requires.credit }
 
 all_drawn : (g : Over) (c : After-drop-desk-inside g) → Grows (all_fragments c.args.tris.now 0 (offsets_of c.args.pattern) c.args.region) c.args.pass.now.view c.draw_workers.new.pass.view
-all_drawn g c = served_all c.args.tris.now (offsets_of c.args.pattern) c.args.region c.in_ok-desk.turn.hand c.draw_workers.new.turn.hand c.args.pass.now.view c.draw_workers.new.pass.view c.in_ok-desk.ensures.2 c.draw_workers.ensures.served
+all_drawn g c = served_all c.args.tris.now (offsets_of c.args.pattern) c.args.region c.in_ok-desk.turn.hand c.draw_workers.new.turn.hand c.args.pass.now.view c.draw_workers.new.pass.view c.in_ok-desk.ensures.2 c.draw_workers.ensures.served.served
 
 pub returns-clause-drawn : goal.returns-clause-drawn
 returns-clause-drawn g c = all_drawn g c

@@ -13,34 +13,42 @@ use Rattle.abuf_frame.proofs.Counting.{total_only}
 use Rattle.abuf_fan.specs.declared.rule.Hand.{Hand}
 use Rattle.abuf_fan.specs.Desk.{Lawful, EachOnceIfWhole, Shown, whole_hand, drawing, endowment, holding}
 
+-- A state of the desk's table.
 abbrev St : Type 0
 St = State (Unit {0}) Hand
 
+-- The state that a desk starts in is lawful.
 pub starts : Lawful (opening (0 ∷ []) [] whole_hand)
 starts = record { wide = refl; once = λ n. none n; counted = refl; endowed = refl }
   where
     none : (n : ℕ) → 0 ≡ below n 0
     none n = let b = below_from n 0 in ⊎_elim (λ (e : below n 0 ≡ 0). sym e) (λ (e : below n 0 ≢ 0). let l = b (omega arith) in absurd (omega arith)) (cases_eq (below n 0) 0)
 
+-- A list without items has no number.
 times_le : (n : ℕ) (ns : List ℕ) → length ns ≡ 0 → times n ns ≡ 0
 times_le n [] e = refl
 times_le n (m ∷ ms) e = absurd (omega arith)
 
+-- Numbers of which each that stands in the list is below a bound are all below it.
 under_from : (c : ℕ) (ns : List ℕ) → ((n : ℕ) → 0 < times n ns → n < c) → All (λ n. n < c) ns
 under_from c [] h = All-nil (λ n. n < c)
 under_from c (n ∷ ns) h = All-cons (λ n. n < c) n ns (h n (let t = ap (λ (b : Bool). cond {A = ℕ} b 1 0) (eq-eqb n n refl) in omega arith)) (under_from c ns (λ m l. h m (omega arith)))
 
 module _ (s : St) (r : Lawful s) (id : ℕ) (v : Hand) (at : get_elem? s.views id ≡ some v) where
+  -- The turn that has the whole endowment has each number below the count once.
   whole : EachOnceIfWhole v
   whole e n = let a = total_only (λ (u : Hand). times n u.drawn) endowment (λ u z. times_le n u.drawn (omega arith)) s.views id v at (r.endowed ∙ sym e) in
       let b = total_only (λ (u : Hand). length u.drawn) endowment (λ u z. omega arith) s.views id v at (r.endowed ∙ sym e) in sym a ∙ (r.once n ∙ ap (below n) (sym (r.counted) ∙ b))
 
+  -- The numbers of a turn are below the word.
   under : All (λ n. n < slice_index s.words 0) v.drawn
   under = under_from (slice_index s.words 0) v.drawn (λ n l. let t = total_le (λ (u : Hand). times n u.drawn) s.views id v at in let o = r.once n in below_from n (slice_index s.words 0) (omega arith))
 
+  -- What a turn may still draw doesn't reach 2 ^ 60.
   room : v.credit + slice_index s.words 0 ≤ 2 ^ 60
   room = let b = total_both (λ (u : Hand). u.credit) (λ (u : Hand). length u.drawn) s.views in let c = total_le (λ (u : Hand). u.credit) s.views id v at in let d = r.counted in let e = r.endowed in omega arith
 
+  -- The state after a number was drawn is lawful.
   drawn_state : (c : ℕ) → slice_index s.words 0 ≡ c → 1 ≤ v.credit → Lawful record { words = set s.words 0 (c + 1); homes = s.homes; views = set s.views id (drawing c v) }
   drawn_state c is some_credit = let w : Hand = drawing c v in let wide = r.wide in let here : get_or (set s.words 0 (c + 1)) 0 0 ≡ c + 1 = get_or-set_same s.words 0 (c + 1) 0 (omega arith) in let len = length-append v.drawn (c ∷ []) in record {
     wide = length-set s.words 0 (c + 1) ∙ r.wide;
@@ -49,6 +57,7 @@ module _ (s : St) (r : Lawful s) (id : ℕ) (v : Hand) (at : get_elem? s.views i
     endowed = let t = total_set endowment s.views id v w at in let o = r.endowed in omega arith;
   }
 
+-- A turn with credit may draw a number: the addition doesn't wrap, and shows what a turn learns by it.
 pub takes : (slots id : ℕ) (me : Me (Unit {0}) Hand) → me.1 ≡ [] → 1 ≤ me.0.credit → Allows Lawful slots id me 0 (λ n. (n + 1) % 2 ^ 64) (λ found now. (now ≡ (drawing found me.0, [])) × Shown found me.0)
 takes slots id me bare some_credit s r deep at small = let c : ℕ = slice_index s.words 0 in let w : Hand = drawing c me.0 in let m = room s r id me.0 at in let same : c + 1 ≡ (c + 1) % 2 ^ 64 = omega arith in
     let next = drawn_state s r id me.0 at c refl some_credit in (
@@ -64,6 +73,7 @@ takes slots id me bare some_credit s r deep at small = let c : ℕ = slice_index
     here (x ∷ xs) zero v w e = refl
     here (x ∷ xs) (suc i) v w e = here xs i v w e
 
+-- Any turn may load the word, which shows whether its numbers are those below the count.
 pub tells : (slots id : ℕ) (me : Me (Unit {0}) Hand) → Allows Lawful slots id me 0 (λ n. n) (λ found now. (now ≡ me) × EachOnceIfWhole me.0)
 tells slots id me s r deep at small = (
   me.0,
@@ -73,6 +83,7 @@ tells slots id me s r deep at small = (
   (refl, whole s r id me.0 at),
 )
 
+-- So much of a turn's credit may be split off.
 pub splits : (id credit : ℕ) (v : Hand) → credit ≤ v.credit → Splits Lawful id v (holding (v.credit - credit) v.drawn) (holding credit [])
 splits id credit v enough s r at = let l : Hand = holding (v.credit - credit) v.drawn in let w : Hand = holding credit [] in let vs : List Hand = set s.views id l in record {
   wide = r.wide;
@@ -81,6 +92,7 @@ splits id credit v enough s r at = let l : Hand = holding (v.credit - credit) v.
   endowed = let a = total-append endowment vs (w ∷ []) in let b = total_set endowment s.views id v l at in let o = r.endowed in omega arith;
 }
 
+-- Two turns may be joined.
 pub joins : (id other : ℕ) (v w : Hand) → Joins Lawful id v other w (holding (v.credit + w.credit) (v.drawn ++ w.drawn)) (holding 0 [])
 joins id other v w s r at apart at' = let b : Hand = holding (v.credit + w.credit) (v.drawn ++ w.drawn) in let vs : List Hand = set s.views id b in let len = length-append v.drawn w.drawn in record {
   wide = r.wide;

@@ -23,27 +23,28 @@ impl Side {
     }
 }
 
-/// At a worker's first call the credit of its pass is noted. At its second call the credit must have fallen by exactly what
-/// the worker's part has; then it raises its flag and looks for that of the other worker.
+/// A gate for tests of two workers: each of them draws its part, and goes on once it sees that the other has drawn its own.
+/// That it has is told from the credit of its pass, which is less by as many fragments at its second call than at its first.
+/// A worker that doesn't see the other looks for it during some 2^28 loads, and goes on.
 #[derive(Drop)]
-pub(crate) struct Meet {
+pub struct MeetingGate {
     part: u64,
     first: Side,
     second: Side,
 }
 
-impl Meet {
+impl MeetingGate {
     /// Each worker is to draw so many fragments.
-    pub(crate) fn new(part: u64) -> Meet {
-        Meet {
+    pub fn new(part: u64) -> MeetingGate {
+        MeetingGate {
             part,
             first: Side::new(),
             second: Side::new(),
         }
     }
 
-    /// Whether each of the two has drawn its part and seen the other's flag.
-    pub(crate) fn both(&self) -> bool {
+    /// Each of the two has drawn its part and seen that the other had.
+    pub fn have_met(&self) -> bool {
         self.first.met.load(Ordering::SeqCst) && self.second.met.load(Ordering::SeqCst)
     }
 }
@@ -58,7 +59,7 @@ fn look_for(flag: &AtomicBool) -> bool {
     false
 }
 
-impl Gate for Meet {
+impl Gate for MeetingGate {
     fn pass_by(&self, worker: u32, pass: &Pass) {
         let (own, other) = if worker == 0 {
             (&self.first, &self.second)

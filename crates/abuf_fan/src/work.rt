@@ -1,0 +1,52 @@
+// What is drawn, and by which workers.
+ghost use Rattle.std.specs.Prelude.{◌≡◌, ◌+◌, ◌-◌, ◌*◌, ◌/◌, ◌≤◌, length};
+ghost use Rattle.abuf_num.specs.declared.limits.TheConstants.{MAX_PRIMITIVES, MAX_THREADS};
+ghost use Rattle.abuf_raster.specs.Region.{IsRegion};
+ghost use Rattle.abuf_fan.specs.Parts.{parts_of};
+
+use crate::desk::Desk;
+use abuf_frame::Frame;
+use abuf_raster::{Pattern, Region, ScreenTri};
+
+/// What all workers of a drawing share: the frame, the desk from which they take the numbers of parts, and what is drawn.
+#[derive(Clone, Copy)]
+pub(crate) struct Work<'a> {
+    pub(crate) frame: &'a Frame,
+    pub(crate) desk: &'a Desk,
+    pub(crate) tris: &'a [ScreenTri],
+    pub(crate) region: Region,
+    pub(crate) pattern: Pattern,
+    pub(crate) ghost is_region: { IsRegion region },
+    pub(crate) ghost fits: { region.w * region.h ≤ frame.now.pixels },
+    pub(crate) ghost few: { length tris.now ≤ MAX_PRIMITIVES },
+    pub(crate) ghost parts: { desk.now.parts ≡ parts_of (length tris.now) },
+}
+
+/// Workers whose numbers follow each other.
+#[derive(Clone, Copy)]
+pub(crate) struct Workers {
+    pub(crate) first: u32,
+    pub(crate) count: u32,
+    pub(crate) ghost some: { 1 ≤ count },
+    pub(crate) ghost few: { first + count ≤ MAX_THREADS },
+}
+
+impl Workers {
+    /// The lower half of the numbers, and the others.
+    pub(crate) fn halves(self) -> (Workers, Workers)
+        requires { 2 ≤ self.count }
+        ensures { (result.0.count ≡ self.count / 2) × (result.1.count ≡ self.count - self.count / 2) }
+    {
+        let left = self.count / 2;
+        (
+            Workers {
+                first: self.first,
+                count: left,
+            },
+            Workers {
+                first: self.first + left,
+                count: self.count - left,
+            },
+        )
+    }
+}
