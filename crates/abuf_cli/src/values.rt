@@ -1,6 +1,6 @@
 // What the texts of the options and values stand for.
 ghost use Rattle.std.specs.Prelude.{◌≡◌, ◌≤◌, ◌<◌, ◌^◌, ◌⊎◌, pos, IfSome};
-ghost use Rattle.abuf_view.specs.Camera.{IsSize, IsTurn, IsBounded, IsFrom, turn_of as quaternion, place_of};
+ghost use Rattle.abuf_view.specs.Camera.{IsSize, IsTurn, IsBounded, IsFrom, quaternion_of, point_of};
 ghost use Rattle.abuf_num.specs.declared.limits.TheConstants.{MAX_NODES, MAX_THREADS};
 ghost use Rattle.abuf_cli.specs.Values.{size_of, size_within, pattern_of, counted, threads_of, nodes_of, turn_of, three_scaled, shift_of, between, focal_of};
 ghost use Rattle.abuf_cli.specs.Values.{near_of, background_of, maxval_of, bands_of, pixel_within, at_of, number_of, AreInRange};
@@ -108,7 +108,7 @@ pub fn nodes_of(text: &[u8]) -> Option<u32>
 /// `a,b,c,d`.
 pub fn turn_of(text: &[u8]) -> Option<[i32; 4]>
     ensures value { result ≡ turn_of text.now }
-    ensures turn { IfSome result (λ t. IsTurn (quaternion t)) }
+    ensures turn { IfSome result (λ t. IsTurn (quaternion_of t)) }
 {
     let (a, b, c, d) = four_texts(text)?;
     turn_from(a, b, c, d)
@@ -135,7 +135,7 @@ fn three_scaled(text: &[u8], k: u32) -> Option<Triple>
 /// A shift, in units of 1/65536.
 pub fn shift_of(text: &[u8]) -> Option<[i64; 3]>
     ensures value { result ≡ shift_of text.now }
-    ensures range { IfSome result (λ t. IsBounded (place_of t)) }
+    ensures range { IfSome result (λ t. IsBounded (point_of t)) }
 {
     let t = three_scaled(text, 65536)?;
     Some([t.x, t.y, t.z])

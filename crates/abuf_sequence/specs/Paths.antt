@@ -3,7 +3,7 @@ use Rattle.std.specs.Prelude.{◌≡◌, ℕ, ◌+◌, ℤ, nat_lt, List, [], �
 use Rattle.abuf_num.specs.Texts.{scaled_number}
 use Rattle.abuf_text.specs.Lines.{lines}
 use Rattle.abuf_text.specs.Statement.{statement}
-use Rattle.abuf_view.specs.Camera.{IsTurn, IsBounded, turn_of, place_of}
+use Rattle.abuf_view.specs.Camera.{IsTurn, IsBounded, quaternion_of, point_of}
 use Rattle.abuf_view.specs.Turns.{turn_part, turn_from}
 use Rattle.abuf_sequence.specs.declared.path.Shot.{Shot}
 use Rattle.abuf_sequence.specs.declared.path.PathWhy.{PathWhy}
@@ -75,4 +75,4 @@ IsPath bytes (Err fault.Memory) = Unit {0}
 
 -- What every shot keeps to: a turn whose parts are from -1024 to 1024 and not all 0, and a shift of at most 2147483647 either way.
 abbrev pub IsShot : Shot → Type 0
-IsShot shot = IsTurn (turn_of shot.turn) × IsBounded (place_of shot.shift)
+IsShot shot = IsTurn (quaternion_of shot.turn) × IsBounded (point_of shot.shift)

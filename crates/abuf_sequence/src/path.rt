@@ -2,7 +2,7 @@
 ghost use Rattle.std.specs.Prelude.{◌≡◌, ◌<◌, ◌≤◌, ◌^◌, ◌-◌, ◌++◌, length, option_to_list, All, IfSome, IfOk, OnOk, MatchResult, Some, None, Ok};
 ghost use Rattle.abuf_num.specs.Texts.{scaled_number};
 ghost use Rattle.abuf_text.specs.Statement.{statement};
-ghost use Rattle.abuf_view.specs.Camera.{IsTurn, IsBounded, turn_of, place_of};
+ghost use Rattle.abuf_view.specs.Camera.{IsTurn, IsBounded, quaternion_of, point_of};
 ghost use Rattle.abuf_sequence.specs.Paths.{shift_from, shot_from, said, why, IsPath, IsShot};
 
 use abuf_num::{List, NoMemory, scaled_number};
@@ -55,7 +55,7 @@ impl From<NoMemory> for PathFault {
 /// The shift of the texts of its parts.
 fn shift_of_parts(x: &[u8], y: &[u8], z: &[u8]) -> Option<[i64; 3]>
     ensures value { result ≡ shift_from (scaled_number 65536 x.now) (scaled_number 65536 y.now) (scaled_number 65536 z.now) }
-    ensures range { IfSome result (λ s. IsBounded (place_of s)) }
+    ensures range { IfSome result (λ s. IsBounded (point_of s)) }
 {
     match (
         scaled_number(x, 65536),
@@ -69,8 +69,8 @@ fn shift_of_parts(x: &[u8], y: &[u8], z: &[u8]) -> Option<[i64; 3]>
 
 /// The shot of a turn and a shift.
 fn shot_from(turn: Option<[i32; 4]>, shift: Option<[i64; 3]>) -> Result<Option<Shot>, PathWhy>
-    requires turn { IfSome turn (λ t. IsTurn (turn_of t)) }
-    requires shift { IfSome shift (λ s. IsBounded (place_of s)) }
+    requires turn { IfSome turn (λ t. IsTurn (quaternion_of t)) }
+    requires shift { IfSome shift (λ s. IsBounded (point_of s)) }
     ensures value { result ≡ shot_from turn shift }
     ensures sound { IfOk result (λ shot. IfSome shot IsShot) }
 {

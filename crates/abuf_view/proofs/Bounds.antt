@@ -1,7 +1,7 @@
 -- Bounds on what the camera computes.
 use Rattle.std.proofs.Common.{◌≡◌, ℕ, zero, suc, ◌+◌, ◌-◌, ◌*◌, ◌/◌, ◌^◌, ◌<◌, ◌≤◌, ◌⊎◌, ℤ, pos, negsuc, ◌+ℤ◌, ◌-ℤ◌, ◌*ℤ◌, ◌<ℤ◌, ◌≤ℤ◌, neg_ℤ, unsigned_abs, arith, refl, mul-le-mul, mul-le-mul_left, subst, inl, inr, to_z, of_z, w64, SFits, FitsSigned}
-use Rattle.abuf_view.specs.declared.clipping.Seen.{Seen}
-use Rattle.abuf_view.specs.Clip.{IsView, InView}
+use Rattle.abuf_view.specs.declared.eye.EyePoint.{EyePoint}
+use Rattle.abuf_view.specs.NearPlane.{IsNearPlane, IsEyePoint}
 use Rattle.std.proofs.lemmas.Bool.{cases_lt}
 use Rattle.std.proofs.lemmas.Int.{ints, unsigned_abs-mul}
 use Rattle.std.proofs.lemmas.Nat.{div_below}
@@ -137,9 +137,9 @@ screen_le h f x w ph f0 pf w0 s =
     let c = unsigned_abs-mul (pos 65536) w in
     round_div_le (pos (128 * h) *ℤ f *ℤ x) (pos 65536 *ℤ w) (2 ^ 44) (omega (arith, ints, c)) (omega (arith, b, c, s))
 
--- ---- points in view
-pub in_view_small : (norm plane : ℤ) (s : Seen) → IsView norm plane → InView norm s → (unsigned_abs s.x < 2 ^ 55) × (unsigned_abs s.y < 2 ^ 55) × (unsigned_abs s.w < 2 ^ 55)
-in_view_small norm plane s v h =
+-- ---- points in eye space
+pub eye_point_small : (norm plane : ℤ) (s : EyePoint) → IsNearPlane norm plane → IsEyePoint norm s → (unsigned_abs s.x < 2 ^ 55) × (unsigned_abs s.y < 2 ^ 55) × (unsigned_abs s.w < 2 ^ 55)
+eye_point_small norm plane s v h =
     let n : unsigned_abs norm ≤ 4194304 = omega (arith, ints, v.norm_low, v.norm_high) in
     (omega (arith, h.x_small), omega (arith, h.y_small), omega (arith, h.w_small))
 
@@ -148,7 +148,7 @@ pub back64 : (z : ℤ) → unsigned_abs z < 2 ^ 55 → to_z w64 (of_z w64 z) ≡
 back64 z h = omega (arith, ints)
 
 -- what a cut divides by, and what it divides
-pub cut_spans : (norm plane n s : ℤ) (p q : Seen) → IsView norm plane → plane ≤ℤ p.w → q.w <ℤ plane → n ≡ p.w -ℤ plane → s ≡ p.w -ℤ q.w → (pos 0 ≤ℤ n) × (pos 0 <ℤ s) × (n ≤ℤ s)
+pub cut_spans : (norm plane n s : ℤ) (p q : EyePoint) → IsNearPlane norm plane → plane ≤ℤ p.w → q.w <ℤ plane → n ≡ p.w -ℤ plane → s ≡ p.w -ℤ q.w → (pos 0 ≤ℤ n) × (pos 0 <ℤ s) × (n ≤ℤ s)
 cut_spans norm plane n s p q v i o en es = (omega (arith, ints), omega (arith, ints), omega (arith, ints))
 
 pub fits55 : (z : ℤ) → unsigned_abs z < 2 ^ 55 → SFits w64 z

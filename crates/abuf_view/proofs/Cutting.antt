@@ -6,15 +6,15 @@ use Rattle.std.proofs.lemmas.Nat.{mod_below}
 use Rattle.std.proofs.lemmas.List.Elements.{All-nil, All-cons}
 use Rattle.abuf_num.specs.Division.{floor_div}
 use Rattle.abuf_view.proofs.Ring.{add_mul, neg_mul}
-use Rattle.abuf_view.specs.declared.clipping.Seen.{Seen}
-use Rattle.abuf_view.specs.declared.clipping.Corners.{Corners}
-use Rattle.abuf_view.specs.Clip.{clip_by, clipped, is_inside, cut}
+use Rattle.abuf_view.specs.declared.eye.EyePoint.{EyePoint}
+use Rattle.abuf_view.specs.declared.near_plane.EyeTriangle.{EyeTriangle}
+use Rattle.abuf_view.specs.NearPlane.{clip_by, clipped, is_inside, cut}
 use Rattle.abuf_view.specs.CutLaw.{IsBehind, IsBetween, IsFloorOf, IsCutOf}
 use Rattle.abuf_view.proofs.Bounds.{cut_between}
 
 -- ---- corners
 
-inside : (m : ℤ) (s : Seen) → true ≡ is_inside m s → m ≤ℤ s.w
+inside : (m : ℤ) (s : EyePoint) → true ≡ is_inside m s → m ≤ℤ s.w
 inside m s h = go (int_lt s.w m) refl h where
   go : (t : Bool) → t ≡ int_lt s.w m → true ≡ not t → m ≤ℤ s.w
   go true e k = absurd (true≢false k)
@@ -23,13 +23,13 @@ inside m s h = go (int_lt s.w m) refl h where
 at_plane : (m : ℤ) → m ≤ℤ m
 at_plane m = omega (arith, ints)
 
-one : (m : ℤ) (t : Corners) → IsBehind m t → All (IsBehind m) (t ∷ [])
+one : (m : ℤ) (t : EyeTriangle) → IsBehind m t → All (IsBehind m) (t ∷ [])
 one m t h = All-cons (IsBehind m) t [] h (All-nil (IsBehind m))
 
-two : (m : ℤ) (t u : Corners) → IsBehind m t → IsBehind m u → All (IsBehind m) (t ∷ u ∷ [])
+two : (m : ℤ) (t u : EyeTriangle) → IsBehind m t → IsBehind m u → All (IsBehind m) (t ∷ u ∷ [])
 two m t u h k = All-cons (IsBehind m) t (u ∷ []) h (one m u k)
 
-behind : (u v w : Bool) (m : ℤ) (a b c : Seen) → u ≡ is_inside m a → v ≡ is_inside m b → w ≡ is_inside m c → All (IsBehind m) (clip_by u v w m a b c)
+behind : (u v w : Bool) (m : ℤ) (a b c : EyePoint) → u ≡ is_inside m a → v ≡ is_inside m b → w ≡ is_inside m c → All (IsBehind m) (clip_by u v w m a b c)
 behind true true true m a b c p q r = one m _ (inside m a p, inside m b q, inside m c r)
 behind true true false m a b c p q r = two m _ _ (inside m a p, inside m b q, at_plane m) (inside m a p, at_plane m, at_plane m)
 behind false true true m a b c p q r = two m _ _ (inside m b q, inside m c r, at_plane m) (inside m b q, at_plane m, at_plane m)
@@ -39,7 +39,7 @@ behind false true false m a b c p q r = one m _ (inside m b q, at_plane m, at_pl
 behind false false true m a b c p q r = one m _ (inside m c r, at_plane m, at_plane m)
 behind false false false m a b c p q r = All-nil (IsBehind m)
 
-pub all_behind : (m : ℤ) (a b c : Seen) → All (IsBehind m) (clipped m a b c)
+pub all_behind : (m : ℤ) (a b c : EyePoint) → All (IsBehind m) (clipped m a b c)
 all_behind m a b c = behind (is_inside m a) (is_inside m b) (is_inside m c) m a b c refl refl refl
 
 -- ---- the cut
@@ -80,7 +80,7 @@ between p q k (negsuc d) h g l = absurd h.lt
 between p q (negsuc k) (pos d) h g l = absurd g.le
 between p q (pos k) (pos d) h g l = cut_between p q k d (omega (arith, ints, h)) (omega (arith, ints, l))
 
-pub is_cut : (m : ℤ) (p q : Seen) → m ≤ℤ p.w → q.w <ℤ m → IsCutOf m p q (cut m p q)
+pub is_cut : (m : ℤ) (p q : EyePoint) → m ≤ℤ p.w → q.w <ℤ m → IsCutOf m p q (cut m p q)
 is_cut m p q i o =
     let span : pos 0 <ℤ (p.w -ℤ q.w) = omega (arith, ints, i, o) in
     let near : pos 0 ≤ℤ (p.w -ℤ m) = omega (arith, ints, i) in

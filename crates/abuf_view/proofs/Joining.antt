@@ -6,11 +6,11 @@ use Rattle.std.proofs.Math.Seq.{take-length}
 use Rattle.abuf_num.specs.declared.plain.Paint.{Paint}
 use Rattle.abuf_scene.specs.declared.triangles.Triangle.{Triangle}
 use Rattle.abuf_raster.specs.Triangle.{Triangle as OnScreen}
-use Rattle.abuf_view.specs.declared.clipping.Seen.{Seen}
-use Rattle.abuf_view.specs.declared.clipping.Corners.{Corners}
+use Rattle.abuf_view.specs.declared.eye.EyePoint.{EyePoint}
+use Rattle.abuf_view.specs.declared.near_plane.EyeTriangle.{EyeTriangle}
 use Rattle.abuf_view.specs.Camera.{Camera}
-use Rattle.abuf_view.specs.Clip.{clip_by}
-use Rattle.abuf_view.specs.declared.seeing.Eye.{Eye}
+use Rattle.abuf_view.specs.NearPlane.{clip_by}
+use Rattle.abuf_view.specs.declared.eye.Eye.{Eye}
 use Rattle.abuf_view.specs.Eye.{eye_of, clipped_by, shown_by, tris_by, paints_by}
 use Rattle.abuf_view.specs.Primitives.{Primitive, primitive, prims, prims_of}
 
@@ -27,7 +27,7 @@ module _ (k : Camera) where
       ap₂ (λ (xs ys : List OnScreen). xs ++ ys) (sym (map-map (λ (q : Primitive). q.triangle) (primitive k t.paint) (clipped_by (eye_of k) t))) (tris_are ts)
       ∙ sym (map-append (λ (q : Primitive). q.triangle) (prims_of k t) (prims k ts))
 
-  pub paints_are : (ts : List Triangle) → flat_map (λ t. map (λ (c : Corners). t.paint) (clipped_by (eye_of k) t)) ts ≡ map (λ q. q.paint) (prims k ts)
+  pub paints_are : (ts : List Triangle) → flat_map (λ t. map (λ (c : EyeTriangle). t.paint) (clipped_by (eye_of k) t)) ts ≡ map (λ q. q.paint) (prims k ts)
   paints_are [] = refl
   paints_are (t ∷ ts) =
       ap₂ (λ (xs ys : List Paint). xs ++ ys) (sym (map-map (λ (q : Primitive). q.paint) (primitive k t.paint) (clipped_by (eye_of k) t))) (paints_are ts)
@@ -39,11 +39,11 @@ module _ (k : Camera) (e : Eye) (is : e ≡ eye_of k) (ts us : List Triangle) (s
   all_tris made h =
       h ∙ (λ j. flat_map (λ (t : Triangle). map (shown_by (is j)) (clipped_by (is j) t)) ((take_all i us all ∙ same) j)) ∙ tris_are k ts
 
-  pub all_paints : (made : List Paint) → made ≡ flat_map (λ t. map (λ (c : Corners). t.paint) (clipped_by e t)) (take i us) → made ≡ map (λ q. q.paint) (prims k ts)
+  pub all_paints : (made : List Paint) → made ≡ flat_map (λ t. map (λ (c : EyeTriangle). t.paint) (clipped_by e t)) (take i us) → made ≡ map (λ q. q.paint) (prims k ts)
   all_paints made h =
-      h ∙ (λ j. flat_map (λ (t : Triangle). map (λ (c : Corners). t.paint) (clipped_by (is j) t)) ((take_all i us all ∙ same) j)) ∙ paints_are k ts
+      h ∙ (λ j. flat_map (λ (t : Triangle). map (λ (c : EyeTriangle). t.paint) (clipped_by (is j) t)) ((take_all i us all ∙ same) j)) ∙ paints_are k ts
 
-clip_few : (u v w : Bool) (m : ℤ) (a b c : Seen) → length (clip_by u v w m a b c) ≤ 2
+clip_few : (u v w : Bool) (m : ℤ) (a b c : EyePoint) → length (clip_by u v w m a b c) ≤ 2
 clip_few true true true m a b c = omega arith
 clip_few true true false m a b c = omega arith
 clip_few true false true m a b c = omega arith

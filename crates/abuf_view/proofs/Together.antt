@@ -11,9 +11,9 @@ use Rattle.abuf_scene.specs.Triangles.{Look, is_unknown, triangles_of, Tells}
 use Rattle.abuf_scene.specs.declared.assembly.SceneFault.{SceneFault}
 use Rattle.abuf_scene.specs.declared.assembly.SceneFault.TheVariants.{UnknownMaterial, Memory}
 use Rattle.abuf_scene.specs.declared.triangles.Triangle.{Triangle}
-use Rattle.abuf_view.specs.declared.clipping.Corners.{Corners}
+use Rattle.abuf_view.specs.declared.near_plane.EyeTriangle.{EyeTriangle}
 use Rattle.abuf_view.specs.declared.projection.Projected.{Projected}
-use Rattle.abuf_view.specs.declared.seeing.Eye.{Eye}
+use Rattle.abuf_view.specs.declared.eye.Eye.{Eye}
 use Rattle.abuf_view.specs.Eye.{clipped_by, shown_by, tris_by, paints_by}
 use Rattle.abuf_view.specs.Runs.{IsRun, AreRuns, unknown_in, tris_of, paints_of, first_fault, IsFirst}
 
@@ -133,7 +133,7 @@ module _ (look : Look) (obj : Obj) (eye : Eye) where
 
   pub painted_all : (per_run : ℕ) (faces : List Face) (runs : List (Result Projected SceneFault)) → AreRuns look obj eye per_run faces runs → first_fault runs ≡ None
       → flat_map paints_of runs ≡ paints_by eye (flat_map (triangles_of look obj) faces)
-  painted_all = made_all paints_of (λ (t : Triangle). map (λ (c : Corners). t.paint) (clipped_by eye t)) (λ faces p is. is.paints)
+  painted_all = made_all paints_of (λ (t : Triangle). map (λ (c : EyeTriangle). t.paint) (clipped_by eye t)) (λ faces p is. is.paints)
 
   -- What is put together of the runs is what one worker would give of all faces.
   pub together : (per_run : ℕ) (faces : List Face) (runs : List (Result Projected SceneFault)) (all : Result Projected SceneFault) → AreRuns look obj eye per_run faces runs

@@ -1,41 +1,41 @@
 -- The camera, and where it sees a point. Lengths are in 1/65536.
 use Rattle.std.specs.Prelude.{ℕ, ◌≤◌, ◌*◌, ◌≡◌, ℤ, pos, ◌+ℤ◌, ◌-ℤ◌, ◌*ℤ◌, neg_ℤ, ◌≤ℤ◌, unsigned_abs, List, slice_index_or}
-use Rattle.abuf_view.specs.declared.viewpoint.Turn.{Turn}
-use Rattle.abuf_view.specs.declared.viewpoint.Place.{Place}
-use Rattle.abuf_view.specs.declared.clipping.Seen.{Seen}
+use Rattle.abuf_view.specs.declared.quaternion.Quaternion.{Quaternion}
+use Rattle.abuf_view.specs.declared.point.Point3.{Point3}
+use Rattle.abuf_view.specs.declared.eye.EyePoint.{EyePoint}
 
 -- The size of the image in pixels, a turn and then a shift of the scene, the focal length and the near distance.
 pub record Camera : Type 0 where
   pub width : ℕ
   pub height : ℕ
-  pub turn : Turn
-  pub shift : Place
+  pub turn : Quaternion
+  pub shift : Point3
   pub focal : ℤ
   pub near : ℤ
 
 -- The turn and the place of these parts.
-abbrev pub turn_of : List ℤ → Turn
-turn_of t = record { a = slice_index_or t 0 (pos 0); b = slice_index_or t 1 (pos 0); c = slice_index_or t 2 (pos 0); d = slice_index_or t 3 (pos 0) }
+abbrev pub quaternion_of : List ℤ → Quaternion
+quaternion_of t = record { a = slice_index_or t 0 (pos 0); b = slice_index_or t 1 (pos 0); c = slice_index_or t 2 (pos 0); d = slice_index_or t 3 (pos 0) }
 
-abbrev pub place_of : List ℤ → Place
-place_of p = record { x = slice_index_or p 0 (pos 0); y = slice_index_or p 1 (pos 0); z = slice_index_or p 2 (pos 0) }
+abbrev pub point_of : List ℤ → Point3
+point_of p = record { x = slice_index_or p 0 (pos 0); y = slice_index_or p 1 (pos 0); z = slice_index_or p 2 (pos 0) }
 
 -- The camera of these numbers.
 abbrev pub camera : ℕ → ℕ → List ℤ → List ℤ → ℤ → ℤ → Camera
-camera width height turn shift focal near = record { width = width; height = height; turn = turn_of turn; shift = place_of shift; focal = focal; near = near }
+camera width height turn shift focal near = record { width = width; height = height; turn = quaternion_of turn; shift = point_of shift; focal = focal; near = near }
 
 -- Each is from 1 to 4096 pixels, and their product is at most 4194304.
 abbrev pub IsSize : ℕ → ℕ → Type 0
 IsSize width height = (1 ≤ width) × (width ≤ 4096) × (1 ≤ height) × (height ≤ 4096) × (width * height ≤ 4194304)
 
 -- Each part is from -1024 to 1024, and not all are 0.
-abbrev pub IsTurn : Turn → Type 0
+abbrev pub IsTurn : Quaternion → Type 0
 IsTurn t =
     (unsigned_abs t.a ≤ 1024) × (unsigned_abs t.b ≤ 1024) × (unsigned_abs t.c ≤ 1024) × (unsigned_abs t.d ≤ 1024)
     × (¬ ((t.a ≡ pos 0) × (t.b ≡ pos 0) × (t.c ≡ pos 0) × (t.d ≡ pos 0)))
 
 -- Each part is at most 2147483647 either way.
-abbrev pub IsBounded : Place → Type 0
+abbrev pub IsBounded : Point3 → Type 0
 IsBounded p = (unsigned_abs p.x ≤ 2147483647) × (unsigned_abs p.y ≤ 2147483647) × (unsigned_abs p.z ≤ 2147483647)
 
 -- From low to high.
@@ -55,38 +55,38 @@ pub record IsCamera (k : Camera) : Type 0 where
 
 -- The norm of the turn (a, b, c, d), a quaternion: the sum of the squares of its parts.
 
-abbrev pub norm : Turn → ℤ
+abbrev pub norm : Quaternion → ℤ
 norm t = t.a *ℤ t.a +ℤ t.b *ℤ t.b +ℤ t.c *ℤ t.c +ℤ t.d *ℤ t.d
 
 -- The three rows of its matrix, which is norm times a rotation.
-abbrev pub row_x : Turn → Place
+abbrev pub row_x : Quaternion → Point3
 row_x t = record {
   x = t.a *ℤ t.a +ℤ t.b *ℤ t.b -ℤ t.c *ℤ t.c -ℤ t.d *ℤ t.d;
   y = pos 2 *ℤ (t.b *ℤ t.c -ℤ t.a *ℤ t.d);
   z = pos 2 *ℤ (t.b *ℤ t.d +ℤ t.a *ℤ t.c);
 }
 
-abbrev pub row_y : Turn → Place
+abbrev pub row_y : Quaternion → Point3
 row_y t = record {
   x = pos 2 *ℤ (t.b *ℤ t.c +ℤ t.a *ℤ t.d);
   y = t.a *ℤ t.a -ℤ t.b *ℤ t.b +ℤ t.c *ℤ t.c -ℤ t.d *ℤ t.d;
   z = pos 2 *ℤ (t.c *ℤ t.d -ℤ t.a *ℤ t.b);
 }
 
-abbrev pub row_z : Turn → Place
+abbrev pub row_z : Quaternion → Point3
 row_z t = record {
   x = pos 2 *ℤ (t.b *ℤ t.d -ℤ t.a *ℤ t.c);
   y = pos 2 *ℤ (t.c *ℤ t.d +ℤ t.a *ℤ t.b);
   z = t.a *ℤ t.a -ℤ t.b *ℤ t.b -ℤ t.c *ℤ t.c +ℤ t.d *ℤ t.d;
 }
 
-abbrev pub dot : Place → Place → ℤ
+abbrev pub dot : Point3 → Point3 → ℤ
 dot m p = m.x *ℤ p.x +ℤ m.y *ℤ p.y +ℤ m.z *ℤ p.z
 
 -- Where the camera sees a point: the matrix times the point, and norm times the shift. The camera looks along -z, so that w is
 -- the distance in front of it.
-abbrev pub seen : Camera → Place → Seen
-seen k p = record {
+abbrev pub eye_point : Camera → Point3 → EyePoint
+eye_point k p = record {
   x = dot (row_x k.turn) p +ℤ norm k.turn *ℤ k.shift.x;
   y = dot (row_y k.turn) p +ℤ norm k.turn *ℤ k.shift.y;
   w = neg_ℤ (dot (row_z k.turn) p +ℤ norm k.turn *ℤ k.shift.z);

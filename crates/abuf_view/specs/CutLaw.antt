@@ -1,10 +1,10 @@
 -- What is true of the cut and of the clip table.
 use Rattle.std.specs.Prelude.{◌≡◌, ◌⊎◌, ℤ, pos, ◌+ℤ◌, ◌-ℤ◌, ◌*ℤ◌, ◌≤ℤ◌, ◌<ℤ◌}
-use Rattle.abuf_view.specs.declared.clipping.Seen.{Seen}
-use Rattle.abuf_view.specs.declared.clipping.Corners.{Corners}
+use Rattle.abuf_view.specs.declared.eye.EyePoint.{EyePoint}
+use Rattle.abuf_view.specs.declared.near_plane.EyeTriangle.{EyeTriangle}
 
 -- Each corner is at the plane of m or behind it.
-abbrev pub IsBehind : ℤ → Corners → Type 0
+abbrev pub IsBehind : ℤ → EyeTriangle → Type 0
 IsBehind m t = (m ≤ℤ t.a.w) × (m ≤ℤ t.b.w) × (m ≤ℤ t.c.w)
 
 -- Between p and q, in either order.
@@ -22,7 +22,7 @@ crossing m u p v q = u *ℤ (p -ℤ q) +ℤ (v -ℤ u) *ℤ (p -ℤ m)
 
 -- The cut of the edge from p to q at w = m is s: its x and y are the greatest whole numbers not above those of the exact point, and lie
 -- between those of the ends.
-pub record IsCutOf (m : ℤ) (p q s : Seen) : Type 0 where
+pub record IsCutOf (m : ℤ) (p q s : EyePoint) : Type 0 where
   pub x_floor : IsFloorOf (crossing m p.x p.w q.x q.w) (p.w -ℤ q.w) s.x
   pub y_floor : IsFloorOf (crossing m p.y p.w q.y q.w) (p.w -ℤ q.w) s.y
   pub x_between : IsBetween p.x q.x s.x

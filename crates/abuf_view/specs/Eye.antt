@@ -1,15 +1,15 @@
 -- What is computed once of a camera.
 use Rattle.std.specs.Prelude.{◌≤◌, ℤ, pos, ◌+ℤ◌, ◌*ℤ◌, neg_ℤ, unsigned_abs, List, map, flat_map}
 use Rattle.abuf_num.specs.declared.plain.Paint.{Paint}
-use Rattle.abuf_view.specs.Camera.{Camera, norm, row_x, row_y, row_z, dot, plane, place_of, IsBounded, IsFrom}
+use Rattle.abuf_view.specs.Camera.{Camera, norm, row_x, row_y, row_z, dot, plane, point_of, IsBounded, IsFrom}
 use Rattle.abuf_scene.specs.declared.triangles.Triangle.{Triangle}
 use Rattle.abuf_raster.specs.Triangle.{Triangle as OnScreen}
-use Rattle.abuf_view.specs.Clip.{IsView, clipped}
+use Rattle.abuf_view.specs.NearPlane.{IsNearPlane, clipped}
 use Rattle.abuf_view.specs.Screen.{on_screen}
-use Rattle.abuf_view.specs.declared.clipping.Corners.{Corners}
-use Rattle.abuf_view.specs.declared.viewpoint.Place.{Place}
-use Rattle.abuf_view.specs.declared.clipping.Seen.{Seen}
-use Rattle.abuf_view.specs.declared.seeing.Eye.{Eye}
+use Rattle.abuf_view.specs.declared.near_plane.EyeTriangle.{EyeTriangle}
+use Rattle.abuf_view.specs.declared.point.Point3.{Point3}
+use Rattle.abuf_view.specs.declared.eye.EyePoint.{EyePoint}
+use Rattle.abuf_view.specs.declared.eye.Eye.{Eye}
 
 abbrev pub eye_of : Camera → Eye
 eye_of k = record {
@@ -17,36 +17,36 @@ eye_of k = record {
   y = row_y k.turn;
   z = row_z k.turn;
   shift = k.shift;
-  view = record { norm = norm k.turn; plane = plane k };
+  near_plane = record { norm = norm k.turn; w = plane k };
   screen = record { width = k.width; height = k.height; focal = k.focal };
 }
 
 -- Where it sees a point.
-abbrev pub seen_by : Eye → Place → Seen
-seen_by e p = record {
-  x = dot e.x p +ℤ e.view.norm *ℤ e.shift.x;
-  y = dot e.y p +ℤ e.view.norm *ℤ e.shift.y;
-  w = neg_ℤ (dot e.z p +ℤ e.view.norm *ℤ e.shift.z);
+abbrev pub eye_point_by : Eye → Point3 → EyePoint
+eye_point_by e p = record {
+  x = dot e.x p +ℤ e.near_plane.norm *ℤ e.shift.x;
+  y = dot e.y p +ℤ e.near_plane.norm *ℤ e.shift.y;
+  w = neg_ℤ (dot e.z p +ℤ e.near_plane.norm *ℤ e.shift.z);
 }
 
 -- The parts of a triangle in front of its near plane.
-abbrev pub clipped_by : Eye → Triangle → List Corners
-clipped_by e t = clipped e.view.plane (seen_by e (place_of t.a)) (seen_by e (place_of t.b)) (seen_by e (place_of t.c))
+abbrev pub clipped_by : Eye → Triangle → List EyeTriangle
+clipped_by e t = clipped e.near_plane.w (eye_point_by e (point_of t.a)) (eye_point_by e (point_of t.b)) (eye_point_by e (point_of t.c))
 
 -- A part on its screen.
-abbrev pub shown_by : Eye → Corners → OnScreen
-shown_by e t = on_screen e.screen.width e.screen.height e.screen.focal e.view.plane t
+abbrev pub shown_by : Eye → EyeTriangle → OnScreen
+shown_by e t = on_screen e.screen.width e.screen.height e.screen.focal e.near_plane.w t
 
 -- No entry of a row is above the norm.
-abbrev pub IsRow : ℤ → Place → Type 0
+abbrev pub IsRow : ℤ → Point3 → Type 0
 IsRow n r = (unsigned_abs r.x ≤ unsigned_abs n) × (unsigned_abs r.y ≤ unsigned_abs n) × (unsigned_abs r.z ≤ unsigned_abs n)
 
 -- What is computed of every camera keeps to this.
 pub record IsEye (e : Eye) : Type 0 where
-  pub view : IsView e.view.norm e.view.plane
-  pub x_row : IsRow e.view.norm e.x
-  pub y_row : IsRow e.view.norm e.y
-  pub z_row : IsRow e.view.norm e.z
+  pub near_plane : IsNearPlane e.near_plane.norm e.near_plane.w
+  pub x_row : IsRow e.near_plane.norm e.x
+  pub y_row : IsRow e.near_plane.norm e.y
+  pub z_row : IsRow e.near_plane.norm e.z
   pub shift : IsBounded e.shift
   pub width : e.screen.width ≤ 4096
   pub height : e.screen.height ≤ 4096
@@ -57,4 +57,4 @@ abbrev pub tris_by : Eye → List Triangle → List OnScreen
 tris_by e = flat_map (λ t. map (shown_by e) (clipped_by e t))
 
 abbrev pub paints_by : Eye → List Triangle → List Paint
-paints_by e = flat_map (λ t. map (λ (c : Corners). t.paint) (clipped_by e t))
+paints_by e = flat_map (λ t. map (λ (c : EyeTriangle). t.paint) (clipped_by e t))

@@ -8,7 +8,7 @@ use Rattle.abuf_scene.specs.declared.assembly.SceneFault.{SceneFault}
 use Rattle.abuf_scene.specs.declared.assembly.SceneFault.TheVariants.{UnknownMaterial, Memory}
 use Rattle.abuf_raster.specs.Triangle.{Triangle as OnScreen}
 use Rattle.abuf_view.specs.Eye.{tris_by, paints_by}
-use Rattle.abuf_view.specs.declared.seeing.Eye.{Eye}
+use Rattle.abuf_view.specs.declared.eye.Eye.{Eye}
 use Rattle.abuf_view.specs.declared.projection.Projected.{Projected}
 
 -- The line of the first face of a run whose name has no material.

@@ -3,22 +3,22 @@ use Rattle.std.specs.Prelude.{ℕ, ◌*◌, ℤ, pos, negsuc, neg_ℤ, ◌+ℤ�
 use Rattle.abuf_raster.specs.declared.point.Point.{Point}
 use Rattle.abuf_raster.specs.Triangle.{Triangle}
 use Rattle.abuf_num.specs.Division.{floor_div, round_div}
-use Rattle.abuf_view.specs.declared.clipping.Seen.{Seen}
-use Rattle.abuf_view.specs.declared.clipping.Corners.{Corners}
+use Rattle.abuf_view.specs.declared.eye.EyePoint.{EyePoint}
+use Rattle.abuf_view.specs.declared.near_plane.EyeTriangle.{EyeTriangle}
 
 -- The place on the screen: x to the right and y downward from the upper left corner, both scaled by the height.
-abbrev pub shown : ℕ → ℕ → ℤ → Seen → Point
+abbrev pub shown : ℕ → ℕ → ℤ → EyePoint → Point
 shown width height focal s = record {
   x = pos (128 * width) +ℤ round_div (pos (128 * height) *ℤ focal *ℤ s.x) (pos 65536 *ℤ s.w);
   y = pos (128 * height) -ℤ round_div (pos (128 * height) *ℤ focal *ℤ s.y) (pos 65536 *ℤ s.w);
 }
 
 -- The depth value: 16777215 at the near plane, whose w is m, and less behind it; rounded down.
-abbrev pub depth_value : ℤ → Seen → ℕ
+abbrev pub depth_value : ℤ → EyePoint → ℕ
 depth_value m s = unsigned_abs (floor_div (pos 16777215 *ℤ m) s.w)
 
 -- A triangle on the screen.
-abbrev pub on_screen : ℕ → ℕ → ℤ → ℤ → Corners → Triangle
+abbrev pub on_screen : ℕ → ℕ → ℤ → ℤ → EyeTriangle → Triangle
 on_screen width height focal m t = record {
   a = shown width height focal t.a;
   b = shown width height focal t.b;

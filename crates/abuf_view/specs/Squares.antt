@@ -1,9 +1,9 @@
 -- The squares of the parts of a turn.
 use Rattle.std.specs.Prelude.{◌≤◌, ◌^◌, ◌*ℤ◌, unsigned_abs}
-use Rattle.abuf_view.specs.declared.viewpoint.Turn.{Turn}
-use Rattle.abuf_view.specs.declared.seeing.Squares.{Squares}
+use Rattle.abuf_view.specs.declared.quaternion.Quaternion.{Quaternion}
+use Rattle.abuf_view.specs.declared.quaternion.Squares.{Squares}
 
-abbrev pub squares_of : Turn → Squares
+abbrev pub squares_of : Quaternion → Squares
 squares_of t = record { aa = t.a *ℤ t.a; bb = t.b *ℤ t.b; cc = t.c *ℤ t.c; dd = t.d *ℤ t.d }
 
 -- None is above 2^20.

@@ -6,8 +6,8 @@ ghost use Rattle.abuf_scene.specs.Lookup.{look_up, line_if_none};
 ghost use Rattle.abuf_view.specs.Eye.{IsEye, tris_by, paints_by};
 ghost use Rattle.abuf_view.specs.Runs.{unknown_in};
 
+use crate::eye::Eye;
 use crate::projection::Projected;
-use crate::seeing::Eye;
 use abuf_mtl::Materials;
 use abuf_num::{List, NoMemory, Paint};
 use abuf_obj::{Face, Obj};

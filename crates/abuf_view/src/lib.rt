@@ -1,23 +1,26 @@
 //! The camera: the primitives of a scene's triangles on its screen.
 #![tactic(auto)]
 
-mod clipping;
+mod camera;
+mod eye;
 mod faces;
 pub mod laws;
+mod near_plane;
 mod numbers;
+mod point;
 mod projection;
+mod quaternion;
 mod quotient;
 mod runs;
 mod screen;
-mod seeing;
 #[cfg(test)]
 mod tests;
 mod threads;
 mod turns;
-mod viewpoint;
 
-pub use clipping::{Corners, Seen};
+pub use camera::Camera;
+pub use eye::EyePoint;
+pub use near_plane::EyeTriangle;
 pub use projection::{Projected, project};
 pub use threads::project_faces;
 pub use turns::turn_from;
-pub use viewpoint::Camera;

@@ -1,16 +1,17 @@
 // A scene's triangles on the screen.
 ghost use Rattle.std.specs.Prelude.{◌≡◌, ◌≤◌, ◌++◌, All, map, length, option_to_list, OnOk, IfOk, IfSome};
-ghost use Rattle.abuf_view.specs.Camera.{IsBounded, place_of};
-ghost use Rattle.abuf_view.specs.Clip.{IsInFront};
+ghost use Rattle.abuf_view.specs.Camera.{IsBounded, point_of};
+ghost use Rattle.abuf_view.specs.NearPlane.{IsInFront};
 ghost use Rattle.abuf_view.specs.Eye.{IsEye, clipped_by, shown_by};
 ghost use Rattle.abuf_obj.specs.Sound.{IsInRange};
 ghost use Rattle.abuf_scene.specs.Triangles.{IsTriangleInRange};
 ghost use Rattle.abuf_view.specs.Primitives.{prims};
 
-use crate::clipping::{Corners, clip};
+use crate::camera::Camera;
+use crate::eye::Eye;
+use crate::near_plane::{EyeTriangle, clip};
+use crate::point::Point3;
 use crate::screen::on_screen;
-use crate::seeing::Eye;
-use crate::viewpoint::{Camera, Place};
 use abuf_num::{List, NoMemory, Paint};
 use abuf_raster::ScreenTri;
 use abuf_scene::{Scene, Triangle};
@@ -20,17 +21,17 @@ use std::alloc::Global;
 /// primitive's number.
 #[derive(Drop)]
 pub struct Projected {
-    /// Corners in 1/256 pixel, and depth values from 0 to 16777215, at the near plane.
+    /// EyeTriangle in 1/256 pixel, and depth values from 0 to 16777215, at the near plane.
     pub tris: List<ScreenTri>,
     pub paints: List<Paint>,
 }
 
-fn place(point: [i64; 3]) -> Place
+fn to_point(point: [i64; 3]) -> Point3
     requires { IsInRange point }
-    ensures value { result ≡ place_of point }
+    ensures value { result ≡ point_of point }
     ensures near { IsBounded result }
 {
-    Place {
+    Point3 {
         x: point[0],
         y: point[1],
         z: point[2],
@@ -39,16 +40,22 @@ fn place(point: [i64; 3]) -> Place
 
 impl Projected {
     /// Puts the part of a triangle last, if there is one.
-    fn push_part(&mut self, eye: &Eye, part: Option<Corners>, paint: Paint) -> Result<(), NoMemory>
+    fn push_part(
+        &mut self,
+        eye: &Eye,
+        part: Option<EyeTriangle>,
+        paint: Paint,
+    ) -> Result<(), NoMemory>
         requires eye { IsEye eye.now }
-        requires part { IfSome part (IsInFront eye.now.view.norm eye.now.view.plane) }
+        requires part { IfSome part (IsInFront eye.now.near_plane.norm eye.now.near_plane.w) }
         ensures tris { OnOk result (self.new.tris ≡ self.old.tris ++ map (shown_by eye.now) (option_to_list part)) }
         ensures paints { OnOk result (self.new.paints ≡ self.old.paints ++ map (λ _. paint) (option_to_list part)) }
     {
         match part {
             None => Ok(()),
             Some(corners) => {
-                self.tris.push(on_screen(eye.screen, eye.view, corners))?;
+                self.tris
+                    .push(on_screen(eye.screen, eye.near_plane, corners))?;
                 self.paints.push(paint)
             }
         }
@@ -61,10 +68,10 @@ impl Projected {
         ensures tris { OnOk result (self.new.tris ≡ self.old.tris ++ map (shown_by eye.now) (clipped_by eye.now t.now)) }
         ensures paints { OnOk result (self.new.paints ≡ self.old.paints ++ map (λ _. t.now.paint) (clipped_by eye.now t.now)) }
     {
-        let a = eye.sees(place(t.a));
-        let b = eye.sees(place(t.b));
-        let c = eye.sees(place(t.c));
-        let (first, second) = clip(eye.view, a, b, c);
+        let a = eye.sees(to_point(t.a));
+        let b = eye.sees(to_point(t.b));
+        let c = eye.sees(to_point(t.c));
+        let (first, second) = clip(eye.near_plane, a, b, c);
         self.push_part(eye, first, t.paint)?;
         self.push_part(eye, second, t.paint)?;
         Ok(())

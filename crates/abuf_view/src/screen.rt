@@ -2,10 +2,11 @@
 ghost use Rattle.std.specs.Prelude.{◌≡◌, ◌*◌, ◌^◌, ◌<◌, ◌≤◌, ℤ, pos, ◌+ℤ◌, ◌-ℤ◌, ◌*ℤ◌, ◌<ℤ◌, ◌≤ℤ◌, unsigned_abs, IfSome};
 ghost use Rattle.abuf_num.specs.Division.{floor_div, round_div, nearest};
 ghost use Rattle.abuf_raster.specs.Triangle.{IsWithin};
-ghost use Rattle.abuf_view.specs.Clip.{IsView, InView};
+ghost use Rattle.abuf_view.specs.NearPlane.{IsNearPlane, IsEyePoint};
 ghost use Rattle.abuf_view.specs.Screen.{shown, depth_value, on_screen, signed_by};
 
-use crate::clipping::{Corners, Seen, View};
+use crate::eye::EyePoint;
+use crate::near_plane::{EyeTriangle, NearPlane};
 use crate::numbers::product;
 use crate::quotient::{quotient, reciprocal};
 use abuf_num::{floor_div, round_div};
@@ -110,13 +111,13 @@ pub struct Screen {
 }
 
 /// The place of a point on the screen.
-fn shown(screen: Screen, view: View, s: Seen, reciprocal: u64) -> Point
-    requires view { IsView view.norm view.plane }
+fn shown(screen: Screen, near_plane: NearPlane, s: EyePoint, reciprocal: u64) -> Point
+    requires near_plane { IsNearPlane near_plane.norm near_plane.w }
     requires width { screen.width ≤ 4096 }
     requires height { screen.height ≤ 4096 }
     requires focal { (pos 0 ≤ℤ screen.focal) × (screen.focal ≤ℤ pos 1048576) }
-    requires seen { InView view.norm s }
-    requires inside { view.plane ≤ℤ s.w }
+    requires bounded { IsEyePoint near_plane.norm s }
+    requires inside { near_plane.w ≤ℤ s.w }
     requires reciprocal { reciprocal * unsigned_abs s.w < 2 ^ 64 }
     ensures value { result ≡ shown screen.width screen.height screen.focal s }
     ensures near { IsWithin (2 ^ 45) result }
@@ -130,78 +131,78 @@ fn shown(screen: Screen, view: View, s: Seen, reciprocal: u64) -> Point
 }
 
 // The same as `depth_value`, in 128 bits.
-fn wide_depth(view: View, s: Seen) -> u32
-    requires view { IsView view.norm view.plane }
-    requires inside { view.plane ≤ℤ s.w }
-    ensures value { result ≡ depth_value view.plane s }
+fn wide_depth(near_plane: NearPlane, s: EyePoint) -> u32
+    requires near_plane { IsNearPlane near_plane.norm near_plane.w }
+    requires inside { near_plane.w ≤ℤ s.w }
+    ensures value { result ≡ depth_value near_plane.w s }
     ensures small { result ≤ 16777215 }
 {
-    floor_div(product(16777215, view.plane), s.w as i128) as u32
+    floor_div(product(16777215, near_plane.w), s.w as i128) as u32
 }
 
 /// The depth value of a point in front of the near plane. It takes a reciprocal of its w.
-fn depth_value(view: View, s: Seen, reciprocal: u64) -> u32
-    requires view { IsView view.norm view.plane }
-    requires inside { view.plane ≤ℤ s.w }
+fn depth_value(near_plane: NearPlane, s: EyePoint, reciprocal: u64) -> u32
+    requires near_plane { IsNearPlane near_plane.norm near_plane.w }
+    requires inside { near_plane.w ≤ℤ s.w }
     requires reciprocal { reciprocal * unsigned_abs s.w < 2 ^ 64 }
-    ensures value { result ≡ depth_value view.plane s }
+    ensures value { result ≡ depth_value near_plane.w s }
     ensures small { result ≤ 16777215 }
 {
-    if view.plane.unsigned_abs() < SHORT_PLANE {
+    if near_plane.w.unsigned_abs() < SHORT_PLANE {
         quotient(
-            16777215 * view.plane.unsigned_abs(),
+            16777215 * near_plane.w.unsigned_abs(),
             s.w.unsigned_abs(),
             reciprocal,
         ) as u32
     } else {
-        wide_depth(view, s)
+        wide_depth(near_plane, s)
     }
 }
 
 // A corner on the screen.
 #[derive(Clone, Copy)]
-struct Vertex {
+struct ScreenPoint {
     place: Point,
     depth: u32,
 }
 
 // The corner that the camera sees there. What is divided by its w takes one reciprocal.
-fn corner(screen: Screen, view: View, s: Seen) -> Vertex
-    requires view { IsView view.norm view.plane }
+fn corner(screen: Screen, near_plane: NearPlane, s: EyePoint) -> ScreenPoint
+    requires near_plane { IsNearPlane near_plane.norm near_plane.w }
     requires width { screen.width ≤ 4096 }
     requires height { screen.height ≤ 4096 }
     requires focal { (pos 0 ≤ℤ screen.focal) × (screen.focal ≤ℤ pos 1048576) }
-    requires seen { InView view.norm s }
-    requires inside { view.plane ≤ℤ s.w }
+    requires bounded { IsEyePoint near_plane.norm s }
+    requires inside { near_plane.w ≤ℤ s.w }
     ensures place { result.place ≡ shown screen.width screen.height screen.focal s }
     ensures near { IsWithin (2 ^ 45) result.place }
-    ensures depth { result.depth ≡ depth_value view.plane s }
+    ensures depth { result.depth ≡ depth_value near_plane.w s }
     ensures small { result.depth ≤ 16777215 }
 {
     let reciprocal = reciprocal(s.w.unsigned_abs());
-    Vertex {
-        place: shown(screen, view, s, reciprocal),
-        depth: depth_value(view, s, reciprocal),
+    ScreenPoint {
+        place: shown(screen, near_plane, s, reciprocal),
+        depth: depth_value(near_plane, s, reciprocal),
     }
 }
 
 /// A triangle on the screen.
-pub fn on_screen(screen: Screen, view: View, t: Corners) -> ScreenTri
-    requires view { IsView view.norm view.plane }
+pub fn on_screen(screen: Screen, near_plane: NearPlane, t: EyeTriangle) -> ScreenTri
+    requires near_plane { IsNearPlane near_plane.norm near_plane.w }
     requires width { screen.width ≤ 4096 }
     requires height { screen.height ≤ 4096 }
     requires focal { (pos 0 ≤ℤ screen.focal) × (screen.focal ≤ℤ pos 1048576) }
-    requires a_seen { InView view.norm t.a }
-    requires b_seen { InView view.norm t.b }
-    requires c_seen { InView view.norm t.c }
-    requires a_inside { view.plane ≤ℤ t.a.w }
-    requires b_inside { view.plane ≤ℤ t.b.w }
-    requires c_inside { view.plane ≤ℤ t.c.w }
-    ensures { result ≡ on_screen screen.width screen.height screen.focal view.plane t }
+    requires a_bounded { IsEyePoint near_plane.norm t.a }
+    requires b_bounded { IsEyePoint near_plane.norm t.b }
+    requires c_bounded { IsEyePoint near_plane.norm t.c }
+    requires a_inside { near_plane.w ≤ℤ t.a.w }
+    requires b_inside { near_plane.w ≤ℤ t.b.w }
+    requires c_inside { near_plane.w ≤ℤ t.c.w }
+    ensures { result ≡ on_screen screen.width screen.height screen.focal near_plane.w t }
 {
-    let a = corner(screen, view, t.a);
-    let b = corner(screen, view, t.b);
-    let c = corner(screen, view, t.c);
+    let a = corner(screen, near_plane, t.a);
+    let b = corner(screen, near_plane, t.b);
+    let c = corner(screen, near_plane, t.c);
     match ScreenTri::new(
         [a.place.x, b.place.x, c.place.x],
         [a.place.y, b.place.y, c.place.y],

@@ -31,7 +31,7 @@ fn point(x: i64, y: i64, z: i64) -> [i64; 3]
 }
 
 // What a camera sees of one white triangle.
-fn seen_by(
+fn shown_by(
     alloc: Global,
     camera: &Camera,
     a: [i64; 3],
@@ -101,7 +101,7 @@ fn upper_left_half_is_covered(rt: HostRuntime) -> Result<(), Fail> {
     let a = point(-262144, 262144, 0);
     let b = point(262144, 262144, 0);
     let c = point(-262144, -262144, 0);
-    let shown = seen_by(rt.alloc(), &camera, a, b, c)?;
+    let shown = shown_by(rt.alloc(), &camera, a, b, c)?;
     assert!(rt; shown.tris.as_slice().len() == 1);
     assert!(rt; shown.paints.as_slice() == [WHITE].as_slice());
     for x in 0..4 {
@@ -120,7 +120,7 @@ fn corner_behind_the_camera_is_cut_off(rt: HostRuntime) -> Result<(), Fail> {
     let a = point(-65536, 0, 196608);
     let b = point(65536, 0, 196608);
     let c = point(0, 65536, 327680);
-    let shown = seen_by(rt.alloc(), &camera, a, b, c)?;
+    let shown = shown_by(rt.alloc(), &camera, a, b, c)?;
     assert!(rt; shown.tris.as_slice().len() == 2);
     assert!(rt; shown.paints.as_slice() == [WHITE, WHITE].as_slice());
     for x in 0..4 {
@@ -138,7 +138,7 @@ fn corner_alone_before_the_camera_is_kept(rt: HostRuntime) -> Result<(), Fail> {
     let a = point(0, 0, 196608);
     let b = point(-65536, 65536, 327680);
     let c = point(65536, 65536, 327680);
-    let shown = seen_by(rt.alloc(), &camera, a, b, c)?;
+    let shown = shown_by(rt.alloc(), &camera, a, b, c)?;
     assert!(rt; shown.tris.as_slice().len() == 1);
     for x in 0..4 {
         for y in 0..4 {
@@ -158,7 +158,7 @@ fn far_corners_on_the_near_plane(rt: HostRuntime) -> Result<(), Fail> {
     let a = point(-2147418112, -2147418112, 258048);
     let b = point(2147418112, -2147418112, 258048);
     let c = point(0, 2147418112, 258048);
-    let shown = seen_by(rt.alloc(), &camera, a, b, c)?;
+    let shown = shown_by(rt.alloc(), &camera, a, b, c)?;
     let column = Region {
         x0: 0,
         y0: 0,
@@ -177,7 +177,7 @@ fn farthest_shifts(rt: HostRuntime) -> Result<(), Fail> {
     let c = point(-262144, -262144, 0);
     for (z, parts) in [(-2147483647, 1), (2147483647, 0)] {
         let camera = Camera::new(4, 4, [1, 0, 0, 0], [0, 0, z], 65536, 8192).ok_or("camera")?;
-        let shown = seen_by(rt.alloc(), &camera, a, b, c)?;
+        let shown = shown_by(rt.alloc(), &camera, a, b, c)?;
         assert!(rt; shown.tris.as_slice().len() == parts);
         for x in 0..4 {
             for y in 0..4 {

@@ -8,11 +8,11 @@ ghost use Rattle.abuf_view.specs.Eye.{IsEye, tris_by, paints_by};
 ghost use Rattle.abuf_view.specs.Primitives.{prims};
 ghost use Rattle.abuf_view.specs.Runs.{AreRuns};
 
+use crate::camera::Camera;
+use crate::eye::Eye;
 use crate::faces::project_run;
 use crate::projection::Projected;
 use crate::runs::put_together;
-use crate::seeing::Eye;
-use crate::viewpoint::Camera;
 use abuf_mtl::Materials;
 use abuf_num::NoMemory;
 use abuf_obj::Obj;

@@ -1,6 +1,6 @@
 // A turn written as the texts of its four parts.
 ghost use Rattle.std.specs.Prelude.{◌≡◌, ◌≤◌, IfSome, unsigned_abs};
-ghost use Rattle.abuf_view.specs.Camera.{IsTurn, turn_of};
+ghost use Rattle.abuf_view.specs.Camera.{IsTurn, quaternion_of};
 ghost use Rattle.abuf_view.specs.Turns.{turn_part, some_turn, turn_from};
 
 use abuf_num::signed_number;
@@ -23,7 +23,7 @@ fn some_turn(a: i32, b: i32, c: i32, d: i32) -> Option<[i32; 4]>
     requires c { unsigned_abs c ≤ 1024 }
     requires d { unsigned_abs d ≤ 1024 }
     ensures value { result ≡ some_turn a b c d }
-    ensures turn { IfSome result (λ t. IsTurn (turn_of t)) }
+    ensures turn { IfSome result (λ t. IsTurn (quaternion_of t)) }
 {
     if a == 0 && b == 0 && c == 0 && d == 0 {
         None
@@ -36,7 +36,7 @@ fn some_turn(a: i32, b: i32, c: i32, d: i32) -> Option<[i32; 4]>
 /// four digits, from -1024 to 1024, and not all 0. None where a text is anything else. Takes no memory.
 pub fn turn_from(a: &[u8], b: &[u8], c: &[u8], d: &[u8]) -> Option<[i32; 4]>
     ensures value { result ≡ turn_from (turn_part a.now) (turn_part b.now) (turn_part c.now) (turn_part d.now) }
-    ensures turn { IfSome result (λ t. IsTurn (turn_of t)) }
+    ensures turn { IfSome result (λ t. IsTurn (quaternion_of t)) }
 {
     match (turn_part(a), turn_part(b), turn_part(c), turn_part(d)) {
         (Some(a), Some(b), Some(c), Some(d)) => some_turn(a, b, c, d),

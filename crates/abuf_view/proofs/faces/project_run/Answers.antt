@@ -3,7 +3,7 @@ use Rattle.std.proofs.lemmas.Grind.{common_steps}
 use Rattle.abuf_scene.specs.Triangles.{triangles_of}
 use Rattle.abuf_scene.specs.Lookup.{look_up}
 use Rattle.abuf_scene.specs.declared.triangles.Triangle.{Triangle}
-use Rattle.abuf_view.specs.declared.clipping.Corners.{Corners}
+use Rattle.abuf_view.specs.declared.near_plane.EyeTriangle.{EyeTriangle}
 use Rattle.abuf_view.specs.Eye.{clipped_by, shown_by}
 use Rattle.abuf_view.proofs.Fans.{both_made}
 use Rattle.abuf_view.proofs.faces.project_run.Goals as goal
@@ -18,5 +18,5 @@ loop-face-preserved c =
     record {
       known = grind (arith, common_steps);
       tris = both_made (λ (t : Triangle). map (shown_by eye) (clipped_by eye t)) (flat_map f (take c.loop-face.face-index faces)) _ _ _ _ (grind (arith, common_steps)) before.tris done.tris;
-      paints = both_made (λ (t : Triangle). map (λ (k : Corners). t.paint) (clipped_by eye t)) (flat_map f (take c.loop-face.face-index faces)) _ _ _ _ (grind (arith, common_steps)) before.paints done.paints;
+      paints = both_made (λ (t : Triangle). map (λ (k : EyeTriangle). t.paint) (clipped_by eye t)) (flat_map f (take c.loop-face.face-index faces)) _ _ _ _ (grind (arith, common_steps)) before.paints done.paints;
     }

@@ -1,7 +1,7 @@
 use Rattle.std.proofs.Common.{arith, map}
 use Rattle.abuf_scene.specs.Triangles.{triangle}
 use Rattle.abuf_scene.specs.declared.triangles.Triangle.{Triangle}
-use Rattle.abuf_view.specs.declared.clipping.Corners.{Corners}
+use Rattle.abuf_view.specs.declared.near_plane.EyeTriangle.{EyeTriangle}
 use Rattle.abuf_view.specs.Eye.{clipped_by, shown_by}
 use Rattle.abuf_view.proofs.Fans.{one_more}
 use Rattle.abuf_view.proofs.projection.Projected.push_fan.Goals as goal
@@ -16,5 +16,5 @@ loop-i-preserved c =
     record {
       low = omega arith;
       tris = one_more (λ (t : Triangle). map (shown_by eye) (clipped_by eye t)) g _ _ _ c.loop-i.i new.result before.low before.tris new.ensures.value pushed.tris;
-      paints = one_more (λ (t : Triangle). map (λ (k : Corners). t.paint) (clipped_by eye t)) g _ _ _ c.loop-i.i new.result before.low before.paints new.ensures.value pushed.paints;
+      paints = one_more (λ (t : Triangle). map (λ (k : EyeTriangle). t.paint) (clipped_by eye t)) g _ _ _ c.loop-i.i new.result before.low before.paints new.ensures.value pushed.paints;
     }
