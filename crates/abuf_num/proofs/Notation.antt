@@ -11,19 +11,23 @@ use Rattle.abuf_num.specs.Fixed.{fixed_result}
 use Rattle.abuf_num.proofs.Signs.{signed_in_range}
 use Rattle.abuf_num.proofs.Powers.{pow_pos}
 
--- a digit is neither a mark nor a point
+-- a digit is no mark
 mark_no : (b : ℕ) → is_digit b ≡ true → is_mark b ≡ false
 mark_no b digit = grind (arith, nat_tests)
 
+-- nor is it a point
 point_no : (b : ℕ) → is_digit b ≡ true → is_point b ≡ false
 point_no b digit = grind (arith, nat_tests)
 
+-- the first byte of digits is a digit, and the others are digits
 head_of : (b : ℕ) (bs : List ℕ) → all_digits (b ∷ bs) ≡ true → is_digit b ≡ true
 head_of b bs all = grind arith
 
+-- So are the others.
 rest_of : (b : ℕ) (bs : List ℕ) → all_digits (b ∷ bs) ≡ true → all_digits bs ≡ true
 rest_of b bs all = grind arith
 
+-- one and a number is the number after it
 one_more : (n : ℕ) → 1 + n ≡ suc n
 one_more n = omega arith
 
@@ -33,7 +37,7 @@ module _ (p : ℕ → Bool) (other : (b : ℕ) → is_digit b ≡ true → p b �
   none_among [] all = refl
   none_among (b ∷ bs) all = rw (other b (head_of b bs all)) (rw (none_among bs (rest_of b bs all)) (one_more (length bs)))
 
-  -- the first such byte stands behind the digits
+  -- the first such byte stands after the digits
   pub first_behind : (xs ys : List ℕ) (y : ℕ) → all_digits xs ≡ true → p y ≡ true → position_or_len p (xs ++ y ∷ ys) ≡ length xs
   first_behind [] ys y all passes = rw passes refl
   first_behind (b ∷ bs) ys y all passes = rw (other b (head_of b bs all)) (rw (first_behind bs ys y (rest_of b bs all) passes) (one_more (length bs)))
@@ -43,6 +47,7 @@ module _ (p : ℕ → Bool) (other : (b : ℕ) → is_digit b ≡ true → p b �
   none_between [] ys y all more fails = rw fails (rw (none_among ys more) (one_more (length ys)))
   none_between (b ∷ bs) ys y all more fails = rw (other b (head_of b bs all)) (rw (none_between bs ys y (rest_of b bs all) more fails) (one_more (length (bs ++ y ∷ ys))))
 
+-- where no such byte is found, there is no position
 none_at_end : (p : ℕ → Bool) (xs : List ℕ) → position_or_len p xs ≡ length xs → position p xs ≡ None
 none_at_end p xs none = rw none (grind (arith, nat_tests))
 
@@ -50,6 +55,7 @@ none_at_end p xs none = rw none (grind (arith, nat_tests))
 abbrev pub exponentless : Bool → List ℕ → List ℕ → Number
 exponentless negative whole fraction = record { negative = negative; whole = whole; fraction = fraction; exponent_negative = false; exponent = [] }
 
+-- the number of what stands after a sign
 abbrev number_behind : Bool → List ℕ → Option Number
 number_behind negative rest =
     let cut = cut_by is_mark rest in
@@ -63,6 +69,7 @@ digits_alone negative xs all some =
     let good : (nat_lt 0 (length xs + 0) && (all_digits xs && true)) ≡ true = grind (arith, nat_tests) in
     rw mark (rw point (rw good refl))
 
+-- a point after digits is the first point
 at_point : (xs ys : List ℕ) → all_digits xs ≡ true → position is_point (xs ++ 46 ∷ ys) ≡ Some (length xs)
 at_point xs ys all =
     let here : position_or_len is_point (xs ++ 46 ∷ ys) ≡ length xs = first_behind is_point point_no xs ys 46 all refl in
@@ -80,13 +87,16 @@ digits_and_point negative xs ys all more some =
     let good : (nat_lt 0 (length xs + length ys) && (all_digits xs && all_digits ys)) ≡ true = grind (arith, nat_tests) in
     rw mark (rw point (rw front (rw back (rw good refl))))
 
+-- without an exponent the point does not move to the right
 up_none : (f : ℕ) → or_zero (pos 0 -ℤ pos f) ≡ 0
 up_none zero = refl
 up_none (suc f) = ap or_zero (let below : pos 0 -ℤ pos (suc f) ≡ negsuc f = omega (arith, ints) in below)
 
+-- and it moves to the left by the digits after it
 down_all : (f : ℕ) → or_zero (pos f -ℤ pos 0) ≡ f
 down_all f = ap or_zero (let same : pos f -ℤ pos 0 ≡ pos f = omega (arith, ints) in same)
 
+-- a number times 1 is the number
 times_one : (n : ℕ) → n * 1 ≡ n
 times_one n = omega arith
 
@@ -115,7 +125,7 @@ without_point text rest count value k behind few end some digits spells =
 pub to_end : (n : ℕ) (xs : List ℕ) → take (length xs - n) (drop n xs) ≡ drop n xs
 to_end n xs = ap (λ (m : ℕ). take m (drop n xs)) (sym (length-drop n xs)) ∙ take-length (drop n xs)
 
--- a text with digits before and behind a point
+-- a text with digits before and after a point
 pub with_point : (text rest behind : List ℕ) (before count whole value k : ℕ) → rest ≡ without_sign text → length rest ≤ 19 → before < length rest → get_or rest before 0 ≡ 46
     → 1 < length rest → behind ≡ drop (before + 1) rest → count ≤ length behind → length rest ≤ before + 1 + count
     → all_digits (take before rest) ≡ true → all_digits (take count behind) ≡ true

@@ -8,9 +8,11 @@ use Rattle.abuf_num.specs.Division.{nearest}
 use Rattle.abuf_num.specs.Size.{limited}
 use Rattle.abuf_num.specs.Decimal.{is_digit, all_digits}
 
+-- a greater exponent gives a greater power
 pub pow_le : (a b : ℕ) → a ≤ b → 10 ^ a ≤ 10 ^ b
 pow_le a b h = pow-le-pow_right {n = 10} (omega arith) h
 
+-- a power is at least 1
 pub pow_pos : (k : ℕ) → 1 ≤ 10 ^ k
 pow_pos k = pow_le 0 k (omega arith)
 
@@ -36,6 +38,7 @@ too_large n up some far =
 pub digit_fits : (n d k : ℕ) → n < 10 ^ k → d ≤ 9 → 10 * n + d < 10 ^ (k + 1)
 digit_fits n d k small digit = rw (add-one, pow-suc) (omega arith)
 
+-- a byte past `9` is no digit
 high_no_digit : (b : ℕ) → 57 < b → is_digit b ≡ false
 high_no_digit b high = grind (arith, nat_tests)
 

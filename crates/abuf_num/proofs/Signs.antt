@@ -6,10 +6,11 @@ use Rattle.abuf_num.specs.Decimal.{with_sign, in_range}
 use Rattle.abuf_num.specs.Size.{limited, result_of}
 use Rattle.abuf_num.proofs.Rounding.{abs_neg}
 
--- a size within the limit is a result within the limit, whatever its sign
+-- a size within the limit is a result within the limit
 in_range_plus : (m : ℕ) → result_of false (limited m) ≡ in_range (pos m)
 in_range_plus m = grind arith
 
+-- the same of a negative result
 in_range_minus : (m : ℕ) → result_of true (limited m) ≡ in_range (neg_ℤ (pos m))
 in_range_minus m = rw (abs_neg m) (grind arith)
 

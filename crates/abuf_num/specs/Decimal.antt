@@ -2,6 +2,7 @@
 use Rattle.std.specs.Prelude.{◌==◌, ◌&&◌, ◌||◌, ◌+◌, ◌*◌, ◌-◌, ◌^◌, ◌-ℤ◌, ℕ, ℤ, pos, negsuc, neg_ℤ, unsigned_abs, Bool, true, false, nat_le, nat_lt, List, [], length, take, drop, position, slice_index, fold, Option, Some, None, Result, Ok, Err, if◌then◌else◌}
 use Rattle.std.specs.List.{list_all}
 use Rattle.abuf_num.specs.Division.{round_div}
+use Rattle.abuf_num.specs.declared.limits.TheConstants.{MAX_COORDINATE}
 use Rattle.abuf_num.specs.declared.decimal.NumFault.{NumFault}
 use Rattle.abuf_num.specs.declared.decimal.NumFault.TheVariants.{Form, Digits, Range}
 
@@ -27,16 +28,16 @@ is_negative text = slice_index text 0 == 45
 abbrev pub without_sign : List ℕ → List ℕ
 without_sign text = if slice_index text 0 == 45 || slice_index text 0 == 43 then drop 1 text else text
 
--- what stands before and behind that place
+-- what stands before and after that place
 abbrev pub cut_to : Option ℕ → List ℕ → List ℕ × Option (List ℕ)
 cut_to None text = (text, None)
 cut_to (Some k) text = (take k text, Some (drop (k + 1) text))
 
--- what stands before and behind the first such byte, if there is one
+-- what stands before and after the first such byte, if there is one
 abbrev pub cut_by : (ℕ → Bool) → List ℕ → List ℕ × Option (List ℕ)
 cut_by p text = cut_to (position p text) text
 
--- A number is an optional sign, digits before and behind an optional point, and an optional
+-- A number is an optional sign, digits before and after an optional point, and an optional
 -- exponent: a mark, an optional sign and digits.
 pub record Number : Type 0 where
   pub negative : Bool
@@ -55,7 +56,7 @@ abbrev pub fraction_of : Option (List ℕ) → List ℕ
 fraction_of None = []
 fraction_of (Some text) = text
 
--- the digits before and behind the point, of which there is at least one
+-- the digits before and after the point, of which there is at least one
 abbrev pub mantissa_of : List ℕ × Option (List ℕ) → Option (List ℕ × List ℕ)
 mantissa_of cut =
     if nat_lt 0 (length cut.0 + length (fraction_of cut.1)) && (all_digits cut.0 && all_digits (fraction_of cut.1))
@@ -78,7 +79,7 @@ number_of text =
     let cut = cut_by is_mark (without_sign text) in
     number_from (is_negative text) (mantissa_of (cut_by is_point cut.0)) (exponent_of cut.1)
 
--- the number that digits spell, behind a number that stands before them
+-- the number that digits spell, after a number that stands before them
 abbrev pub spelled_from : ℕ → List ℕ → ℕ
 spelled_from = fold (λ n b. 10 * n + (b - 48))
 
@@ -99,7 +100,7 @@ or_zero (pos n) = n
 or_zero (negsuc n) = 0
 
 -- The number's value times k, rounded to the nearest whole number, halves away from zero. With m
--- its digits, f of them behind the point, and x its exponent, the value is m * 10 ^ (x - f).
+-- its digits, f of them after the point, and x its exponent, the value is m * 10 ^ (x - f).
 abbrev pub nearest_to : Number → ℕ → ℤ
 nearest_to n k =
     let x = exponent_value n in
@@ -108,7 +109,7 @@ nearest_to n k =
 
 -- a result is at most 2147483647 either way
 abbrev pub in_range : ℤ → Result ℤ NumFault
-in_range z = if nat_le (unsigned_abs z) 2147483647 then Ok z else Err Range
+in_range z = if nat_le (unsigned_abs z) MAX_COORDINATE then Ok z else Err Range
 
 -- a number has at most 30 digits, leading zeros counted, and at most three digits of exponent
 abbrev pub has_few_digits : Number → Bool

@@ -49,7 +49,7 @@ fn first_point(text: &[u8]) -> Option<usize>
     text.iter().position(|b| *b == b'.')
 }
 
-// What stands before and behind that place.
+// What stands before and after that place.
 fn cut_at(text: &[u8], place: Option<usize>) -> (&[u8], Option<&[u8]>)
     requires { IfSome place (λ k. k < length text.now) }
     ensures { (result.0.now, option_map (λ t. t.now) result.1) ≡ cut_to place text.now }
@@ -87,7 +87,7 @@ fn or_empty(text: Option<&[u8]>) -> &[u8]
     }
 }
 
-// The digits before and behind the point.
+// The digits before and after the point.
 fn mantissa(text: &[u8]) -> Option<(&[u8], &[u8])>
     ensures value { option_map (λ p. (p.0.now, p.1.now)) result ≡ mantissa_of (cut_by is_point text.now) }
     ensures digits { IfSome result (λ p. (all_digits p.0.now ≡ true) × (all_digits p.1.now ≡ true)) }
@@ -122,7 +122,7 @@ fn split(text: &[u8]) -> Option<Parts<'_>>
     }
 }
 
-/// The number that digits spell, behind a number of so many places.
+/// The number that digits spell, after a number of so many places.
 pub fn spelled(from: u128, places: usize, text: &[u8]) -> u128
     requires before { from < 10 ^ places }
     requires short { places + length text.now ≤ 30 }

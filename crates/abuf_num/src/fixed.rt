@@ -12,14 +12,14 @@ struct Leading {
     value: u64,
 }
 
-/// A number without an exponent: its digits as one number, and how many of them stand behind the point.
+/// A number without an exponent: its digits as one number, and how many of them stand after the point.
 #[derive(Clone, Copy)]
 pub struct FixedPoint {
     pub digits: u64,
     pub places: u32,
 }
 
-// The digits at the start of a text, behind a number of so many places. 64 bits hold every number of 19 digits.
+// The digits at the start of a text, after a number of so many places. 64 bits hold every number of 19 digits.
 fn leading_digits(from: u64, places: usize, text: &[u8]) -> Leading
     requires before { from < 10 ^ places }
     requires short { places + length text.now ≤ 19 }
@@ -40,7 +40,7 @@ fn leading_digits(from: u64, places: usize, text: &[u8]) -> Leading
     Leading { count, value }
 }
 
-/// The number that the text is, where it has no exponent and at most 19 bytes behind its sign.
+/// The number that the text is, where it has no exponent and at most 19 bytes after its sign.
 pub fn fixed_point(text: &[u8]) -> Option<FixedPoint>
     ensures value { IfSome result (λ n. (k : ℕ) → scaled text.now k ≡ fixed_result text.now n.digits n.places k) }
 {

@@ -2,10 +2,11 @@
 //!
 //! [`scaled`] reads a decimal number and gives the whole number nearest to `k` times its value, by
 //! the definition `specs/Decimal.antt`, or says why there is none. [`floor_div`] and
-//! [`round_div`] are the two divisions that round (`specs/Division.antt`). Clauses see a [`List`]
-//! as the list of its items. [`limits`] names the limits of scenes, images and runs.
+//! [`round_div`] are the two divisions that round (`specs/Division.antt`); [`product`] and
+//! [`difference`] always fit. Clauses see a [`List`] as the list of its items. [`limits`] names the limits of scenes, images and runs.
 #![tactic(auto)]
 
+mod arithmetic;
 mod colour;
 mod decimal;
 mod division;
@@ -19,6 +20,7 @@ mod size;
 mod tests;
 mod texts;
 
+pub use arithmetic::{difference, product};
 pub use colour::channel;
 pub use decimal::{NumFault, scaled};
 pub use division::{floor_div, round_div};

@@ -9,6 +9,9 @@ pub const MAX_PATH_BYTES: u64 = 1048576;
 /// The most points of a scene.
 pub const MAX_POINTS: usize = 1048576;
 
+/// The greatest depth value and the greatest depth key, at the near plane.
+pub const MAX_DEPTH: u32 = 16777215;
+
 /// The most that a coordinate of a point or of a shift may be away from 0, in units of 1/65536.
 pub const MAX_COORDINATE: u64 = 2147483647;
 

@@ -1,10 +1,12 @@
-// The size of a result: digits with the point moved, rounded and held to the limit.
+// The size of a result: digits with the point moved, rounded and limited.
 ghost use Rattle.std.specs.Prelude.{◌≡◌, ◌≤◌, ◌<◌, ◌*◌, ◌^◌, ◌⊎◌};
 ghost use Rattle.abuf_num.specs.Division.{nearest};
 ghost use Rattle.abuf_num.specs.Size.{limited};
 
+use crate::limits::MAX_COORDINATE;
+
 // The greatest result.
-const MOST: u128 = 2147483647;
+const MOST: u128 = MAX_COORDINATE as u128;
 
 // `n`, within the limit.
 fn within(n: u64) -> Option<u32>

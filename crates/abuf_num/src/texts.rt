@@ -1,5 +1,6 @@
 // Numbers written in few digits, and decimal numbers of which only the value counts.
 ghost use Rattle.std.specs.Prelude.{◌≡◌, ◌≤◌, ◌<◌, ◌^◌, drop, unsigned_abs, IfSome};
+ghost use Rattle.abuf_num.specs.declared.limits.TheConstants.{MAX_COORDINATE};
 ghost use Rattle.abuf_num.specs.Texts.{whole_number, signed_number, scaled_number};
 
 use crate::decimal::{has_digits_only, scaled, spelled};
@@ -50,7 +51,7 @@ pub fn scaled_number(text: &[u8], k: u32) -> Option<i64>
     requires least { 1 ≤ k }
     requires most { k ≤ 65536 }
     ensures value { result ≡ scaled_number k text.now }
-    ensures range { IfSome result (λ z. unsigned_abs z ≤ 2147483647) }
+    ensures range { IfSome result (λ z. unsigned_abs z ≤ MAX_COORDINATE) }
 {
     match scaled(text, k) {
         Ok(value) => Some(value),

@@ -9,6 +9,7 @@ use Rattle.abuf_raster.proofs.Masks.{if_lt}
 use Rattle.abuf_raster.proofs.Changes.{not_below}
 
 module _ (a b : Point) (os : List (ℤ × ℤ)) (n : ℤ) where
+  -- A mask of k samples is below 2 ^ k.
   pub accepted-lt : (k : ℕ) → accepted_below a b os n k < 2 ^ k
   accepted-lt zero = omega arith
   accepted-lt (suc k) = omega (arith, accepted-lt k, pow-suc 2 k, if_lt (not (int_lt (n +ℤ sample_change a b os k) (pos 0))) (2 ^ k) (2 ^ k + 1) (omega arith))

@@ -11,52 +11,63 @@ use Rattle.abuf_raster.specs.Walk.{hit_of, pixel_hit, row_hits, block_hits, full
 
 -- ---- one more
 
+-- A range with one number more ends with it.
 range_suc : (a n : ℕ) → range_with_len a (suc n) ≡ range_with_len a n ++ (a + n) ∷ []
 range_suc a zero = ap (λ (x : ℕ). x ∷ []) (omega arith)
 range_suc a (suc n) = ap (λ (xs : List ℕ). a ∷ xs) (range_suc (a + 1) n ∙ ap (λ (x : ℕ). range_with_len (a + 1) n ++ x ∷ []) (omega arith))
 
+-- The same, with the number put last.
 pub range_more : (a n : ℕ) → range_with_len a (n + 1) ≡ range_with_len a n ++ (a + n) ∷ []
 range_more a n = let e : n + 1 ≡ suc n = omega arith in ap (range_with_len a) e ∙ range_suc a n
 
+-- Of one item there is what is found of it.
 one_found : (f : ℕ → Option Hit) (x : ℕ) → filter_map f (x ∷ []) ≡ found (f x)
 one_found f x = elim (f x) as (λ (o : Option Hit). filter_map (λ _. o) (x ∷ []) ≡ found o) [ None ↦ refl | Some h ↦ refl ]
 
 module _ (t : Triangle) (n : ℕ) (os : List (ℤ × ℤ)) where
+  -- A row with one pixel more has the hit of that pixel last.
   pub row_more : (x c y : ℕ) → row_hits t n os x (c + 1) y ≡ row_hits t n os x c y ++ found (pixel_hit t n os y (x + c))
   row_more x c y =
       ap (filter_map (pixel_hit t n os y)) (range_more x c)
       ∙ (filter_map-append (pixel_hit t n os y) (range_with_len x c) ((x + c) ∷ []) ∙ ap (λ (hs : List Hit). row_hits t n os x c y ++ hs) (one_found (pixel_hit t n os y) (x + c)))
 
+  -- A block with one row more has the hits of that row last.
   pub block_more : (x w y c : ℕ) → block_hits t n os x w y (c + 1) ≡ block_hits t n os x w y c ++ row_hits t n os x w (y + c)
   block_more x w y c =
       ap (flat_map (row_hits t n os x w)) (range_more y c)
       ∙ (flat_map-append (row_hits t n os x w) (range_with_len y c) ((y + c) ∷ []) ∙ ap (λ (hs : List Hit). block_hits t n os x w y c ++ hs) (append-nil (row_hits t n os x w (y + c))))
 
+-- The same of a row whose pixels all have one mask.
 pub full_row_more : (n m x c y : ℕ) → full_row n m x (c + 1) y ≡ full_row n m x c y ++ (record { x = x + c; y = y; fragment = record { prim = n; mask = m } }) ∷ []
 full_row_more n m x c y =
     let f : ℕ → Hit = λ (i : ℕ). record { x = i; y = y; fragment = record { prim = n; mask = m } } in
     ap (map f) (range_more x c) ∙ map-append f (range_with_len x c) ((x + c) ∷ [])
 
+-- And of a block.
 pub full_more : (n m x w y c : ℕ) → full_hits n m x w y (c + 1) ≡ full_hits n m x w y c ++ full_row n m x w (y + c)
 full_more n m x w y c =
     ap (flat_map (full_row n m x w)) (range_more y c)
     ∙ (flat_map-append (full_row n m x w) (range_with_len y c) ((y + c) ∷ []) ∙ ap (λ (hs : List Hit). full_hits n m x w y c ++ hs) (append-nil (full_row n m x w (y + c))))
 
+-- A mask that is not 0 is a hit.
 pub hit_of_some : (n x y m : ℕ) → 0 < m → hit_of n x y m ≡ Some (record { x = x; y = y; fragment = record { prim = n; mask = m } })
 hit_of_some n x y m h = rw (ne_eqb m 0 (λ e. omega arith)) refl
 
+-- And a list of one hit.
 pub hit_some : (n x y m : ℕ) → 0 < m → found (hit_of n x y m) ≡ (record { x = x; y = y; fragment = record { prim = n; mask = m } }) ∷ []
 hit_some n x y m h = ap found (hit_of_some n x y m h)
 
 -- ---- blocks whose pixels all have one mask
 
 module _ (t : Triangle) (n : ℕ) (os : List (ℤ × ℤ)) (y : ℕ) where
+  -- A row whose masks are all 0 has no hits.
   pub row_none : (x w : ℕ) → ((i : ℕ) → x ≤ i → i < x + w → mask t os i y ≡ 0) → row_hits t n os x w y ≡ []
   row_none x zero h = refl
   row_none x (suc w) h =
       let z : mask t os x y ≡ 0 = h x (omega arith) (omega arith) in
       rw z (row_none (x + 1) w (λ i l g. h i (omega arith) (omega arith)))
 
+  -- A row whose pixels all have one mask.
   pub row_full : (m : ℕ) → 0 < m → (x w : ℕ) → ((i : ℕ) → x ≤ i → i < x + w → mask t os i y ≡ m) → full_row n m x w y ≡ row_hits t n os x w y
   row_full m some x zero h = refl
   row_full m some x (suc w) h =
@@ -66,16 +77,19 @@ module _ (t : Triangle) (n : ℕ) (os : List (ℤ × ℤ)) (y : ℕ) where
       ∙ ap (λ (o : Option Hit). cons_option o (row_hits t n os (x + 1) w y)) (sym e)
 
 module _ (t : Triangle) (n : ℕ) (os : List (ℤ × ℤ)) (x w : ℕ) where
+  -- A block whose masks are all 0 has no hits.
   pub block_none : (y h : ℕ) → ((i j : ℕ) → x ≤ i → i < x + w → y ≤ j → j < y + h → mask t os i j ≡ 0) → block_hits t n os x w y h ≡ []
   block_none y zero f = refl
   block_none y (suc h) f = ap₂ (λ (xs ys : List Hit). xs ++ ys) (row_none t n os y x w (λ i l g. f i y l g (omega arith) (omega arith))) (block_none (y + 1) h (λ i j l g p q. f i j l g (omega arith) (omega arith)))
 
+  -- A block whose pixels all have one mask.
   pub block_full : (m : ℕ) → 0 < m → (y h : ℕ) → ((i j : ℕ) → x ≤ i → i < x + w → y ≤ j → j < y + h → mask t os i j ≡ m) → full_hits n m x w y h ≡ block_hits t n os x w y h
   block_full m some y zero f = refl
   block_full m some y (suc h) f = ap₂ (λ (xs ys : List Hit). xs ++ ys) (row_full t n os y m some x w (λ i l g. f i y l g (omega arith) (omega arith))) (block_full m some (y + 1) h (λ i j l g p q. f i j l g (omega arith) (omega arith)))
 
 -- ---- the masks of pixels whose samples are all alike
 
+-- Where no sample is covered, the mask is 0.
 pub mask_uncovered : (t : Triangle) (os : List (ℤ × ℤ)) (x y k : ℕ) → ((j : ℕ) → j < k → covers t os x y j ≡ false) → mask_below t os x y k ≡ 0
 mask_uncovered t os x y zero h = refl
 mask_uncovered t os x y (suc k) h = ap₂ (λ (m : ℕ) (b : Bool). m + (if b then 2 ^ k else 0)) (mask_uncovered t os x y k (λ j l. h j (omega arith))) (h k (omega arith))

@@ -4,12 +4,15 @@ use Rattle.abuf_raster.specs.Samples.{sample_place, pixel_centre}
 use Rattle.std.specs.Int.{w128}
 use Rattle.std.proofs.lemmas.Int.{ints, unsigned_abs-mul}
 
+-- A sum is no farther from 0 than the two bounds together.
 pub abs-add : (a b : ℤ) (m n : ℕ) → unsigned_abs a ≤ m → unsigned_abs b ≤ n → unsigned_abs (a +ℤ b) ≤ m + n
 abs-add a b m n p q = omega (arith, ints)
 
+-- Nor is a difference.
 pub abs-sub : (a b : ℤ) (m n : ℕ) → unsigned_abs a ≤ m → unsigned_abs b ≤ n → unsigned_abs (a -ℤ b) ≤ m + n
 abs-sub a b m n p q = omega (arith, ints)
 
+-- A product is no farther from 0 than the product of the bounds.
 pub abs-mul : (a b : ℤ) (m n : ℕ) → unsigned_abs a ≤ m → unsigned_abs b ≤ n → unsigned_abs (a *ℤ b) ≤ m * n
 abs-mul a b m n p q = omega (arith, unsigned_abs-mul a b, mul-le-mul p q)
 
@@ -51,6 +54,7 @@ weight_is w e z q h k b =
     let s : to_z w128 (of_z w128 e) ≡ e = omega (arith, ints) in
     h ∙ ap (λ (y : ℤ). y *ℤ pos q) (s ∙ k)
 
+-- A number that fits an i128 is read back.
 pub back128 : (z : ℤ) → unsigned_abs z < 2 ^ 127 → to_z w128 (of_z w128 z) ≡ z
 back128 z h = omega (arith, ints)
 
@@ -63,6 +67,7 @@ sample_place-centre x y = λ i. record { x = ex i; y = ey i } where
   ey : pos (256 * y + 128) +ℤ pos 16 *ℤ pos 0 ≡ pos (256 * y + 128)
   ey = omega (arith, ints)
 
+-- A number that fits an i64 is read back.
 pub back64 : (z : ℤ) → unsigned_abs z < 2 ^ 63 → to_z w64 (of_z w64 z) ≡ z
 back64 z h = omega (arith, ints)
 

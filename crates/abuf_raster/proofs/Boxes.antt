@@ -20,6 +20,7 @@ module _ (t : Triangle) (n : ℕ) (os : List (ℤ × ℤ)) (r : Region) (some : 
   place_hit : (j i : ℕ) → i < r.w → hit_at t n os r (j * r.w + i) ≡ pixel_hit t n os (r.y0 + j) (r.x0 + i)
   place_hit j i h = ap₂ (λ (a b : ℕ). hit_of n (r.x0 + a) (r.y0 + b) (mask t os (r.x0 + a) (r.y0 + b))) (mod-mul-add j r.w i h) (div-mul-add j r.w i h)
 
+  -- The hits at places within a row are those of its pixels.
   row_places : (j i c : ℕ) → i + c ≤ r.w → filter_map (hit_at t n os r) (range_with_len (j * r.w + i) c) ≡ row_hits t n os (r.x0 + i) c (r.y0 + j)
   row_places j i zero h = refl
   row_places j i (suc c) h =
@@ -28,6 +29,7 @@ module _ (t : Triangle) (n : ℕ) (os : List (ℤ × ℤ)) (r : Region) (some : 
       ap₂ cons_option (place_hit j i (omega arith))
       (ap (λ (a : ℕ). filter_map (hit_at t n os r) (range_with_len a c)) e ∙ (row_places j (i + 1) c (omega arith) ∙ ap (λ (a : ℕ). row_hits t n os a c (r.y0 + j)) (sym s)))
 
+  -- And those at the places of whole rows.
   rows_places : (h j : ℕ) → filter_map (hit_at t n os r) (range_with_len (j * r.w) (h * r.w)) ≡ block_hits t n os r.x0 r.w (r.y0 + j) h
   rows_places zero j = let z : zero * r.w ≡ 0 = omega arith in ap (λ (c : ℕ). filter_map (hit_at t n os r) (range_with_len (j * r.w) c)) z
   rows_places (suc h) j =
@@ -44,6 +46,7 @@ module _ (t : Triangle) (n : ℕ) (os : List (ℤ × ℤ)) (r : Region) (some : 
       (ap (λ (k : ℕ). filter_map (hit_at t n os r) (range_with_len k r.w)) a ∙ (first ∙ ap (λ (k : ℕ). row_hits t n os k r.w (r.y0 + j)) x))
       (ap (λ (k : ℕ). filter_map (hit_at t n os r) (range_with_len k (h * r.w))) b ∙ (rows_places h (suc j) ∙ ap (λ (k : ℕ). block_hits t n os r.x0 r.w k h) y))))
 
+  -- The hits of a region are those of its block of pixels.
   pub hits_rows : hits t n os r ≡ block_hits t n os r.x0 r.w r.y0 r.h
   hits_rows =
       let c : r.w * r.h ≡ r.h * r.w = mul_comm r.w r.h in
@@ -66,12 +69,14 @@ module _ (t : Triangle) (n : ℕ) (os : List (ℤ × ℤ)) (x w a b : ℕ) (low 
       (ap (λ (k : ℕ). row_hits t n os k (b - a + (x + w - b)) y) p
       ∙ (sym (row_cut t n os a (b - a) (x + w - b) y) ∙ (ap (λ (xs : List Hit). row_hits t n os a (b - a) y ++ xs) (ap (λ (k : ℕ). row_hits t n os k (x + w - b) y) q ∙ last) ∙ append-nil (row_hits t n os a (b - a) y))))))
 
+  -- Rows, without what has no hits.
   rows_within : (y h : ℕ) → ((i j : ℕ) → x ≤ i → i < a → y ≤ j → j < y + h → mask t os i j ≡ 0) → ((i j : ℕ) → b ≤ i → i < x + w → y ≤ j → j < y + h → mask t os i j ≡ 0) → block_hits t n os x w y h ≡ block_hits t n os a (b - a) y h
   rows_within y zero before behind = refl
   rows_within y (suc h) before behind =
       ap₂ (λ (xs ys : List Hit). xs ++ ys) (row_within y (λ i l g. before i y l g (omega arith) (omega arith)) (λ i l g. behind i y l g (omega arith) (omega arith)))
       (rows_within (y + 1) h (λ i j l g p q. before i j l g (omega arith) (omega arith)) (λ i j l g p q. behind i j l g (omega arith) (omega arith)))
 
+  -- A block is two blocks, one under the other.
   block_cut : (y m k : ℕ) → block_hits t n os x w y (m + k) ≡ block_hits t n os x w y m ++ block_hits t n os x w (y + m) k
   block_cut y m k = ap (flat_map (row_hits t n os x w)) (sym (range_cut y m k)) ∙ flat_map-append (row_hits t n os x w) (range_with_len y m) (range_with_len (y + m) k)
 
@@ -119,5 +124,6 @@ module _ (t : Triangle) (n : ℕ) (os : List (ℤ × ℤ)) (r : Region) (some : 
     none (inl e) i j l g m k = elim (cases_lt i a) as (λ _. mask t os i j ≡ 0) [ inl f ↦ left i j l f | inr f ↦ right i j (omega arith) g ]
     none (inr e) i j l g m k = elim (cases_lt j c) as (λ _. mask t os i j ≡ 0) [ inl f ↦ above i j m f | inr f ↦ under i j (omega arith) k ]
 
+-- Two empty lists are permutations of each other.
 pub permutation_of_none : (xs ys : List Hit) → xs ≡ [] → ys ≡ [] → IsPermutation xs ys
 permutation_of_none xs ys e f = subst (λ (zs : List Hit). IsPermutation zs ys) (sym e) (subst (λ (zs : List Hit). IsPermutation [] zs) (sym f) (IsPermutation-refl []))

@@ -22,6 +22,7 @@ use Rattle.abuf_raster.proofs.Rooms.{value_room, lt_true, lt_false, rising_pos, 
 
 -- ---- from place to place
 
+-- The value of an edge at a place, from that at another by the change between them.
 pub value_stepped : (a b s z : Point) (x y : ℤ) → z.x ≡ s.x +ℤ x → z.y ≡ s.y +ℤ y → edge_value a b s +ℤ edge_change a b x y ≡ edge_value a b z
 value_stepped a b s z x y ex ey =
     let p : ℤ = if is_left_edge a b || is_top_edge a b then pos 0 else pos 1 in
@@ -34,20 +35,25 @@ value_stepped a b s z x y ex ey =
       moved : (e h u v w p : ℤ) → h ≡ e +ℤ (u -ℤ v) → w ≡ neg_ℤ v → (e -ℤ p) +ℤ (u +ℤ w) ≡ h -ℤ p
       moved e h u v w p f g = omega (arith, ints)
 
+-- The same of three edges.
 pub values_stepped : (t : Triangle) (s z : Point) (x y : ℤ) → z.x ≡ s.x +ℤ x → z.y ≡ s.y +ℤ y → plus_all (values_at t s) (changes t x y) ≡ values_at t z
 values_stepped t s z x y ex ey = λ i. record { ab = value_stepped t.a t.b s z x y ex ey i; bc = value_stepped t.b t.c s z x y ex ey i; ca = value_stepped t.c t.a s z x y ex ey i }
 
+-- The values at the next pixel to the right.
 pub values_right : (t : Triangle) (x y : ℕ) → plus_all (values_at t (pixel_centre x y)) (changes t (pos 256) (pos 0)) ≡ values_at t (pixel_centre (x + 1) y)
 values_right t x y = values_stepped t (pixel_centre x y) (pixel_centre (x + 1) y) (pos 256) (pos 0) (omega (arith, ints)) (omega (arith, ints))
 
+-- And at the next one below.
 pub values_down : (t : Triangle) (x y : ℕ) → plus_all (values_at t (pixel_centre x y)) (changes t (pos 0) (pos 256)) ≡ values_at t (pixel_centre x (y + 1))
 values_down t x y = values_stepped t (pixel_centre x y) (pixel_centre x (y + 1)) (pos 0) (pos 256) (omega (arith, ints)) (omega (arith, ints))
 
+-- The values at a sample of a pixel, from those at its centre.
 pub values_sample : (t : Triangle) (os : List (ℤ × ℤ)) (x y k : ℕ) → at_sample t os (values_at t (pixel_centre x y)) k ≡ values_at t (sample_place (slice_index_or os k (pos 0, pos 0)) x y)
 values_sample t os x y k = let o : ℤ × ℤ = slice_index_or os k (pos 0, pos 0) in values_stepped t (pixel_centre x y) (sample_place o x y) (pos 16 *ℤ o.0) (pos 16 *ℤ o.1) refl refl
 
 -- ---- what an edge accepts
 
+-- The test of the top-left rule, as a sign of the value.
 value_sign : (z : ℤ) (p : Bool) → (int_lt (pos 0) z || (int_eq z (pos 0) && p)) ≡ not (int_lt (z -ℤ (if p then pos 0 else pos 1)) (pos 0))
 value_sign (pos zero) true = refl
 value_sign (pos zero) false = refl
@@ -56,9 +62,11 @@ value_sign (pos (suc n)) false = ap (λ (b : Bool). b || (int_eq (pos (suc n)) (
 value_sign (negsuc n) true = sym (ap not (lt_true (negsuc n -ℤ pos 0) (pos 0) (omega (arith, ints))))
 value_sign (negsuc n) false = sym (ap not (lt_true (negsuc n -ℤ pos 1) (pos 0) (omega (arith, ints))))
 
+-- An edge accepts exactly where its value is not below 0.
 pub accepts_value : (a b s : Point) → accepts a b s ≡ not (int_lt (edge_value a b s) (pos 0))
 accepts_value a b s = value_sign (edge_function a b s) (is_left_edge a b || is_top_edge a b)
 
+-- Three edges accept exactly where none of their values is below 0.
 pub all_accept_values : (t : Triangle) (s : Point) → all_accept t.a t.b t.c s ≡ none_below (values_at t s)
 all_accept_values t s = ap₂ (λ (u v : Bool). u && v) (ap₂ (λ (u v : Bool). u && v) (accepts_value t.a t.b s) (accepts_value t.b t.c s)) (accepts_value t.c t.a s)
 
@@ -70,6 +78,7 @@ covers_positive t s h = go (int_lt (edge_function t.a t.b t.c) (pos 0)) (int_lt 
   go false false e f = absurd (omega (arith, ints))
   go false true e f = rw (← e, ← f) refl
 
+-- The mask of a pixel, from the values at its centre.
 pub mask_values : (t : Triangle) (os : List (ℤ × ℤ)) (x y : ℕ) → pos 0 <ℤ edge_function t.a t.b t.c → (k : ℕ) → mask_of_values_below t os (values_at t (pixel_centre x y)) k ≡ mask_below t os x y k
 mask_values t os x y h zero = refl
 mask_values t os x y h (suc k) =
@@ -84,11 +93,13 @@ abbrev AllNear : ℕ → List (ℤ × ℤ) → Type 0
 AllNear m [] = Unit {0}
 AllNear m (o ∷ os) = ((unsigned_abs o.0 ≤ m) × (unsigned_abs o.1 ≤ m)) × AllNear m os
 
+-- So is each of them.
 near_at : (m : ℕ) (os : List (ℤ × ℤ)) (k : ℕ) → AllNear m os → k < length os → (unsigned_abs (slice_index_or os k (pos 0, pos 0)).0 ≤ m) × (unsigned_abs (slice_index_or os k (pos 0, pos 0)).1 ≤ m)
 near_at m [] k n h = absurd (omega arith)
 near_at m (o ∷ os) zero n h = n.0
 near_at m (o ∷ os) (suc k) n h = near_at m os k n.1 (omega arith)
 
+-- The offsets of a pattern are within its reach.
 all_near : (p : Pattern) → AllNear (reach_of p) (offsets_of p)
 all_near One = ((lit≤ tt, lit≤ tt), tt)
 all_near Two = ((lit≤ tt, lit≤ tt), ((lit≤ tt, lit≤ tt), tt))
@@ -96,9 +107,11 @@ all_near Four = ((lit≤ tt, lit≤ tt), ((lit≤ tt, lit≤ tt), ((lit≤ tt, l
 all_near Eight = ((lit≤ tt, lit≤ tt), ((lit≤ tt, lit≤ tt), ((lit≤ tt, lit≤ tt), ((lit≤ tt, lit≤ tt), ((lit≤ tt, lit≤ tt), ((lit≤ tt, lit≤ tt), ((lit≤ tt, lit≤ tt), ((lit≤ tt, lit≤ tt), tt))))))))
 all_near Sixteen = ((lit≤ tt, lit≤ tt), ((lit≤ tt, lit≤ tt), ((lit≤ tt, lit≤ tt), ((lit≤ tt, lit≤ tt), ((lit≤ tt, lit≤ tt), ((lit≤ tt, lit≤ tt), ((lit≤ tt, lit≤ tt), ((lit≤ tt, lit≤ tt), ((lit≤ tt, lit≤ tt), ((lit≤ tt, lit≤ tt), ((lit≤ tt, lit≤ tt), ((lit≤ tt, lit≤ tt), ((lit≤ tt, lit≤ tt), ((lit≤ tt, lit≤ tt), ((lit≤ tt, lit≤ tt), ((lit≤ tt, lit≤ tt), tt))))))))))))))))
 
+-- So is each of them.
 pub offset_near : (p : Pattern) (k : ℕ) → k < length (offsets_of p) → (unsigned_abs (slice_index_or (offsets_of p) k (pos 0, pos 0)).0 ≤ reach_of p) × (unsigned_abs (slice_index_or (offsets_of p) k (pos 0, pos 0)).1 ≤ reach_of p)
 offset_near p k h = near_at (reach_of p) (offsets_of p) k (all_near p) h
 
+-- No reach is above half a pixel.
 pub reach_small : (p : Pattern) → reach_of p ≤ 8
 reach_small One = lit≤ tt
 reach_small Two = lit≤ tt
@@ -106,6 +119,7 @@ reach_small Four = lit≤ tt
 reach_small Eight = lit≤ tt
 reach_small Sixteen = lit≤ tt
 
+-- What is at least a number that is not below 0 is not below 0.
 pub not_below : (x y : ℤ) → x ≤ℤ y → not (int_lt x (pos 0)) ≡ true → not (int_lt y (pos 0)) ≡ true
 not_below x y h e = go (int_lt x (pos 0)) (int_lt y (pos 0)) refl refl where
   go : (u v : Bool) → u ≡ int_lt x (pos 0) → v ≡ int_lt y (pos 0) → not (int_lt y (pos 0)) ≡ true
@@ -113,15 +127,18 @@ not_below x y h e = go (int_lt x (pos 0)) (int_lt y (pos 0)) refl refl where
   go true true f g = absurd (true≢false (sym e ∙ ap not (sym f)))
   go false true f g = absurd (omega (arith, ints))
 
+-- Three tests pass where three stricter ones pass.
 all_three : (u v w x y z : Bool) → (u ≡ true → x ≡ true) → (v ≡ true → y ≡ true) → (w ≡ true → z ≡ true) → (u && v && w) ≡ true → (x && y && z) ≡ true
 all_three u v w x y z f g h e =
     let a = both_true (u && v) w e in
     let b = both_true u v a.0 in
     rw (f b.0, g b.1, h a.1) refl
 
+-- Where none of the lesser is below 0, none of the greater is.
 pub up_none_below : (m n : Numbers) → AreUp m n → none_below m ≡ true → none_below n ≡ true
 up_none_below m n h e = all_three _ _ _ _ _ _ (not_below m.ab n.ab h.ab) (not_below m.bc n.bc h.bc) (not_below m.ca n.ca h.ca) e
 
+-- What is not true is false.
 pub not_true : (b : Bool) → (b ≡ true → ⊥) → b ≡ false
 not_true true h = absurd (h refl)
 not_true false h = refl
@@ -130,65 +147,81 @@ not_true false h = refl
 pub below_down : (m n : Numbers) → AreUp m n → none_below n ≡ false → none_below m ≡ false
 below_down m n h e = not_true (none_below m) (λ k. true≢false (sym (up_none_below m n h k) ∙ e))
 
+-- Sums keep the order: the greater put last.
 pub plus_up : (k m n : Numbers) → AreUp m n → AreUp (plus_all k m) (plus_all k n)
 plus_up k m n h = record { ab = omega (arith, ints, h.ab); bc = omega (arith, ints, h.bc); ca = omega (arith, ints, h.ca) }
 
+-- And put first.
 pub up_plus : (k m n : Numbers) → AreUp m n → AreUp (plus_all m k) (plus_all n k)
 up_plus k m n h = record { ab = omega (arith, ints, h.ab); bc = omega (arith, ints, h.bc); ca = omega (arith, ints, h.ca) }
 
 -- ---- the masks of pixels that need no test
 
+-- The mask is 0 where no sample is accepted.
 mask_none : (t : Triangle) (os : List (ℤ × ℤ)) (n : Numbers) (k : ℕ) → ((j : ℕ) → j < k → none_below (at_sample t os n j) ≡ false) → mask_of_values_below t os n k ≡ 0
 mask_none t os n zero h = refl
 mask_none t os n (suc k) h = ap₂ (λ (m : ℕ) (b : Bool). m + (if b then 2 ^ k else 0)) (mask_none t os n k (λ j l. h j (omega arith))) (h k (omega arith))
 
+-- And full where all are.
 mask_all : (t : Triangle) (os : List (ℤ × ℤ)) (n : Numbers) (k : ℕ) → ((j : ℕ) → j < k → none_below (at_sample t os n j) ≡ true) → mask_of_values_below t os n k ≡ 2 ^ k - 1
 mask_all t os n zero h = refl
 mask_all t os n (suc k) h =
     let e = ap₂ (λ (m : ℕ) (b : Bool). m + (if b then 2 ^ k else 0)) (mask_all t os n k (λ j l. h j (omega arith))) (h k (omega arith)) in
     e ∙ omega (arith, pow-suc 2 k, pow_pos k)
 
+-- Sixteen times a number is within sixteen times its bound.
 pub sixteenth : (z : ℤ) (m : ℕ) → unsigned_abs z ≤ m → unsigned_abs (pos 16 *ℤ z) ≤ 16 * m
 sixteenth z m h = abs-mul (pos 16) z 16 m (lit≤ tt) h
 
 -- a pixel with an edge that accepts none of its samples, and one whose samples all three accept
 module _ (t : Triangle) (os : List (ℤ × ℤ)) (n m : Numbers) where
+  -- The first: its mask is 0.
   pub mask_outside : ((k : ℕ) → k < length os → AreUp (sample_changes t os k) m) → none_below (plus_all n m) ≡ false → mask_of_values t os n ≡ 0
   mask_outside h e = mask_none t os n (length os) (λ j l. below_down (at_sample t os n j) (plus_all n m) (plus_up n (sample_changes t os j) m (h j l)) e)
 
+  -- The second: its mask is full.
   pub mask_inside : ((k : ℕ) → k < length os → AreUp m (sample_changes t os k)) → none_below (plus_all n m) ≡ true → mask_of_values t os n ≡ 2 ^ length os - 1
   mask_inside h e = mask_all t os n (length os) (λ j l. up_none_below (plus_all n m) (at_sample t os n j) (plus_up n m (sample_changes t os j) (h j l)) e)
 
 -- ---- a tile whose first pixel is (x, y), and what its farthest pixels put to the values there
 
+-- The values at a pixel of the tile, from those at its first.
 pub values_in_tile : (t : Triangle) (x y i j : ℕ) → plus_all (values_at t (pixel_centre x y)) (changes t (pos (256 * i)) (pos (256 * j))) ≡ values_at t (pixel_centre (x + i) (y + j))
 values_in_tile t x y i j = values_stepped t (pixel_centre x y) (pixel_centre (x + i) (y + j)) (pos (256 * i)) (pos (256 * j)) (omega (arith, ints)) (omega (arith, ints))
 
+-- A way within another rises by no more.
 rises_one : (z : ℤ) (i m : ℕ) → i ≤ m → (z *ℤ pos i) ≤ℤ (rising z *ℤ pos m)
 rises_one (pos n) i m h = rw (rising_pos n) (let p = mul-le n i n m (omega arith) h in omega (arith, ints))
 rises_one (negsuc n) i m h = omega (arith, ints)
 
+-- And falls by no more.
 falls_one : (z : ℤ) (i m : ℕ) → i ≤ m → (falling z *ℤ pos m) ≤ℤ (z *ℤ pos i)
 falls_one (pos n) i m h = rw (falling_pos n) (omega (arith, ints))
 falls_one (negsuc n) i m h = let p = mul-le (suc n) i (suc n) m (omega arith) h in omega (arith, ints)
 
+-- A sum of greater numbers is greater.
 sum_up : (p q u v : ℤ) → p ≤ℤ u → q ≤ℤ v → (p +ℤ q) ≤ℤ (u +ℤ v)
 sum_up p q u v h k = omega (arith, ints)
 
 module _ (t : Triangle) (w h i j : ℕ) (hi : i ≤ w) (hj : j ≤ h) where
+  -- An edge changes within the tile by no more than it rises.
   up_edge : (a b : Point) → edge_change a b (pos (256 * i)) (pos (256 * j)) ≤ℤ edge_rise a b w h
   up_edge a b = sum_up _ _ _ _ (rises_one (b.x -ℤ a.x) (256 * j) (256 * h) (omega arith)) (rises_one (a.y -ℤ b.y) (256 * i) (256 * w) (omega arith))
 
+  -- And by no less than it falls.
   down_edge : (a b : Point) → edge_fall a b w h ≤ℤ edge_change a b (pos (256 * i)) (pos (256 * j))
   down_edge a b = sum_up _ _ _ _ (falls_one (b.x -ℤ a.x) (256 * j) (256 * h) (omega arith)) (falls_one (a.y -ℤ b.y) (256 * i) (256 * w) (omega arith))
 
+  -- The same of the three edges: they rise.
   pub up_rises : AreUp (changes t (pos (256 * i)) (pos (256 * j))) (rises t w h)
   up_rises = record { ab = up_edge t.a t.b; bc = up_edge t.b t.c; ca = up_edge t.c t.a }
 
+  -- And fall.
   pub falls_up : AreUp (falls t w h) (changes t (pos (256 * i)) (pos (256 * j)))
   falls_up = record { ab = down_edge t.a t.b; bc = down_edge t.b t.c; ca = down_edge t.c t.a }
 
 module _ (t : Triangle) (os : List (ℤ × ℤ)) (x y w h : ℕ) (m : Numbers) (positive : pos 0 <ℤ edge_function t.a t.b t.c) where
+  -- The values at a pixel of the tile, by its own place.
   to_pixel : (i j : ℕ) → x ≤ i → y ≤ j → plus_all (values_at t (pixel_centre x y)) (changes t (pos (256 * (i - x))) (pos (256 * (j - y)))) ≡ values_at t (pixel_centre i j)
   to_pixel i j xi yj = values_in_tile t x y (i - x) (j - y) ∙ ap₂ (λ (k l : ℕ). values_at t (pixel_centre k l)) (omega arith) (omega arith)
 
@@ -212,6 +245,7 @@ module _ (t : Triangle) (os : List (ℤ × ℤ)) (x y w h : ℕ) (m : Numbers) (
 
 -- ---- room for the values of the samples of a pixel
 
+-- A width has room for values at places within its reach.
 pub values_room : (r : ℕ) (t : Triangle) (s : Point) → 2 ^ 22 ≤ r → AreWithin r t → IsWithin r s → IsRoomFor r (values_at t s)
 values_room r t s wide near h =
     let u = value_room r t.a t.b s wide near.0 near.1 h in
@@ -219,15 +253,19 @@ values_room r t s wide near h =
     let w = value_room r t.c t.a s wide near.2 near.0 h in
     (omega arith, omega arith, omega arith)
 
+-- And for what is put to them.
 pub values_small : (r : ℕ) (t : Triangle) (s : Point) → 2 ^ 22 ≤ r → AreWithin r t → IsWithin r s → AreAtMost (9 * (r * r)) (values_at t s)
 values_small r t s wide near h = (value_room r t.a t.b s wide near.0 near.1 h, value_room r t.b t.c s wide near.1 near.2 h, value_room r t.c t.a s wide near.2 near.0 h)
 
+-- The centre of a pixel is within reach.
 pub centre_near : (r x y : ℕ) → 2 ^ 22 ≤ r → x ≤ 4200 → y ≤ 4200 → IsWithin r (pixel_centre x y)
 centre_near r x y wide hx hy = (omega (arith, ints), omega (arith, ints))
 
+-- So is a place within half a pixel of it.
 place_near : (r x : ℕ) (z : ℤ) → 2 ^ 22 ≤ r → x ≤ 4200 → unsigned_abs z ≤ 128 → unsigned_abs (pos (256 * x + 128) +ℤ z) < r
 place_near r x z wide hx hz = omega (arith, abs-add (pos (256 * x + 128)) z (256 * 4200 + 128) 128 (omega arith) hz)
 
+-- A width has room for the values at all samples of a pixel.
 pub samples_fit : (r : ℕ) (t : Triangle) (p : Pattern) (x y : ℕ) → 2 ^ 22 ≤ r → AreWithin r t → x ≤ 4200 → y ≤ 4200 → FitsSamples r t (offsets_of p) (values_at t (pixel_centre x y))
 samples_fit r t p x y wide near hx hy = λ k l.
     let n = offset_near p k l in
@@ -240,12 +278,15 @@ samples_fit r t p x y wide near hx hy = λ k l.
 
 -- ---- the least and the greatest change to a sample
 
+-- The order of three numbers each is transitive.
 pub up_trans : (m n k : Numbers) → AreUp m n → AreUp n k → AreUp m k
 up_trans m n k h i = record { ab = omega (arith, ints, h.ab, i.ab); bc = omega (arith, ints, h.bc, i.bc); ca = omega (arith, ints, h.ca, i.ca) }
 
+-- And holds of equal ones.
 up_same : (m n : Numbers) → m ≡ n → AreUp m n
 up_same m n e = subst (AreUp m) e (record { ab = omega (arith, ints); bc = omega (arith, ints); ca = omega (arith, ints) })
 
+-- The change to a sample is at most a square of the reach.
 pub sample_room : (r : ℕ) (t : Triangle) (p : Pattern) (k : ℕ) → 2 ^ 22 ≤ r → AreWithin r t → k < length (offsets_of p) → AreAtMost (r * r) (sample_changes t (offsets_of p) k)
 sample_room r t p k wide near l =
     let n = offset_near p k l in

@@ -12,6 +12,7 @@ use Rattle.abuf_raster.proofs.Blocks.{row_more, block_more}
 
 -- ---- hits
 
+-- An option is at most one hit.
 found_few : (o : Option Hit) → length (found o) ≤ 1
 found_few None = omega arith
 found_few (Some h) = omega arith
@@ -37,6 +38,7 @@ module _ (t : Triangle) (n : ℕ) (os : List (ℤ × ℤ)) where
       rw (row_more t n os x c y) (omega (arith, length-append (row_hits t n os x c y) (found (pixel_hit t n os y (x + c))), found_few (pixel_hit t n os y (x + c)), row_few x c y)) in
       omega (arith, m, ap (λ (k : ℕ). length (row_hits t n os x k y)) e)
 
+  -- The same of a block.
   pub block_few : (x w y h : ℕ) → length (block_hits t n os x w y h) ≤ w * h
   block_few x w y zero = omega arith
   block_few x w y (suc h) =
@@ -46,6 +48,7 @@ module _ (t : Triangle) (n : ℕ) (os : List (ℤ × ℤ)) where
 
 -- as many hits whatever the number of the triangle
 module _ (t : Triangle) (n m : ℕ) (os : List (ℤ × ℤ)) (r : Region) where
+  -- At each of some places.
   each_alike : (count p : ℕ) → length (filter_map (hit_at t n os r) (range_with_len p count)) ≡ length (filter_map (hit_at t m os r) (range_with_len p count))
   each_alike zero p = refl
   each_alike (suc count) p = go (each_alike count (p + 1)) (mask t os (r.x0 + p % r.w) (r.y0 + p / r.w) == 0) refl where
@@ -55,11 +58,13 @@ module _ (t : Triangle) (n m : ℕ) (os : List (ℤ × ℤ)) (r : Region) where
     go k true e = rw (← e) k
     go k false e = rw (← e) (ap suc k)
 
+  -- And in the region.
   pub counts_alike : length (hits t n os r) ≡ length (hits t m os r)
   counts_alike = each_alike (r.w * r.h) 0
 
 -- ---- pixels
 
+-- A length is its first piece of 8 and the rest.
 parts_of : (h : ℕ) → min 8 h + (h - 8) ≡ h
 parts_of h = omega arith
 
@@ -79,6 +84,7 @@ pixels_right x e h k l =
     let i : e - (x + 8) ≡ b = omega arith in
     omega (arith, ap (λ (z : ℕ). z * h) f, ap (λ (z : ℕ). z * h) g, ap (λ (z : ℕ). z * h) i)
 
+-- And at the end of a band.
 pub pixels_down : (x e w y f : ℕ) → e - x ≤ 8 → min 8 (e - x) * min 8 (f - y) + (w * min 8 (f - (y + 8)) + w * (f - (y + 8 + 8))) ≡ (e - x) * min 8 (f - y) + w * (f - (y + 8))
 pixels_down x e w y f l =
     let k : ℕ = f - (y + 8) in

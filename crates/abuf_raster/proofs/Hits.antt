@@ -12,6 +12,7 @@ use Rattle.abuf_raster.specs.Region.{IsRegion}
 use Rattle.abuf_raster.proofs.Masks.{mask_small}
 
 module _ (t : Triangle) (n : ℕ) (os : List (ℤ × ℤ)) (r : Region) where
+  -- There are no more hits than places.
   pub hits_few : (count p : ℕ) → length (filter_map (hit_at t n os r) (range_with_len p count)) ≤ count
   hits_few zero p = omega arith
   hits_few (suc count) p = go (hits_few count (p + 1)) (hit_at t n os r p) refl where
@@ -44,6 +45,7 @@ module _ (t : Triangle) (n : ℕ) (os : List (ℤ × ℤ)) (r : Region) (n_small
     go true e = cc
     go false e = let g : ◌≡◌ {A = Hit} (record { x = r.x0 + p % r.w; y = r.y0 + p / r.w; fragment = record { prim = n; mask = mask t os (r.x0 + p % r.w) (r.y0 + p / r.w) } }) h = cc in subst (IsHitIn r) g all
 
+  -- So are all hits at places of the region.
   pub hits_each : (count p : ℕ) → p + count ≤ r.w * r.h → All (IsHitIn r) (filter_map (hit_at t n os r) (range_with_len p count))
   hits_each zero p h = All-nil (IsHitIn r)
   hits_each (suc count) p h = go (hits_each count (p + 1) (omega arith)) (hit_at t n os r p) refl where

@@ -30,6 +30,7 @@ record IsNatural (z : ℤ) (k m : ℕ) : Type 0 where
   is : z ≡ pos number
   few : number < k * (m + 1)
 
+-- It is a natural number below the sum of the weights times the greatest and one.
 natural_sum : (e f g d : ℤ) (p q r k m : ℕ) → pos 0 ≤ℤ e → pos 0 ≤ℤ f → pos 0 ≤ℤ g → e +ℤ f +ℤ g ≡ d → d ≡ pos k → 0 < k → p ≤ m → q ≤ m → r ≤ m
     → IsNatural (e *ℤ pos p +ℤ f *ℤ pos q +ℤ g *ℤ pos r) k m
 natural_sum (negsuc e) f g d p q r k m he hf hg s t some _ _ _ = absurd he.le
@@ -54,6 +55,7 @@ pub record IsKeyOf (u : Triangle) (p : Coefficients) (s : Point) : Type 0 where
   pub key : unsigned_abs (depth_of u s) ≡ number / p.area.divisor
   pub small : number / p.area.divisor ≤ 16777215
 
+-- It is told of a plane at a sample that its edges accept.
 pub key_of : (u : Triangle) (p : Coefficients) (s : Point) → IsPlane u p → all_accept u.a u.b u.c s ≡ true → IsKeyOf u p s
 key_of u p s h covered =
     let w = weights u s covered in
@@ -80,6 +82,7 @@ key_of u p s h covered =
 unwrapped : (n : ℕ) → n < 2 ^ 63 → int_wrap w64 (pos n) ≡ pos n
 unwrapped n h = int_wrap_fits w64 (pos n) (fits_signed_from_abs w64 (pos n) h)
 
+-- The value of the sum is the key.
 pub key_told : (u : Triangle) (p : Coefficients) (s : Point) (r : ℕ) → IsPlane u p → IsKeyOf u p s
     → ((n : ℕ) → sum_at p s ≡ pos n → r ≡ min (n / p.area.divisor) 16777215) → r ≡ unsigned_abs (depth_of u s)
 key_told u p s r h k told =
@@ -106,6 +109,7 @@ pub record IsBetween (lo hi d spread n : ℕ) : Type 0 where
   pub low : lo ≤ n / d
   pub high : n / d ≤ hi
 
+-- They are bounds of the key.
 pub between_bounds : (u : Triangle) (p : Coefficients) (c s : Point) (lo hi spread : ℕ) → IsPlane u p → (k : IsKeyOf u p s) → spread ≤ 2 ^ 60
     → unsigned_abs (weighted_depth u s -ℤ weighted_depth u c) ≤ spread
     → ((top : ℕ) → top < 2 ^ 63 → int_wrap w64 (sum_at p c +ℤ pos spread) ≡ pos top → (lo ≡ min ((top - 2 * spread) / p.area.divisor) 16777215) × (hi ≡ min (top / p.area.divisor) 16777215))

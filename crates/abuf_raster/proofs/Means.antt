@@ -13,13 +13,16 @@ use Rattle.abuf_raster.specs.Depth.{depth_of, depth_value, least_depth, greatest
 use Rattle.abuf_raster.proofs.Acceptance.{positive_area}
 use Rattle.abuf_raster.proofs.Linear.{E_sum}
 
+-- A number that passes the test of the top-left rule is not below 0.
 not_below_zero : (z : ℤ) (p : Bool) → (int_lt (pos 0) z || (int_eq z (pos 0) && p)) ≡ true → pos 0 ≤ℤ z
 not_below_zero (pos n) p h = omega (arith, ints)
 not_below_zero (negsuc n) p h = absurd (true≢false (sym h))
 
+-- Where an edge accepts, its edge function is not below 0.
 pub accepts_not_negative : (a b s : Point) → accepts a b s ≡ true → pos 0 ≤ℤ edge_function a b s
 accepts_not_negative a b s h = not_below_zero (edge_function a b s) (is_left_edge a b || is_top_edge a b) h
 
+-- Where two tests pass together, each passes.
 pub both_true : (x y : Bool) → (x && y) ≡ true → (x ≡ true) × (y ≡ true)
 both_true true y h = (refl, h)
 both_true false y h = absurd (true≢false (sym h))
@@ -32,6 +35,7 @@ mean_low e f g p q r m hp hq hr =
     let c : g * m ≤ g * r = mul-le g m g r (omega arith) hr in
     omega arith
 
+-- And below the greatest and one.
 pub mean_high : (e f g p q r m : ℕ) → p ≤ m → q ≤ m → r ≤ m → 0 < e + f + g → e * p + f * q + g * r < (m + 1) * (e + f + g)
 mean_high e f g p q r m hp hq hr some =
     let a : e * p ≤ e * m = mul-le e p e m (omega arith) hp in
@@ -62,18 +66,21 @@ key_between t s some h =
     (E_sum t.a t.b t.c s) some
     (omega arith) (omega arith) (omega arith) (omega arith) (omega arith) (omega arith)
 
+-- Positive order keeps the least depth value.
 least_turned : (t : Triangle) → least_depth (positive_order t) ≡ least_depth t
 least_turned t = go (int_lt (edge_function t.a t.b t.c) (pos 0)) refl where
   go : (b : Bool) → b ≡ int_lt (edge_function t.a t.b t.c) (pos 0) → least_depth (positive_order t) ≡ least_depth t
   go true e = rw (← e) (omega arith)
   go false e = rw (← e) refl
 
+-- And the greatest.
 greatest_turned : (t : Triangle) → greatest_depth (positive_order t) ≡ greatest_depth t
 greatest_turned t = go (int_lt (edge_function t.a t.b t.c) (pos 0)) refl where
   go : (b : Bool) → b ≡ int_lt (edge_function t.a t.b t.c) (pos 0) → greatest_depth (positive_order t) ≡ greatest_depth t
   go true e = rw (← e) (omega arith)
   go false e = rw (← e) refl
 
+-- The law for any triangle.
 pub key_law_holds : (t : Triangle) (s : Point) → covers_sample t s ≡ true
     → (pos (least_depth t) ≤ℤ depth_value t s) × (depth_value t s ≤ℤ pos (greatest_depth t))
 key_law_holds t s h =

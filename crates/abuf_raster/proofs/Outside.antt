@@ -32,6 +32,7 @@ module _ (t : Triangle) (p : Pattern) (i j : ℕ) where
   pub none_left : IsBefore i (16 * reach_of p) t.a.x → IsBefore i (16 * reach_of p) t.b.x → IsBefore i (16 * reach_of p) t.c.x → mask t (offsets_of p) i j ≡ 0
   none_left a b c = either t (offsets_of p) i j (λ h. let k = corners (λ q. IsBefore i (16 * reach_of p) q.x) t a b c in mask_left (positive_order t) p (positive_area t h) i j k.0 k.1 k.2)
 
+  -- The same, after its corners.
   pub none_right : IsBehind i (16 * reach_of p) t.a.x → IsBehind i (16 * reach_of p) t.b.x → IsBehind i (16 * reach_of p) t.c.x → mask t (offsets_of p) i j ≡ 0
   none_right a b c = either t (offsets_of p) i j (λ h. let k = corners (λ q. IsBehind i (16 * reach_of p) q.x) t a b c in mask_right (positive_order t) p (positive_area t h) i j k.0 k.1 k.2)
 
@@ -39,5 +40,6 @@ module _ (t : Triangle) (p : Pattern) (i j : ℕ) where
   pub none_above : IsBefore j (16 * reach_of p) t.a.y → IsBefore j (16 * reach_of p) t.b.y → IsBefore j (16 * reach_of p) t.c.y → mask t (offsets_of p) i j ≡ 0
   none_above a b c = either t (offsets_of p) i j (λ h. let k = corners (λ q. IsBefore j (16 * reach_of p) q.y) t a b c in mask_above (positive_order t) p (positive_area t h) i j k.0 k.1 k.2)
 
+  -- The same, after them.
   pub none_under : IsBehind j (16 * reach_of p) t.a.y → IsBehind j (16 * reach_of p) t.b.y → IsBehind j (16 * reach_of p) t.c.y → mask t (offsets_of p) i j ≡ 0
   none_under a b c = either t (offsets_of p) i j (λ h. let k = corners (λ q. IsBehind j (16 * reach_of p) q.y) t a b c in mask_under (positive_order t) p (positive_area t h) i j k.0 k.1 k.2)

@@ -11,21 +11,26 @@ use Rattle.abuf_raster.specs.Walk.{pixel_hit, row_hits, block_hits, pieces, piec
 
 -- ---- the number of pieces
 
+-- No length has no pieces.
 pieces_in_none : pieces_in 0 ≡ 0
 pieces_in_none = omega arith
 
+-- A length has one piece more than what is 8 shorter.
 pieces_in_more : (n : ℕ) → 0 < n → pieces_in n ≡ suc (pieces_in (n - 8))
 pieces_in_more n h = omega arith
 
+-- The first piece, and the others.
 pub pieces_step : (f : ℕ → ℕ → List Hit) (p n : ℕ) → 0 < n → pieces f (pieces_in n) p n ≡ f p (min 8 n) ++ pieces f (pieces_in (n - 8)) (p + 8) (n - 8)
 pieces_step f p n h = ap (λ (c : ℕ). pieces f c p n) (pieces_in_more n h)
 
+-- No length has nothing.
 pieces_end : (f : ℕ → ℕ → List Hit) (p n : ℕ) → n ≡ 0 → pieces f (pieces_in n) p n ≡ []
 pieces_end f p n e = let z : pieces_in n ≡ 0 = omega arith in ap (λ (c : ℕ). pieces f c p n) z
 
 -- ---- a walk through the tiles
 
 module _ (t : Triangle) (n : ℕ) (os : List (ℤ × ℤ)) where
+  -- A band without rows has no hits.
   band_none : (count x w y : ℕ) → pieces (λ p m. block_hits t n os p m y 0) count x w ≡ []
   band_none zero x w y = refl
   band_none (suc count) x w y = band_none count (x + 8) (w - 8) y
@@ -89,6 +94,7 @@ pieces_all f none cut (suc count) p n h = go (pieces_all f none cut count (p + 8
       IsPermutation-trans _ (f p (min 8 n) ++ f (p + 8) (n - 8)) _ (IsPermutation-append_right (f p (min 8 n)) _ _ k)
       (subst (λ (xs : List Hit). IsPermutation (f p (min 8 n) ++ xs) (f p n)) (rest (min 8 n) refl) (subst (λ (m : ℕ). IsPermutation (f p (min 8 n) ++ f (p + min 8 n) (n - 8)) (f p m)) s (cut p (min 8 n) (n - 8))))
 
+-- A range is two ranges, one after the other.
 pub range_cut : (a m n : ℕ) → range_with_len a m ++ range_with_len (a + m) n ≡ range_with_len a (m + n)
 range_cut a zero n = let e : a + 0 ≡ a = omega arith in let z : 0 + n ≡ n = omega arith in ap (λ (b : ℕ). range_with_len b n) e ∙ ap (range_with_len a) (sym z)
 range_cut a (suc m) n =
@@ -112,18 +118,22 @@ both_for_each f g (y ∷ ys) = go (both_for_each f g ys) where
       (subst (λ (xs : List Hit). IsPermutation xs ((f y ++ g y) ++ flat_map (λ y. f y ++ g y) ys)) (sym b) (IsPermutation-append_right (f y ++ g y) _ _ k)))
 
 module _ (t : Triangle) (n : ℕ) (os : List (ℤ × ℤ)) where
+  -- A row is two rows, one beside the other.
   pub row_cut : (x m k y : ℕ) → row_hits t n os x m y ++ row_hits t n os (x + m) k y ≡ row_hits t n os x (m + k) y
   row_cut x m k y = sym (filter_map-append (pixel_hit t n os y) (range_with_len x m) (range_with_len (x + m) k)) ∙ ap (filter_map (pixel_hit t n os y)) (range_cut x m k)
 
+  -- Rows without pixels have no hits.
   rows_none : (x : ℕ) (ys : List ℕ) → flat_map (row_hits t n os x 0) ys ≡ []
   rows_none x [] = refl
   rows_none x (y ∷ ys) = rows_none x ys
 
+  -- The tiles of a band have the hits of its block.
   pub band_all : (x w y h : ℕ) → IsPermutation (band_hits t n os x w y h) (block_hits t n os x w y h)
   band_all x w y h = pieces_all (λ p m. block_hits t n os p m y h) (λ p. rows_none p (range_with_len y h))
       (λ p m k. subst (λ (f : ℕ → List Hit). IsPermutation (block_hits t n os p m y h ++ block_hits t n os (p + m) k y h) (flat_map f (range_with_len y h))) (λ i y. row_cut p m k y i) (both_for_each (row_hits t n os p m) (row_hits t n os (p + m) k) (range_with_len y h)))
       (pieces_in w) x w (omega arith)
 
+  -- And the tiles of all bands.
   pub bands_all : (x w y h : ℕ) → IsPermutation (bands_hits t n os x w y h) (block_hits t n os x w y h)
   bands_all x w y h =
       IsPermutation-trans _ _ _ (each (pieces_in h) y h)

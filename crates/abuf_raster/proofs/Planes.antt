@@ -15,6 +15,7 @@ use Rattle.abuf_raster.proofs.Linear.{E_from, E_sum}
 use Rattle.abuf_raster.proofs.Bounds.{back64}
 use Rattle.abuf_raster.proofs.Beside.{triple}
 
+-- Three factors, the last two exchanged.
 last_two : (p d q : ℤ) → (p *ℤ d) *ℤ q ≡ (p *ℤ q) *ℤ d
 last_two p d q = ap (λ (z : ℤ). z *ℤ q) (*ℤ_comm p d) ∙ (triple d p q ∙ ap (λ (z : ℤ). z *ℤ d) (*ℤ_comm q p))
 
@@ -30,6 +31,7 @@ one_changed e p r dx dy q =
 sum_of_three : (u v w d : ℤ) → (u +ℤ v +ℤ w) *ℤ d ≡ u *ℤ d +ℤ v *ℤ d +ℤ w *ℤ d
 sum_of_three u v w d = let h = add_mul (u +ℤ v) w d in let k = add_mul u v d in omega (arith, ints, h, k)
 
+-- A weighted difference and its reverse.
 turned : (x y q d : ℤ) → ((x -ℤ y) *ℤ q) *ℤ d ≡ neg_ℤ (((y -ℤ x) *ℤ q) *ℤ d)
 turned x y q d =
     let e : x -ℤ y ≡ neg_ℤ (y -ℤ x) = omega (arith, ints) in
@@ -97,6 +99,7 @@ from_origin t s =
 wrapped_before : (z a b : ℤ) → int_wrap w64 ((int_wrap w64 z +ℤ a) +ℤ b) ≡ int_wrap w64 ((z +ℤ a) +ℤ b)
 wrapped_before z a b = int_wrap-add_same w64 (int_wrap w64 z +ℤ a) (z +ℤ a) b (int_wrap-add_left w64 z a)
 
+-- The sum that the code makes is the weighted depth, modulo 2^64.
 pub sum_is : (t : Triangle) (across down start first second : ℤ) → across ≡ slope_across t → down ≡ slope_down t
     → first ≡ int_wrap w64 (pos 0 +ℤ edge_function t.a t.b t.c *ℤ pos t.qa)
     → second ≡ int_wrap w64 (first +ℤ across *ℤ neg_ℤ t.a.x)
@@ -114,6 +117,7 @@ sum_is t across down start first second ea ed ef es et s =
     ∙ (wrapped_before origin (across *ℤ s.x) (down *ℤ s.y)
     ∙ ap (int_wrap w64) ((λ i. (((pos 0 +ℤ edge_function t.a t.b t.c *ℤ pos t.qa) +ℤ ea i *ℤ neg_ℤ t.a.x) +ℤ ed i *ℤ neg_ℤ t.a.y) +ℤ ea i *ℤ s.x +ℤ ed i *ℤ s.y) ∙ from_origin t s))
 
+-- The plane of a triangle is that of an equal one.
 pub move : {p : Coefficients} (t u : Triangle) → t ≡ u → IsPlane t p → IsPlane u p
 move {p} t u e h = subst (λ (v : Triangle). IsPlane v p) e h
 

@@ -14,6 +14,7 @@ use Rattle.abuf_raster.proofs.Bounds.{abs-add, abs-sub, abs-mul, back64}
 wide_square : (r : ℕ) → 2 ^ 22 ≤ r → 4194304 * r ≤ r * r
 wide_square r h = mul-le 4194304 r r r h (omega arith)
 
+-- An edge function of places within a reach is at most 8 times its square.
 E_room : (r : ℕ) (a b s : Point) → IsWithin r a → IsWithin r b → IsWithin r s → unsigned_abs (edge_function a b s) ≤ 8 * (r * r)
 E_room r a b s ha hb hs =
     let p = abs-mul (b.x -ℤ a.x) (s.y -ℤ a.y) (r + r) (r + r) (abs-sub b.x a.x r r (omega (arith, hb.0)) (omega (arith, ha.0))) (abs-sub s.y a.y r r (omega (arith, hs.1)) (omega (arith, ha.1))) in
@@ -21,10 +22,12 @@ E_room r a b s ha hb hs =
     let all = abs-sub ((b.x -ℤ a.x) *ℤ (s.y -ℤ a.y)) ((b.y -ℤ a.y) *ℤ (s.x -ℤ a.x)) ((r + r) * (r + r)) ((r + r) * (r + r)) p q in
     omega (arith, all)
 
+-- A number less 1 or 0 is at most one farther from 0.
 bias_small : (p : Bool) (z : ℤ) (n : ℕ) → unsigned_abs z ≤ n → unsigned_abs (z -ℤ (if p then pos 0 else pos 1)) ≤ n + 1
 bias_small true z n h = omega (arith, ints)
 bias_small false z n h = omega (arith, ints)
 
+-- A value is at most 9 times the square.
 pub value_room : (r : ℕ) (a b s : Point) → 2 ^ 22 ≤ r → IsWithin r a → IsWithin r b → IsWithin r s → unsigned_abs (edge_value a b s) ≤ 9 * (r * r)
 value_room r a b s wide ha hb hs =
     let w = wide_square r wide in
@@ -63,6 +66,7 @@ clean_product n d x y z hx hy hz e f =
 pub lt_true : (a b : ℤ) → a <ℤ b → int_lt a b ≡ true
 lt_true a b h = sym (true_is_lt a b (omega (arith, ints)))
 
+-- And its reverse.
 pub lt_false : (a b : ℤ) → b ≤ℤ a → int_lt a b ≡ false
 lt_false a b h = sym (false_is_lt a b (omega (arith, ints)))
 
@@ -70,6 +74,7 @@ lt_false a b h = sym (false_is_lt a b (omega (arith, ints)))
 pub rising_pos : (n : ℕ) → rising (pos n) ≡ pos n
 rising_pos n = rw (lt_false (pos n) (pos 0) (omega (arith, ints))) refl
 
+-- A slope that rises does not fall.
 pub falling_pos : (n : ℕ) → falling (pos n) ≡ pos 0
 falling_pos n = rw (lt_false (pos n) (pos 0) (omega (arith, ints))) refl
 
@@ -78,12 +83,14 @@ pub rising_small : (z : ℤ) → unsigned_abs (rising z) ≤ unsigned_abs z
 rising_small (pos n) = rw (rising_pos n) (omega arith)
 rising_small (negsuc n) = omega arith
 
+-- And so is the part that falls.
 pub falling_small : (z : ℤ) → unsigned_abs (falling z) ≤ unsigned_abs z
 falling_small (pos n) = rw (falling_pos n) (omega arith)
 falling_small (negsuc n) = omega arith
 
 -- what the parts of both slopes make of a way within a tile
 module _ (part : ℤ → ℤ) (small : (z : ℤ) → unsigned_abs (part z) ≤ unsigned_abs z) where
+  -- It is at most a square of the reach.
   pub part_room : (r : ℕ) (a b : Point) (w h : ℕ) → 2 ^ 22 ≤ r → IsWithin r a → IsWithin r b → w ≤ 8 → h ≤ 8 → unsigned_abs (part (b.x -ℤ a.x) *ℤ pos (256 * h) +ℤ part (a.y -ℤ b.y) *ℤ pos (256 * w)) ≤ r * r
   part_room r a b w h wide ha hb hw hh =
       let s = wide_square r wide in
@@ -107,16 +114,19 @@ pub more_fits : (r : ℕ) (n m : Numbers) → AreAtMost (9 * (r * r)) n → AreA
 more_fits r n m h k =
     (omega (arith, abs-add n.ab m.ab _ _ h.0 k.0), omega (arith, abs-add n.bc m.bc _ _ h.1 k.1), omega (arith, abs-add n.ca m.ca _ _ h.2 k.2))
 
+-- The same, put twice.
 pub most_fits : (r : ℕ) (n m k : Numbers) → AreAtMost (9 * (r * r)) n → AreAtMost (r * r) m → AreAtMost (r * r) k → IsRoomFor r (plus_all (plus_all n m) k)
 most_fits r n m k h i j = (both n.ab m.ab k.ab h.0 i.0 j.0, both n.bc m.bc k.bc h.1 i.1 j.1, both n.ca m.ca k.ca h.2 i.2 j.2) where
   both : (x y z : ℤ) → unsigned_abs x ≤ 9 * (r * r) → unsigned_abs y ≤ r * r → unsigned_abs z ≤ r * r → unsigned_abs ((x +ℤ y) +ℤ z) ≤ 14 * (r * r)
   both x y z p q s = omega (arith, abs-add (x +ℤ y) z _ _ (abs-add x y _ _ p q) s)
 
+-- The rises within a tile are at most a square of the reach.
 pub rises_room : (r : ℕ) (t : Triangle) (w h : ℕ) → 2 ^ 22 ≤ r → AreWithin r t → w ≤ 8 → h ≤ 8 → AreAtMost (r * r) (rises t w h)
 rises_room r t w h wide near hw hh =
     let f = part_room rising rising_small r in
     (f t.a t.b w h wide near.0 near.1 hw hh, f t.b t.c w h wide near.1 near.2 hw hh, f t.c t.a w h wide near.2 near.0 hw hh)
 
+-- And so are the falls.
 pub falls_room : (r : ℕ) (t : Triangle) (w h : ℕ) → 2 ^ 22 ≤ r → AreWithin r t → w ≤ 8 → h ≤ 8 → AreAtMost (r * r) (falls t w h)
 falls_room r t w h wide near hw hh =
     let f = part_room falling falling_small r in

@@ -24,6 +24,7 @@ abbrev small : List (ℤ × ℤ) → Bool
 small [] = true
 small (o ∷ os) = (ltb (unsigned_abs o.0) 9 && ltb (unsigned_abs o.1) 9) && small os
 
+-- Each of them is.
 small_at : (os : List (ℤ × ℤ)) (k : ℕ) (d : ℤ × ℤ) → small os ≡ true → k < length os → (unsigned_abs (get_or os k d).0 ≤ 8) × (unsigned_abs (get_or os k d).1 ≤ 8)
 small_at [] k d h l = absurd (omega arith)
 small_at (o ∷ os) zero d h l =
@@ -34,6 +35,7 @@ small_at (o ∷ os) zero d h l =
     (omega arith, omega arith)
 small_at (o ∷ os) (suc k) d h l = small_at os k d (and_parts (ltb (unsigned_abs o.0) 9 && ltb (unsigned_abs o.1) 9) (small os) h).1 (omega arith)
 
+-- The offsets of every pattern are.
 all_small : (p : Pattern) → small (offsets_of p) ≡ true
 all_small One = refl
 all_small Two = refl
@@ -41,13 +43,16 @@ all_small Four = refl
 all_small Eight = refl
 all_small Sixteen = refl
 
+-- Each of a pattern.
 pub offset_small : (p : Pattern) (k : ℕ) → k < length (offsets_of p) → (unsigned_abs (get_or (offsets_of p) k (pos 0, pos 0)).0 ≤ 8) × (unsigned_abs (get_or (offsets_of p) k (pos 0, pos 0)).1 ≤ 8)
 offset_small p k l = small_at (offsets_of p) k (pos 0, pos 0) (all_small p) l
 
 -- ---- how an edge function changes
+-- The terms of an edge function at one place and at another.
 step : (p q ax ay sx sy mx my : ℤ) → p *ℤ (sy -ℤ ay) -ℤ q *ℤ (sx -ℤ ax) ≡ (p *ℤ (my -ℤ ay) -ℤ q *ℤ (mx -ℤ ax)) +ℤ (p *ℤ (sy -ℤ my) -ℤ q *ℤ (sx -ℤ mx))
 step p q ax ay sx sy mx my = simp (mul_add, add_mul, neg_mul, mul_neg) (omega (arith, ints))
 
+-- An edge function changes by at most 128 times the extent of the edge.
 edge_change : (a b s m : Point) → unsigned_abs (s.x -ℤ m.x) ≤ 128 → unsigned_abs (s.y -ℤ m.y) ≤ 128
     → unsigned_abs (edge_function a b s -ℤ edge_function a b m) ≤ 128 * (unsigned_abs (b.x -ℤ a.x) + unsigned_abs (b.y -ℤ a.y))
 edge_change a b s m hx hy =
@@ -60,12 +65,15 @@ edge_change a b s m hx hy =
     omega (arith, ints)
 
 -- ---- how the weighted depth changes
+-- A weighted sum by the area and two of the weights.
 two_edges : (e f g area qa qb qc : ℤ) → e +ℤ f +ℤ g ≡ area → e *ℤ qa +ℤ f *ℤ qb +ℤ g *ℤ qc ≡ area *ℤ qa +ℤ (f *ℤ (qb -ℤ qa) +ℤ g *ℤ (qc -ℤ qa))
 two_edges e f g area qa qb qc h = rw (← h) (simp (mul_add, add_mul, neg_mul, mul_neg) (omega (arith, ints)))
 
+-- The difference of two such sums.
 changes : (f g f' g' u v : ℤ) → (f *ℤ u +ℤ g *ℤ v) -ℤ (f' *ℤ u +ℤ g' *ℤ v) ≡ (f -ℤ f') *ℤ u +ℤ (g -ℤ g') *ℤ v
 changes f g f' g' u v = simp (mul_add, add_mul, neg_mul, mul_neg) (omega (arith, ints))
 
+-- The weighted depth changes by at most the spread.
 pub depth_change : (t : Triangle) (s m : Point) → unsigned_abs (s.x -ℤ m.x) ≤ 128 → unsigned_abs (s.y -ℤ m.y) ≤ 128
     → unsigned_abs (weighted_depth t s -ℤ weighted_depth t m) ≤ spread t
 depth_change t s m hx hy =
@@ -89,9 +97,11 @@ depth_change t s m hx hy =
     fewer p q z x y h k = omega (arith, ints)
 
 -- ---- division keeps the order
+-- Of natural numbers.
 pub div_keeps : (m n a : ℕ) → 0 < a → m ≤ n → m / a ≤ n / a
 div_keeps m n a h l = le-div (m / a) n a h (omega (arith, div-mul-le_self m a))
 
+-- Of whole numbers.
 pub floor_keeps : (v w m : ℤ) → pos 0 <ℤ m → v ≤ℤ w → floor_div v m ≤ℤ floor_div w m
 floor_keeps (pos x) (pos y) m h l = let d = div_keeps x y (unsigned_abs m) (omega (arith, ints)) (omega (arith, ints)) in omega (arith, ints)
 floor_keeps (pos x) (negsuc y) m h l = absurd (omega (arith, ints))
@@ -112,6 +122,7 @@ pub record KeyAt (u : Triangle) (s m : Point) : Type 0 where
   pub small : unsigned_abs (depth_of u s) ≤ 16777215
   pub near : unsigned_abs (weighted_depth u s -ℤ weighted_depth u m) ≤ spread u
 
+-- And it is so at each sample that is covered.
 pub key_at : (t : Triangle) (p : Pattern) (k x y : ℕ) → k < length (offsets_of p) → greatest_depth (positive_order t) ≤ 16777215
     → covers_sample t (sample_place (get_or (offsets_of p) k (pos 0, pos 0)) x y) ≡ true
     → KeyAt (positive_order t) (sample_place (get_or (offsets_of p) k (pos 0, pos 0)) x y) (pixel_centre x y)
@@ -141,6 +152,7 @@ low_key key a b m sum w area r ea eb em h n is =
     let l : (w -ℤ pos r) ≤ℤ sum = omega (arith, ints) in
     rw (ea, eb, em) (subst (λ (z : ℤ). floor_div (w -ℤ pos r) area ≤ℤ z) is (floor_keeps (w -ℤ pos r) sum area h l))
 
+-- And the quotient of the greatest sum is not below the key.
 pub high_key : (key : ℕ) (a b m sum w area : ℤ) (r : ℕ) → a ≡ w → b ≡ pos r → m ≡ area → pos 0 <ℤ area → unsigned_abs (sum -ℤ w) ≤ r → floor_div sum area ≡ pos key → pos key ≤ℤ floor_div (a +ℤ b) m
 high_key key a b m sum w area r ea eb em h n is =
     let l : sum ≤ℤ (w +ℤ pos r) = omega (arith, ints) in

@@ -17,21 +17,26 @@ use Rattle.abuf_raster.proofs.Changes.{covers_positive}
 use Rattle.abuf_raster.proofs.Blocks.{mask_uncovered, block_none}
 use Rattle.abuf_raster.proofs.Boxes.{hits_rows}
 
+-- A triangle in positive order covers the same samples.
 covers_turned : (t : Triangle) (s : Point) → has_area t ≡ true → covers_sample (positive_order t) s ≡ covers_sample t s
 covers_turned t s h = covers_positive (positive_order t) s (positive_area t h) ∙ sym (covers_is t s h)
 
+-- And has the same masks.
 pub mask_turned : (t : Triangle) (os : List (ℤ × ℤ)) (x y k : ℕ) → has_area t ≡ true → mask_below (positive_order t) os x y k ≡ mask_below t os x y k
 mask_turned t os x y zero h = refl
 mask_turned t os x y (suc k) h =
     ap₂ (λ (m : ℕ) (b : Bool). m + (if b then 2 ^ k else 0)) (mask_turned t os x y k h) (covers_turned t (sample_place (slice_index_or os k (pos 0, pos 0)) x y) h)
 
 module _ (t : Triangle) (n : ℕ) (os : List (ℤ × ℤ)) (r : Region) where
+  -- The same hit at each place.
   hit_turned : has_area t ≡ true → (place : ℕ) → hit_at (positive_order t) n os r place ≡ hit_at t n os r place
   hit_turned h place = ap (hit_of n (r.x0 + place % r.w) (r.y0 + place / r.w)) (mask_turned t os (r.x0 + place % r.w) (r.y0 + place / r.w) (length os) h)
 
+  -- And the same hits.
   pub hits_turned : has_area t ≡ true → hits (positive_order t) n os r ≡ hits t n os r
   hits_turned h = ap (λ (f : ℕ → Option Hit). filter_map f (range_with_len 0 (r.w * r.h))) (λ i place. hit_turned h place i)
 
+  -- A triangle without area has none.
   pub hits_of_none : 0 < r.w → has_area t ≡ false → hits t n os r ≡ []
   hits_of_none some h =
       hits_rows t n os r some

@@ -57,6 +57,10 @@ none_below n = not (int_lt n.ab (pos 0)) && not (int_lt n.bc (pos 0)) && not (in
 abbrev pub AreAtMost : ℕ → Numbers → Type 0
 AreAtMost most n = (unsigned_abs n.ab ≤ most) × (unsigned_abs n.bc ≤ most) × (unsigned_abs n.ca ≤ most)
 
+-- What is at most as far from 0 as the numbers of two others are, each by each.
+abbrev pub KeepsBounds : Numbers → Numbers → Numbers → Type 0
+KeepsBounds m n of_both = (most : ℕ) → AreAtMost most m → AreAtMost most n → AreAtMost most of_both
+
 -- A width has room for them.
 abbrev pub IsRoomFor : ℕ → Numbers → Type 0
 IsRoomFor reach n = AreAtMost (14 * (reach * reach)) n
@@ -85,6 +89,10 @@ mask_of_values_below t offsets n (suc k) = mask_of_values_below t offsets n k + 
 
 abbrev pub mask_of_values : Triangle → List (ℤ × ℤ) → Numbers → ℕ
 mask_of_values t offsets n = mask_of_values_below t offsets n (length offsets)
+
+-- A number is not above that of one edge at each sample.
+abbrev pub IsLeastOf : ℤ → Point → Point → List (ℤ × ℤ) → ℤ → Type 0
+IsLeastOf least a b offsets n = (k : ℕ) → k < length offsets → least ≤ℤ (n +ℤ sample_change a b offsets k)
 
 -- The numbers at each sample are within bounds.
 abbrev pub FitsSamples : ℕ → Triangle → List (ℤ × ℤ) → Numbers → Type 0

@@ -1,5 +1,6 @@
 // The box of pixels around a triangle.
 ghost use Rattle.std.specs.Prelude.{◌≡◌, ℕ, ◌+◌, ◌*◌, ◌^◌, ◌<◌, ◌≤◌, pos, ◌+ℤ◌, ◌-ℤ◌, ◌≤ℤ◌, ◌<ℤ◌, unsigned_abs, max, IsTrue, ◌↔◌, ◌⊎◌, false};
+ghost use Rattle.abuf_num.specs.declared.limits.TheConstants.{MAX_SIDE};
 ghost use Rattle.abuf_raster.specs.Region.{IsRegion};
 ghost use Rattle.abuf_raster.specs.Samples.{offsets_of};
 ghost use Rattle.abuf_raster.specs.BoundingBox.{IsBefore, IsBehind, IsBoxOf, CoversNone};
@@ -21,7 +22,7 @@ pub(crate) struct BoundingBox {
 fn pixel_of(z: i64, start: u32, end: u32) -> u32
     requires z_small { unsigned_abs z < 2 ^ 46 }
     requires order { start ≤ end }
-    requires end_small { end ≤ 4096 }
+    requires end_small { end ≤ MAX_SIDE }
     ensures low { start ≤ result }
     ensures high { result ≤ end }
     ensures before { (p : ℕ) → start ≤ p → p < result → pos (256 * p + 256) ≤ℤ z }
@@ -85,7 +86,7 @@ fn first_pixel(x: i64, y: i64, z: i64, margin: u32, start: u32, end: u32) -> u32
     requires z_small { unsigned_abs z < 2 ^ 45 }
     requires margin_small { margin ≤ 128 }
     requires order { start ≤ end }
-    requires end_small { end ≤ 4096 }
+    requires end_small { end ≤ MAX_SIDE }
     ensures low { start ≤ result }
     ensures high { result ≤ end }
     ensures before { (p : ℕ) → start ≤ p → p < result → IsBefore p margin x × IsBefore p margin y × IsBefore p margin z }
@@ -100,7 +101,7 @@ fn end_pixel(x: i64, y: i64, z: i64, margin: u32, start: u32, end: u32) -> u32
     requires z_small { unsigned_abs z < 2 ^ 45 }
     requires margin_small { margin ≤ 128 }
     requires order { start ≤ end }
-    requires end_small { end ≤ 4096 }
+    requires end_small { end ≤ MAX_SIDE }
     ensures low { start ≤ result }
     ensures high { result ≤ end }
     ensures behind { (p : ℕ) → result ≤ p → p < end → IsBehind p margin x × IsBehind p margin y × IsBehind p margin z }

@@ -1,11 +1,12 @@
 // The depth key as it is asked for many times over.
-ghost use Rattle.std.specs.Prelude.{ℕ, ◌≡◌, ◌+◌, ◌-◌, ◌*◌, ◌/◌, ◌^◌, ◌<◌, ◌≤◌, pos, ℤ, ◌+ℤ◌, ◌-ℤ◌, ◌*ℤ◌, ◌<ℤ◌, true, min, unsigned_abs, length, IfSome};
+ghost use Rattle.std.specs.Prelude.{ℕ, ◌≡◌, ◌+◌, ◌-◌, ◌*◌, ◌/◌, ◌^◌, ◌<◌, ◌≤◌, pos, ℤ, ◌+ℤ◌, ◌*ℤ◌, ◌<ℤ◌, true, min, unsigned_abs, length, IfSome};
 ghost use Rattle.std.specs.Int.{int_wrap, w64};
+ghost use Rattle.abuf_num.specs.declared.limits.TheConstants.{MAX_DEPTH, MAX_SIDE};
 ghost use Rattle.abuf_raster.specs.Edge.{edge_function};
 ghost use Rattle.abuf_raster.specs.Triangle.{AreWithin};
 ghost use Rattle.abuf_raster.specs.Samples.{offsets_of};
 ghost use Rattle.abuf_raster.specs.Coverage.{covers};
-ghost use Rattle.abuf_raster.specs.Depth.{depth_key};
+ghost use Rattle.abuf_raster.specs.Depth.{depth_key, IsLeastKey, IsGreatestKey};
 ghost use Rattle.abuf_raster.specs.Slopes.{slope, slope_across, slope_down};
 
 use crate::coverage::sample_place;
@@ -13,28 +14,20 @@ use crate::depth::{depth_at, depth_bounds};
 use crate::pattern::Pattern;
 use crate::point::Point;
 use crate::reciprocal::Reciprocal;
-use crate::triangle::{NEAREST, ScreenTri};
+use crate::triangle::ScreenTri;
 use crate::width::Width;
+use abuf_num::difference;
+use abuf_num::limits::MAX_DEPTH;
 use std::marker::Model;
 use std::snapshot::Snapshot;
 
 /// The greatest sum of the two slopes, so that no weighted depth changes by more than 2^60 within a pixel.
 const STEEPEST: u64 = 1 << 53;
 
-/// The difference of two coordinates.
-fn difference(x: i64, y: i64) -> i64
-    requires x_small { unsigned_abs x < 2 ^ 29 }
-    requires y_small { unsigned_abs y < 2 ^ 29 }
-    ensures value { result ≡ x -ℤ y }
-    ensures bound { unsigned_abs result ≤ 2 ^ 30 }
-{
-    x - y
-}
-
 /// A difference of coordinates, weighted by a depth value.
 fn weighted(difference: i64, q: u32) -> i64
     requires difference_small { unsigned_abs difference ≤ 2 ^ 30 }
-    requires q_small { q ≤ 16777215 }
+    requires q_small { q ≤ MAX_DEPTH }
     ensures value { result ≡ difference *ℤ pos q }
     ensures bound { unsigned_abs result ≤ 2 ^ 54 }
 {
@@ -46,9 +39,9 @@ fn slope(a: i64, b: i64, c: i64, qa: u32, qb: u32, qc: u32) -> i64
     requires a_small { unsigned_abs a < 2 ^ 29 }
     requires b_small { unsigned_abs b < 2 ^ 29 }
     requires c_small { unsigned_abs c < 2 ^ 29 }
-    requires qa_small { qa ≤ 16777215 }
-    requires qb_small { qb ≤ 16777215 }
-    requires qc_small { qc ≤ 16777215 }
+    requires qa_small { qa ≤ MAX_DEPTH }
+    requires qb_small { qb ≤ MAX_DEPTH }
+    requires qc_small { qc ≤ MAX_DEPTH }
     ensures value { result ≡ slope a b c qa qb qc }
     ensures bound { unsigned_abs result ≤ 2 ^ 56 }
 {
@@ -78,7 +71,7 @@ pub(crate) struct Coefficients {
 }
 
 impl Coefficients {
-    ghost use Rattle.abuf_raster.specs.Plane.{IsPlane, sum_at};
+    ghost use Rattle.abuf_raster.specs.Plane.{IsPlane, sum_at, value_of, AreBoundsAt};
 
     /// The coefficients for a triangle in positive order. None comes where its coordinates, its area or its slopes are too
     /// large for them.
@@ -115,20 +108,20 @@ impl Coefficients {
         more(more(self.start, self.across, s.x), self.down, s.y)
     }
 
-    /// The depth value of a weighted depth, held to the greatest.
+    /// The depth value of a weighted depth, clamped to the greatest.
     #[inline(always)]
     fn depth_of(&self, sum: u64) -> u32
         requires { sum < 2 ^ 63 }
-        ensures { result ≡ min (sum / self.now.area.divisor) 16777215 }
+        ensures { result ≡ value_of self.now sum }
     {
-        self.area.quotient(sum).min(NEAREST as u64) as u32
+        self.area.quotient(sum).min(MAX_DEPTH as u64) as u32
     }
 
     /// The depth value at s.
     #[inline(always)]
     fn key(&self, s: Point) -> u32
-        ensures key { (n : ℕ) → sum_at self.now s ≡ pos n → result ≡ min (n / self.now.area.divisor) 16777215 }
-        ensures small { result ≤ 16777215 }
+        ensures key { (n : ℕ) → sum_at self.now s ≡ pos n → result ≡ value_of self.now n }
+        ensures small { result ≤ MAX_DEPTH }
     {
         self.depth_of(self.sum(s).max(0) as u64)
     }
@@ -148,12 +141,12 @@ impl Coefficients {
     fn bounds(&self, centre: Point, spread: u64) -> (u32, u32)
         requires { spread ≤ 2 ^ 60 }
         ensures rising { result.0 ≤ result.1 }
-        ensures small { result.1 ≤ 16777215 }
-        ensures between { (top : ℕ) → top < 2 ^ 63 → int_wrap w64 (sum_at self.now centre +ℤ pos spread) ≡ pos top → (result.0 ≡ min ((top - 2 * spread) / self.now.area.divisor) 16777215) × (result.1 ≡ min (top / self.now.area.divisor) 16777215) }
+        ensures small { result.1 ≤ MAX_DEPTH }
+        ensures between { AreBoundsAt self.now centre spread result.0 result.1 }
     {
         let top = more(self.sum(centre), spread as i64, 1);
         if top < 0 {
-            return (0, NEAREST);
+            return (0, MAX_DEPTH);
         }
         let top = top as u64;
         let low = self.depth_of(top.saturating_sub(2 * spread));
@@ -197,12 +190,12 @@ impl DepthPlane {
     #[inline(always)]
     pub fn key(&self, t: &ScreenTri, x: u32, y: u32, pattern: Pattern, k: u32) -> u32
         requires plane { self.now ≡ t.now }
-        requires x_small { x < 4096 }
-        requires y_small { y < 4096 }
+        requires x_small { x < MAX_SIDE }
+        requires y_small { y < MAX_SIDE }
         requires sample { k < length (offsets_of pattern) }
         requires covered { covers self.now (offsets_of pattern) x y k ≡ true }
         ensures key { result ≡ depth_key self.now (offsets_of pattern) x y k }
-        ensures small { result ≤ 16777215 }
+        ensures small { result ≤ MAX_DEPTH }
     {
         match self.coefficients {
             Some(coefficients) => coefficients.key(sample_place(pattern.offset(k), x, y)),
@@ -214,12 +207,12 @@ impl DepthPlane {
     /// above the second. The triangle is read only where the plane has no coefficients.
     pub fn bounds(&self, t: &ScreenTri, x: u32, y: u32, pattern: Pattern) -> (u32, u32)
         requires plane { self.now ≡ t.now }
-        requires x_small { x < 4096 }
-        requires y_small { y < 4096 }
+        requires x_small { x < MAX_SIDE }
+        requires y_small { y < MAX_SIDE }
         ensures rising { result.0 ≤ result.1 }
-        ensures small { result.1 ≤ 16777215 }
-        ensures low { (k : ℕ) → k < length (offsets_of pattern) → covers self.now (offsets_of pattern) x y k ≡ true → result.0 ≤ depth_key self.now (offsets_of pattern) x y k }
-        ensures high { (k : ℕ) → k < length (offsets_of pattern) → covers self.now (offsets_of pattern) x y k ≡ true → depth_key self.now (offsets_of pattern) x y k ≤ result.1 }
+        ensures small { result.1 ≤ MAX_DEPTH }
+        ensures low { IsLeastKey self.now (offsets_of pattern) x y result.0 }
+        ensures high { IsGreatestKey self.now (offsets_of pattern) x y result.1 }
     {
         match self.coefficients {
             Some(coefficients) => {

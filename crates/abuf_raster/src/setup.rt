@@ -1,5 +1,6 @@
 // What is computed once for a triangle, before its tiles are visited.
 ghost use Rattle.std.specs.Prelude.{◌≡◌, ◌*◌, ◌^◌, ◌<◌, ◌≤◌, pos, ◌*ℤ◌, unsigned_abs, length, not};
+ghost use Rattle.abuf_num.specs.declared.limits.TheConstants.{MAX_SIDE};
 ghost use Rattle.abuf_raster.specs.Triangle.{IsWithin, AreWithin};
 ghost use Rattle.abuf_raster.specs.Samples.{offsets_of, pixel_centre};
 ghost use Rattle.abuf_raster.specs.Values.{values_at, none_below, sample_change, sample_changes, AreAtMost};
@@ -144,8 +145,8 @@ impl<V: Width> Setup<V> {
         requires wide { 2 ^ 22 ≤ V.reach }
         requires near { AreWithin V.reach t.now }
         requires start { numbers_of V.number self.now.start ≡ values_at t.now (pixel_centre 0 0) }
-        requires x_small { x < 4096 }
-        requires y_small { y < 4096 }
+        requires x_small { x < MAX_SIDE }
+        requires y_small { y < MAX_SIDE }
         ensures { numbers_of V.number result ≡ values_at t.now (pixel_centre x y) }
     {
         self.start

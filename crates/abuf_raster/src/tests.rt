@@ -92,10 +92,14 @@ fn all_samples_of_a_covered_pixel(rt: HostRuntime) -> Result<(), Fail> {
 #[test]
 fn what_is_off_the_screen_is_none(rt: HostRuntime) {
     let edge = 1 << 45;
-    assert!(rt; ScreenTri::new([edge, 0, 0], [0; 3], [0; 3]).is_none());
-    assert!(rt; ScreenTri::new([0; 3], [0, 0, -edge], [0; 3]).is_none());
-    assert!(rt; ScreenTri::new([0; 3], [0; 3], [0, 16777216, 0]).is_none());
-    assert!(rt; ScreenTri::new([edge - 1; 3], [1 - edge; 3], [16777215; 3]).is_some());
+    for (x, y, q, made) in [
+        ([edge, 0, 0], [0; 3], [0; 3], false),
+        ([0; 3], [0, 0, -edge], [0; 3], false),
+        ([0; 3], [0; 3], [0, 16777216, 0], false),
+        ([edge - 1; 3], [1 - edge; 3], [16777215; 3], true),
+    ] {
+        assert!(rt; ScreenTri::new(x, y, q).is_some() == made);
+    }
 }
 
 #[test]

@@ -1,9 +1,10 @@
 // The hits of a triangle in a tile of at most 8 by 8 pixels.
 ghost use Rattle.std.specs.Prelude.{◌≡◌, ℕ, if◌then◌else◌, ◌+◌, ◌*◌, ◌^◌, ◌<◌, ◌≤◌, pos, ◌<ℤ◌, ◌≤ℤ◌, ◌+ℤ◌, length, take, ◌++◌};
+ghost use Rattle.abuf_num.specs.declared.limits.TheConstants.{MAX_SIDE};
 ghost use Rattle.abuf_raster.specs.Edge.{edge_function};
 ghost use Rattle.abuf_raster.specs.Triangle.{AreWithin};
 ghost use Rattle.abuf_raster.specs.Samples.{offsets_of, pixel_centre};
-ghost use Rattle.abuf_raster.specs.Values.{values_at, AreAtMost, FitsSamples, mask_of_values, accepted_below, sample_change};
+ghost use Rattle.abuf_raster.specs.Values.{IsLeastOf, values_at, AreAtMost, FitsSamples, mask_of_values, accepted_below};
 ghost use Rattle.abuf_raster.specs.TrioNumbers.{numbers_of};
 ghost use Rattle.abuf_raster.specs.Walk.{row_hits, block_hits, hit_of, found, full_row, full_hits, IsTile};
 ghost use Rattle.abuf_raster.specs.Setup.{AreExtremes, IsSetup, IsEdge};
@@ -82,7 +83,7 @@ fn more_samples<V: Width>(edge: Edge<V>, pattern: Pattern, from: u32, to: u32, b
 fn accepted<V: Width>(edge: Edge<V>, pattern: Pattern, least: V) -> u16
     requires wide { 2 ^ 22 ≤ V.reach }
     requires edge { IsEdge V.number V.reach (offsets_of pattern) edge }
-    requires least { (k : ℕ) → k < length (offsets_of pattern) → V.number least ≤ℤ (V.number edge.value +ℤ sample_change edge.a edge.b (offsets_of pattern) k) }
+    requires least { IsLeastOf (V.number least) edge.a edge.b (offsets_of pattern) (V.number edge.value) }
     ensures { result ≡ accepted_below edge.a edge.b (offsets_of pattern) (V.number edge.value) (length (offsets_of pattern)) }
 {
     let size = pattern.size();
@@ -165,8 +166,8 @@ fn row<V: Width>(
     requires positive { pos 0 <ℤ edge_function t.now.a t.now.b t.now.c }
     requires samples { AreExtremes V.number V.reach t.now (offsets_of primitive.pattern) (length (offsets_of primitive.pattern)) primitive.samples }
     requires start { numbers_of V.number start ≡ values_at t.now (pixel_centre span.x span.y) }
-    requires x_small { span.x + span.w ≤ 4096 }
-    requires y_small { span.y < 4096 }
+    requires x_small { span.x + span.w ≤ MAX_SIDE }
+    requires y_small { span.y < MAX_SIDE }
     requires room { count + span.w ≤ 64 }
     ensures room { result ≤ count + span.w }
     ensures hits { take result hits.new ≡ take count hits.old ++ row_hits t.now primitive.number (offsets_of primitive.pattern) span.x span.w span.y }
@@ -219,7 +220,7 @@ fn tested_tile<V: Width>(
 #[inline(always)]
 fn full_row(prim: u32, mask: u16, span: Span, hits: &mut [Hit; 64], count: usize) -> usize
     requires some { 0 < mask }
-    requires x_small { span.x + span.w ≤ 4096 }
+    requires x_small { span.x + span.w ≤ MAX_SIDE }
     requires room { count + span.w ≤ 64 }
     ensures room { result ≤ count + span.w }
     ensures hits { take result hits.new ≡ take count hits.old ++ full_row prim mask span.x span.w span.y }

@@ -1,5 +1,6 @@
 // A bound of the number of fragments of a triangle.
 ghost use Rattle.std.specs.Prelude.{ℕ, ℤ, List, ◌≡◌, ◌+◌, ◌*◌, ◌^◌, ◌≤◌, ◌<◌, ◌<ℤ◌, pos, length};
+ghost use Rattle.abuf_num.specs.declared.limits.TheConstants.{MAX_SIDE};
 ghost use Rattle.abuf_raster.specs.Edge.{edge_function};
 ghost use Rattle.abuf_raster.specs.Triangle.{AreWithin};
 ghost use Rattle.abuf_raster.specs.Region.{IsRegion};
@@ -8,7 +9,7 @@ ghost use Rattle.abuf_raster.specs.Hits.{hits};
 ghost use Rattle.abuf_raster.specs.Values.{values_at, AreAtMost};
 ghost use Rattle.abuf_raster.specs.TrioNumbers.{numbers_of};
 ghost use Rattle.abuf_raster.specs.Setup.{IsSetup};
-ghost use Rattle.abuf_raster.specs.Walk.{row_hits, block_hits, IsTile};
+ghost use Rattle.abuf_raster.specs.Walk.{hits_in_span, hits_in_tile, IsTile};
 
 use crate::pattern::Pattern;
 use crate::region::Region;
@@ -27,9 +28,9 @@ fn most_in_row<V: Width>(t: &ScreenTri, setup: &Setup<V>, span: Span, start: Tri
     requires positive { pos 0 <ℤ edge_function t.now.a t.now.b t.now.c }
     requires room { AreAtMost (V.reach * V.reach) (numbers_of V.number setup.now.samples.greatest) }
     requires start { numbers_of V.number start ≡ values_at t.now (pixel_centre span.x span.y) }
-    requires x_small { span.x + span.w ≤ 4096 }
-    requires y_small { span.y < 4096 }
-    ensures bound { (o : List (ℤ × ℤ)) (n : ℕ) → IsSetup V.number V.reach t.now o setup.now → length (row_hits t.now n o span.x span.w span.y) ≤ result }
+    requires x_small { span.x + span.w ≤ MAX_SIDE }
+    requires y_small { span.y < MAX_SIDE }
+    ensures bound { (o : List (ℤ × ℤ)) (n : ℕ) → IsSetup V.number V.reach t.now o setup.now → length (hits_in_span t.now n o span) ≤ result }
     ensures few { result ≤ span.w }
 {
     let right = changes::<V>(t, 256, 0);
@@ -57,7 +58,7 @@ pub(crate) fn most_in_tile<V: Width>(
     requires room { AreAtMost (V.reach * V.reach) (numbers_of V.number setup.now.samples.greatest) }
     requires least_room { AreAtMost (V.reach * V.reach) (numbers_of V.number setup.now.samples.least) }
     requires tile { IsTile tile }
-    ensures bound { (o : List (ℤ × ℤ)) (n : ℕ) → IsSetup V.number V.reach t.now o setup.now → length (block_hits t.now n o tile.x tile.w tile.y tile.h) ≤ result }
+    ensures bound { (o : List (ℤ × ℤ)) (n : ℕ) → IsSetup V.number V.reach t.now o setup.now → length (hits_in_tile t.now n o tile) ≤ result }
     ensures few { result ≤ tile.w * tile.h }
 {
     let start = setup.values_at(t, tile.x, tile.y);

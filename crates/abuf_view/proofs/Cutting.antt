@@ -14,21 +14,26 @@ use Rattle.abuf_view.proofs.Bounds.{cut_between}
 
 -- ---- corners
 
+-- A point that passes the test is at the plane or beyond it.
 inside : (m : ℤ) (s : EyePoint) → true ≡ is_inside m s → m ≤ℤ s.w
 inside m s h = go (int_lt s.w m) refl h where
   go : (t : Bool) → t ≡ int_lt s.w m → true ≡ not t → m ≤ℤ s.w
   go true e k = absurd (true≢false k)
   go false e k = omega (arith, ints)
 
+-- A cut point is at the plane.
 at_plane : (m : ℤ) → m ≤ℤ m
 at_plane m = omega (arith, ints)
 
+-- One part whose corners are at the plane or beyond it.
 one : (m : ℤ) (t : EyeTriangle) → IsBehind m t → All (IsBehind m) (t ∷ [])
 one m t h = All-cons (IsBehind m) t [] h (All-nil (IsBehind m))
 
+-- Two such parts.
 two : (m : ℤ) (t u : EyeTriangle) → IsBehind m t → IsBehind m u → All (IsBehind m) (t ∷ u ∷ [])
 two m t u h k = All-cons (IsBehind m) t (u ∷ []) h (one m u k)
 
+-- The parts of the clip table, row by row.
 behind : (u v w : Bool) (m : ℤ) (a b c : EyePoint) → u ≡ is_inside m a → v ≡ is_inside m b → w ≡ is_inside m c → All (IsBehind m) (clip_by u v w m a b c)
 behind true true true m a b c p q r = one m _ (inside m a p, inside m b q, inside m c r)
 behind true true false m a b c p q r = two m _ _ (inside m a p, inside m b q, at_plane m) (inside m a p, at_plane m, at_plane m)
@@ -39,14 +44,17 @@ behind false true false m a b c p q r = one m _ (inside m b q, at_plane m, at_pl
 behind false false true m a b c p q r = one m _ (inside m c r, at_plane m, at_plane m)
 behind false false false m a b c p q r = All-nil (IsBehind m)
 
+-- The corners of all parts are at the plane or beyond it.
 pub all_behind : (m : ℤ) (a b c : EyePoint) → All (IsBehind m) (clipped m a b c)
 all_behind m a b c = behind (is_inside m a) (is_inside m b) (is_inside m c) m a b c refl refl refl
 
 -- ---- the cut
 
+-- A quotient rounded down, of natural numbers.
 floor_nat : (a b : ℕ) → 0 < b → (a / b * b ≤ a) × (a < a / b * b + b)
 floor_nat a b h = (omega (arith, div-add-mod' a b), omega (arith, div-add-mod' a b, mod_below a b h))
 
+-- Of a negative number.
 floor_neg : (a b q : ℕ) → q * b ≤ a → a < q * b + b → IsFloorOf (negsuc a) (pos b) (negsuc q)
 floor_neg a b q f g =
     let low : negsuc q *ℤ pos b ≡ neg_ℤ (pos (suc q * b)) = neg_mul (pos (suc q)) (pos b) in
@@ -56,6 +64,7 @@ floor_neg a b q f g =
       subst (λ (z : ℤ). negsuc a <ℤ z) (sym high) (omega (arith, ints)),
     )
 
+-- Of any whole number.
 floor_is : (n d : ℤ) → pos 0 <ℤ d → IsFloorOf n d (floor_div n d)
 floor_is n (negsuc b) h = absurd h.lt
 floor_is (pos a) (pos b) h =
@@ -75,11 +84,13 @@ floor_moved u n d h =
       rw (next, add_mul u (z +ℤ pos 1) d) (omega (arith, ints, f.1)),
     )
 
+-- A cut lies between the ends of its edge.
 between : (p q k d : ℤ) → pos 0 <ℤ d → pos 0 ≤ℤ k → k ≤ℤ d → IsBetween p q (p +ℤ floor_div ((q -ℤ p) *ℤ k) d)
 between p q k (negsuc d) h g l = absurd h.lt
 between p q (negsuc k) (pos d) h g l = absurd g.le
 between p q (pos k) (pos d) h g l = cut_between p q k d (omega (arith, ints, h)) (omega (arith, ints, l))
 
+-- What the cut makes is the cut point.
 pub is_cut : (m : ℤ) (p q : EyePoint) → m ≤ℤ p.w → q.w <ℤ m → IsCutOf m p q (cut m p q)
 is_cut m p q i o =
     let span : pos 0 <ℤ (p.w -ℤ q.w) = omega (arith, ints, i, o) in

@@ -27,6 +27,7 @@ module _ {X A : Type 0} (f : X → List A) where
       ap (flat_map f) more ∙ (flat_map-append f xs (g i ∷ []) ∙ ap (λ (l : List A). flat_map f xs ++ l) (append-nil (f (g i)) ∙ ap f (sym is))) in
       pushed ∙ (ap (λ (l : List A). l ++ f t) before ∙ (append_assoc old (flat_map f xs) (f t) ∙ ap (λ (l : List A). old ++ l) (sym made)))
 
+-- A fan has at most two triangles fewer than corners.
 fan_few : (points : List (List ℤ)) (corners : List ℕ) (paint : Option Paint) → length (fan_by points corners paint) ≤ length corners - 2
 fan_few points corners None = omega arith
 fan_few points corners (Some paint) = rw (length-map (range_with_len 1 (length corners - 2)) (triangle points corners paint), length-range_with_len) (omega arith)

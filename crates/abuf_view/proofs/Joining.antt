@@ -21,12 +21,14 @@ both_pushed f old mid new xs ys zs first second all =
     second ∙ ap (λ m. m ++ map f ys) first ∙ append_assoc old (map f xs) (map f ys) ∙ ap (λ l. old ++ l) (sym (map-append f xs ys) ∙ ap (map f) all)
 
 module _ (k : Camera) where
+  -- What is made of all triangles are the triangles of the primitives.
   pub tris_are : (ts : List Triangle) → flat_map (λ t. map (shown_by (eye_of k)) (clipped_by (eye_of k) t)) ts ≡ map (λ q. q.triangle) (prims k ts)
   tris_are [] = refl
   tris_are (t ∷ ts) =
       ap₂ (λ (xs ys : List OnScreen). xs ++ ys) (sym (map-map (λ (q : Primitive). q.triangle) (primitive k t.paint) (clipped_by (eye_of k) t))) (tris_are ts)
       ∙ sym (map-append (λ (q : Primitive). q.triangle) (prims_of k t) (prims k ts))
 
+  -- And their paints.
   pub paints_are : (ts : List Triangle) → flat_map (λ t. map (λ (c : EyeTriangle). t.paint) (clipped_by (eye_of k) t)) ts ≡ map (λ q. q.paint) (prims k ts)
   paints_are [] = refl
   paints_are (t ∷ ts) =
@@ -35,14 +37,17 @@ module _ (k : Camera) where
 
 -- the parts of all triangles, as the eye of the camera sees them
 module _ (k : Camera) (e : Eye) (is : e ≡ eye_of k) (ts us : List Triangle) (same : us ≡ ts) (i : ℕ) (all : length us ≤ i) where
+  -- The triangles.
   pub all_tris : (made : List OnScreen) → made ≡ flat_map (λ t. map (shown_by e) (clipped_by e t)) (take i us) → made ≡ map (λ q. q.triangle) (prims k ts)
   all_tris made h =
       h ∙ (λ j. flat_map (λ (t : Triangle). map (shown_by (is j)) (clipped_by (is j) t)) ((take_all i us all ∙ same) j)) ∙ tris_are k ts
 
+  -- The paints.
   pub all_paints : (made : List Paint) → made ≡ flat_map (λ t. map (λ (c : EyeTriangle). t.paint) (clipped_by e t)) (take i us) → made ≡ map (λ q. q.paint) (prims k ts)
   all_paints made h =
       h ∙ (λ j. flat_map (λ (t : Triangle). map (λ (c : EyeTriangle). t.paint) (clipped_by (is j) t)) ((take_all i us all ∙ same) j)) ∙ paints_are k ts
 
+-- The clip table names at most two parts.
 clip_few : (u v w : Bool) (m : ℤ) (a b c : EyePoint) → length (clip_by u v w m a b c) ≤ 2
 clip_few true true true m a b c = omega arith
 clip_few true true false m a b c = omega arith
@@ -53,6 +58,7 @@ clip_few false true false m a b c = omega arith
 clip_few false false true m a b c = omega arith
 clip_few false false false m a b c = omega arith
 
+-- So there are at most twice as many primitives as triangles.
 pub prims_few : (k : Camera) (ts : List Triangle) → length (prims k ts) ≤ 2 * length ts
 prims_few k [] = omega arith
 prims_few k (t ∷ ts) =
@@ -61,9 +67,11 @@ prims_few k (t ∷ ts) =
 
 -- the parts of triangles, as the eye of the camera sees them, are those of its primitives
 module _ (k : Camera) (e : Eye) (is : e ≡ eye_of k) (ts us : List Triangle) (same : us ≡ ts) where
+  -- The triangles.
   pub joined_tris : (made : List OnScreen) → made ≡ tris_by e us → made ≡ map (λ q. q.triangle) (prims k ts)
   joined_tris made h = all_tris k e is ts us same (length us) (omega arith) made (h ∙ ap (tris_by e) (sym (take-length us)))
 
+  -- The paints.
   pub joined_paints : (made : List Paint) → made ≡ paints_by e us → made ≡ map (λ q. q.paint) (prims k ts)
   joined_paints made h = all_paints k e is ts us same (length us) (omega arith) made (h ∙ ap (paints_by e) (sym (take-length us)))
 
@@ -73,6 +81,7 @@ pub one_length : (k : Camera) (ts : List Triangle) (tris : List OnScreen) (paint
 one_length k ts tris paints t p =
     ap length t ∙ (length-map (prims k ts) (λ (q : Primitive). q.triangle) ∙ sym (length-map (prims k ts) (λ (q : Primitive). q.paint))) ∙ ap length (sym p)
 
+-- And they are at most twice as many as the triangles of the scene.
 pub tris_few : (k : Camera) (ts : List Triangle) (tris : List OnScreen) → tris ≡ map (λ (q : Primitive). q.triangle) (prims k ts) → length tris ≤ 2 * length ts
 tris_few k ts tris t =
     let same : length tris ≡ length (prims k ts) = ap length t ∙ length-map (prims k ts) (λ (q : Primitive). q.triangle) in

@@ -17,6 +17,7 @@ near_below n m r k h l =
     let e : q * m * k / k ≤ n = let f = div_below (q * m * k) k (n + 1) h d in omega (arith, f) in
     omega (arith, le-div (q * m) (q * m * k) k h (omega arith), e)
 
+-- A number whose product with the divisor is near enough is the quotient.
 pub quotient_is : (n m q : ℕ) → 0 < m → q * m ≤ n → n < (q + 1) * m → q ≡ n / m
 quotient_is n m q h a b =
     let low = le-div q n m h a in
@@ -31,9 +32,11 @@ nearest_shift a w h =
     let under : 256 * (512 * w) ≡ 2 * (65536 * w) = omega arith in
     div-div-eq-div-mul (a + 256 * w) 512 w ∙ (whole ∙ (λ i. over i / under i))
 
+-- 0 over a number is 0.
 nearest_zero : (m : ℕ) → 0 < m → nearest 0 m ≡ 0
 nearest_zero m h = div-eq_of_lt (omega arith)
 
+-- A negative number is rounded as the positive one.
 round_neg : (n m : ℕ) → 0 < m → round_div (neg_ℤ (pos n)) (pos m) ≡ neg_ℤ (pos (nearest n m))
 round_neg zero m h = rw (nearest_zero m h) refl
 round_neg (suc n) m h = refl
@@ -49,10 +52,12 @@ part_is h (pos f) (negsuc x) (pos w) f0 w0 =
     let e : 128 * (h * f * suc x) ≡ 128 * h * f * suc x = omega arith in
     ap (λ (n : ℕ). neg_ℤ (pos (nearest n (65536 * w)))) e ∙ sym (round_neg (128 * h * f * suc x) (65536 * w) (omega (arith, ints)))
 
+-- The depth value by absolute values.
 pub depth_is : (m w : ℤ) → pos 0 <ℤ m → pos 0 <ℤ w → 16777215 * unsigned_abs m / unsigned_abs w ≡ unsigned_abs (floor_div (pos 16777215 *ℤ m) w)
 depth_is (negsuc m) w m0 w0 = absurd m0.lt
 depth_is (pos m) w m0 w0 = refl
 
+-- It is at most the greatest depth value.
 pub depth_le : (m w : ℤ) → pos 0 <ℤ m → m ≤ℤ w → 16777215 * unsigned_abs m / unsigned_abs w ≤ 16777215
 depth_le (negsuc m) w h l = absurd h.lt
 depth_le (pos m) (negsuc w) h l = absurd l.le

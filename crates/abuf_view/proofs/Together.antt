@@ -131,6 +131,7 @@ module _ (look : Look) (obj : Obj) (eye : Eye) where
       → flat_map tris_of runs ≡ tris_by eye (flat_map (triangles_of look obj) faces)
   shown_all = made_all tris_of (λ (t : Triangle). map (shown_by eye) (clipped_by eye t)) (λ faces p is. is.tris)
 
+  -- The paints of the runs in their order are those of all faces.
   pub painted_all : (per_run : ℕ) (faces : List Face) (runs : List (Result Projected SceneFault)) → AreRuns look obj eye per_run faces runs → first_fault runs ≡ None
       → flat_map paints_of runs ≡ paints_by eye (flat_map (triangles_of look obj) faces)
   painted_all = made_all paints_of (λ (t : Triangle). map (λ (c : EyeTriangle). t.paint) (clipped_by eye t)) (λ faces p is. is.paints)

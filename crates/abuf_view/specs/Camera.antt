@@ -1,5 +1,6 @@
 -- The camera, and where it sees a point. Lengths are in 1/65536.
-use Rattle.std.specs.Prelude.{ℕ, ◌≤◌, ◌*◌, ◌≡◌, ℤ, pos, ◌+ℤ◌, ◌-ℤ◌, ◌*ℤ◌, neg_ℤ, ◌≤ℤ◌, unsigned_abs, List, slice_index_or}
+use Rattle.std.specs.Prelude.{ℕ, ◌≤◌, ◌*◌, ◌≡◌, ℤ, pos, ◌+ℤ◌, ◌-ℤ◌, ◌*ℤ◌, neg_ℤ, ◌≤ℤ◌, unsigned_abs, List, slice_index_or, Option, MatchOption}
+use Rattle.abuf_num.specs.declared.limits.TheConstants.{MAX_COORDINATE, MAX_PIXELS, MAX_SIDE}
 use Rattle.abuf_view.specs.declared.quaternion.Quaternion.{Quaternion}
 use Rattle.abuf_view.specs.declared.point.Point3.{Point3}
 use Rattle.abuf_view.specs.declared.eye.EyePoint.{EyePoint}
@@ -13,20 +14,24 @@ pub record Camera : Type 0 where
   pub focal : ℤ
   pub near : ℤ
 
--- The turn and the place of these parts.
+-- The quaternion and the point of these parts.
 abbrev pub quaternion_of : List ℤ → Quaternion
 quaternion_of t = record { a = slice_index_or t 0 (pos 0); b = slice_index_or t 1 (pos 0); c = slice_index_or t 2 (pos 0); d = slice_index_or t 3 (pos 0) }
 
 abbrev pub point_of : List ℤ → Point3
 point_of p = record { x = slice_index_or p 0 (pos 0); y = slice_index_or p 1 (pos 0); z = slice_index_or p 2 (pos 0) }
 
+-- The camera of these parts.
+abbrev pub camera_of : ℕ → ℕ → Quaternion → Point3 → ℤ → ℤ → Camera
+camera_of width height turn shift focal near = record { width = width; height = height; turn = turn; shift = shift; focal = focal; near = near }
+
 -- The camera of these numbers.
 abbrev pub camera : ℕ → ℕ → List ℤ → List ℤ → ℤ → ℤ → Camera
-camera width height turn shift focal near = record { width = width; height = height; turn = quaternion_of turn; shift = point_of shift; focal = focal; near = near }
+camera width height turn shift focal near = camera_of width height (quaternion_of turn) (point_of shift) focal near
 
--- Each is from 1 to 4096 pixels, and their product is at most 4194304.
+-- Each is at least 1 and at most the greatest side, and their product is at most the greatest number of pixels.
 abbrev pub IsSize : ℕ → ℕ → Type 0
-IsSize width height = (1 ≤ width) × (width ≤ 4096) × (1 ≤ height) × (height ≤ 4096) × (width * height ≤ 4194304)
+IsSize width height = (1 ≤ width) × (width ≤ MAX_SIDE) × (1 ≤ height) × (height ≤ MAX_SIDE) × (width * height ≤ MAX_PIXELS)
 
 -- Each part is from -1024 to 1024, and not all are 0.
 abbrev pub IsTurn : Quaternion → Type 0
@@ -34,9 +39,9 @@ IsTurn t =
     (unsigned_abs t.a ≤ 1024) × (unsigned_abs t.b ≤ 1024) × (unsigned_abs t.c ≤ 1024) × (unsigned_abs t.d ≤ 1024)
     × (¬ ((t.a ≡ pos 0) × (t.b ≡ pos 0) × (t.c ≡ pos 0) × (t.d ≡ pos 0)))
 
--- Each part is at most 2147483647 either way.
+-- Each coordinate is within its limit, either way.
 abbrev pub IsBounded : Point3 → Type 0
-IsBounded p = (unsigned_abs p.x ≤ 2147483647) × (unsigned_abs p.y ≤ 2147483647) × (unsigned_abs p.z ≤ 2147483647)
+IsBounded p = (unsigned_abs p.x ≤ MAX_COORDINATE) × (unsigned_abs p.y ≤ MAX_COORDINATE) × (unsigned_abs p.z ≤ MAX_COORDINATE)
 
 -- From low to high.
 abbrev pub IsFrom : ℤ → ℤ → ℤ → Type 0
@@ -52,6 +57,10 @@ pub record IsCamera (k : Camera) : Type 0 where
   pub turn : IsTurn k.turn
   pub shift : IsBounded k.shift
   pub lens : IsLens k.focal k.near
+
+-- A camera is made exactly where it keeps to that.
+abbrev pub IsMade : Option Camera → Camera → Type 0
+IsMade made k = MatchOption made (¬ (IsCamera k)) (λ m. (m ≡ k) × IsCamera m)
 
 -- The norm of the turn (a, b, c, d), a quaternion: the sum of the squares of its parts.
 

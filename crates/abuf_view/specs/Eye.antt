@@ -1,5 +1,6 @@
--- What is computed once of a camera.
+-- The change to eye space, computed once of a camera.
 use Rattle.std.specs.Prelude.{◌≤◌, ℤ, pos, ◌+ℤ◌, ◌*ℤ◌, neg_ℤ, unsigned_abs, List, map, flat_map}
+use Rattle.abuf_num.specs.declared.limits.TheConstants.{MAX_SIDE}
 use Rattle.abuf_num.specs.declared.plain.Paint.{Paint}
 use Rattle.abuf_view.specs.Camera.{Camera, norm, row_x, row_y, row_z, dot, plane, point_of, IsBounded, IsFrom}
 use Rattle.abuf_scene.specs.declared.triangles.Triangle.{Triangle}
@@ -48,8 +49,8 @@ pub record IsEye (e : Eye) : Type 0 where
   pub y_row : IsRow e.near_plane.norm e.y
   pub z_row : IsRow e.near_plane.norm e.z
   pub shift : IsBounded e.shift
-  pub width : e.screen.width ≤ 4096
-  pub height : e.screen.height ≤ 4096
+  pub width : e.screen.width ≤ MAX_SIDE
+  pub height : e.screen.height ≤ MAX_SIDE
   pub focal : IsFrom (pos 0) (pos 1048576) e.screen.focal
 
 -- The parts of triangles on its screen, and the paint of each.

@@ -43,7 +43,7 @@ first_fault [] = None
 first_fault (Ok made ∷ runs) = first_fault runs
 first_fault (Err fault ∷ runs) = Some fault
 
--- An unknown material is that of the first run that was refused; want of memory may always come.
+-- An unknown material is that of the first run that was refused; memory may always run out.
 abbrev pub IsFirst : Option SceneFault → SceneFault → Type 0
 IsFirst first (UnknownMaterial line) = first ≡ Some (UnknownMaterial line)
 IsFirst first Memory = ⊤

@@ -1,5 +1,6 @@
 -- The place of a point on the screen, in 1/256 pixel.
 use Rattle.std.specs.Prelude.{ℕ, ◌*◌, ℤ, pos, negsuc, neg_ℤ, ◌+ℤ◌, ◌-ℤ◌, ◌*ℤ◌, unsigned_abs}
+use Rattle.abuf_num.specs.declared.limits.TheConstants.{MAX_DEPTH}
 use Rattle.abuf_raster.specs.declared.point.Point.{Point}
 use Rattle.abuf_raster.specs.Triangle.{Triangle}
 use Rattle.abuf_num.specs.Division.{floor_div, round_div}
@@ -13,9 +14,9 @@ shown width height focal s = record {
   y = pos (128 * height) -ℤ round_div (pos (128 * height) *ℤ focal *ℤ s.y) (pos 65536 *ℤ s.w);
 }
 
--- The depth value: 16777215 at the near plane, whose w is m, and less behind it; rounded down.
+-- The depth value: the greatest at the near plane, whose w is m, and less behind it; rounded down.
 abbrev pub depth_value : ℤ → EyePoint → ℕ
-depth_value m s = unsigned_abs (floor_div (pos 16777215 *ℤ m) s.w)
+depth_value m s = unsigned_abs (floor_div (pos MAX_DEPTH *ℤ m) s.w)
 
 -- A triangle on the screen.
 abbrev pub on_screen : ℕ → ℕ → ℤ → ℤ → EyeTriangle → Triangle

@@ -1,13 +1,15 @@
 // The camera.
 ghost use Rattle.std.specs.Prelude.{◌≡◌, ◌≤◌, ◌*◌, ◌↔◌, pos, ◌≤ℤ◌, unsigned_abs, IsTrue, MatchOption};
+ghost use Rattle.abuf_num.specs.declared.limits.TheConstants.{MAX_COORDINATE};
 ghost use Rattle.abuf_view.specs.Eye.{eye_of, IsEye};
-ghost use Rattle.abuf_view.specs.Camera.{Camera as Viewpoint, camera, IsCamera, IsSize, IsTurn, IsBounded, IsFrom, IsLens};
+ghost use Rattle.abuf_view.specs.Camera.{Camera as Viewpoint, camera, camera_of, IsMade, IsCamera, IsSize, IsTurn, IsBounded, IsFrom, IsLens};
 
 use crate::eye::{Eye, times};
 use crate::near_plane::NearPlane;
 use crate::point::Point3;
 use crate::quaternion::Quaternion;
 use crate::screen::Screen;
+use abuf_num::limits::{MAX_COORDINATE, MAX_PIXELS, MAX_SIDE};
 use std::marker::Model;
 
 /// A focal length and a near distance, in 1/65536.
@@ -17,8 +19,8 @@ pub struct Lens {
     pub near: i64,
 }
 
-/// A camera: the size of its image, where it stands and looks, its focal length and its near distance. A point of the scene is turned
-/// by a quaternion, then shifted, and is then seen from the origin along -z.
+/// A camera: the size of its image, where it stands and looks, its focal length and its near distance. A point of the scene is
+/// turned by a quaternion, then shifted, and is then seen from the origin along -z.
 #[derive(Clone, Copy)]
 pub struct Camera {
     width: u32,
@@ -31,9 +33,9 @@ pub struct Camera {
 impl Model for Camera {
     ghost Value = { Viewpoint };
 
-    ghost view = { λ k. record { width = k.width; height = k.height; turn = k.turn; shift = k.shift; focal = k.lens.focal; near = k.lens.near } };
+    ghost view = { λ k. camera_of k.width k.height k.turn k.shift k.lens.focal k.lens.near };
 
-    ghost invariant = { λ k. IsCamera (record { width = k.width; height = k.height; turn = k.turn; shift = k.shift; focal = k.lens.focal; near = k.lens.near }) };
+    ghost invariant = { λ k. IsCamera (camera_of k.width k.height k.turn k.shift k.lens.focal k.lens.near) };
 
     ghost inverse = { λ k. record { width = k.width; height = k.height; turn = k.turn; shift = k.shift; lens = record { focal = k.focal; near = k.near } } };
 }
@@ -41,7 +43,11 @@ impl Model for Camera {
 fn is_size(width: u32, height: u32) -> bool
     ensures { IsTrue result ↔ IsSize width height }
 {
-    1 <= width && width <= 4096 && 1 <= height && height <= 4096 && width * height <= 4194304
+    1 <= width
+        && width <= MAX_SIDE
+        && 1 <= height
+        && height <= MAX_SIDE
+        && width * height <= MAX_PIXELS
 }
 
 fn is_part(part: i32) -> bool
@@ -61,9 +67,9 @@ fn is_turn(turn: Quaternion) -> bool
 }
 
 fn is_coordinate(part: i64) -> bool
-    ensures { IsTrue result ↔ (unsigned_abs part ≤ 2147483647) }
+    ensures { IsTrue result ↔ (unsigned_abs part ≤ MAX_COORDINATE) }
 {
-    -2147483647 <= part && part <= 2147483647
+    part.unsigned_abs() <= MAX_COORDINATE
 }
 
 fn is_bounded(point: Point3) -> bool
@@ -98,7 +104,7 @@ impl Camera {
         focal: i64,
         near: i64,
     ) -> Option<Camera>
-        ensures { MatchOption result (¬ (IsCamera (camera width height turn shift focal near))) (λ k. (k ≡ camera width height turn shift focal near) × IsCamera k) }
+        ensures { IsMade result (camera width height turn shift focal near) }
     {
         let turn = Quaternion {
             a: turn[0],
@@ -121,7 +127,7 @@ impl Camera {
         shift: Point3,
         lens: Lens,
     ) -> Option<Camera>
-        ensures { let all : Viewpoint = record { width = width; height = height; turn = turn; shift = shift; focal = lens.focal; near = lens.near } in MatchOption result (¬ (IsCamera all)) (λ k. (k ≡ all) × IsCamera k) }
+        ensures { IsMade result (camera_of width height turn shift lens.focal lens.near) }
     {
         if is_size(width, height) && is_turn(turn) && is_bounded(shift) && is_lens(lens) {
             Some(Camera {

@@ -1,8 +1,9 @@
 // The change to eye space.
 ghost use Rattle.std.specs.Prelude.{◌≡◌, ◌*◌, ◌^◌, ◌<◌, ◌≤◌, ℤ, pos, ◌+ℤ◌, ◌-ℤ◌, ◌*ℤ◌, ◌<ℤ◌, ◌≤ℤ◌, unsigned_abs};
-ghost use Rattle.abuf_view.specs.Camera.{IsBounded};
+ghost use Rattle.abuf_view.specs.Camera.{dot, IsBounded};
 ghost use Rattle.abuf_view.specs.NearPlane.{IsNearPlane, IsEyePoint};
-ghost use Rattle.abuf_view.specs.Eye.{eye_point_by, IsEye};
+ghost use Rattle.abuf_view.specs.Eye.{eye_point_by, IsEye, IsRow};
+ghost use Rattle.abuf_num.specs.declared.limits.TheConstants.{MAX_COORDINATE};
 
 use crate::near_plane::NearPlane;
 use crate::point::Point3;
@@ -32,75 +33,42 @@ pub struct Eye {
 /// A product of an entry of the matrix and a part of a point.
 pub fn times(entry: i64, part: i64) -> i64
     requires entry { unsigned_abs entry ≤ 2 ^ 22 }
-    requires part { unsigned_abs part ≤ 2147483647 }
+    requires part { unsigned_abs part ≤ MAX_COORDINATE }
     ensures value { result ≡ entry *ℤ part }
-    ensures bound { unsigned_abs result ≤ unsigned_abs entry * 2147483647 }
+    ensures bound { unsigned_abs result ≤ unsigned_abs entry * MAX_COORDINATE }
 {
     entry * part
 }
 
-/// One part of a point as the camera sees it, but for its sign.
-fn seen_part(e: i64, f: i64, g: i64, norm: i64, x: i64, y: i64, z: i64, shift: i64) -> i64
+/// One coordinate of a point in eye space, but for its sign: by a row of the matrix, the norm and one part of the shift.
+fn eye_part(row: Point3, norm: i64, p: Point3, shift: i64) -> i64
     requires norm { unsigned_abs norm ≤ 4194304 }
-    requires e { unsigned_abs e ≤ unsigned_abs norm }
-    requires f { unsigned_abs f ≤ unsigned_abs norm }
-    requires g { unsigned_abs g ≤ unsigned_abs norm }
-    requires x { unsigned_abs x ≤ 2147483647 }
-    requires y { unsigned_abs y ≤ 2147483647 }
-    requires z { unsigned_abs z ≤ 2147483647 }
-    requires shift { unsigned_abs shift ≤ 2147483647 }
-    ensures value { result ≡ e *ℤ x +ℤ f *ℤ y +ℤ g *ℤ z +ℤ norm *ℤ shift }
+    requires row { IsRow norm row }
+    requires p { IsBounded p }
+    requires shift { unsigned_abs shift ≤ MAX_COORDINATE }
+    ensures value { result ≡ dot row p +ℤ norm *ℤ shift }
     ensures bound { unsigned_abs result ≤ unsigned_abs norm * 8589934588 }
     ensures small { unsigned_abs result < 2 ^ 55 }
 {
-    let (first, second, third, fourth) = (
-        times(e, x),
-        times(f, y),
-        times(g, z),
-        times(norm, shift),
-    );
+    let first = times(row.x, p.x);
+    let second = times(row.y, p.y);
+    let third = times(row.z, p.z);
+    let fourth = times(norm, shift);
     first + second + third + fourth
 }
 
 impl Eye {
-    /// Where it sees the point.
+    /// The point in eye space.
     pub fn sees(&self, p: Point3) -> EyePoint
         requires eye { IsEye self.now }
-        requires nearby { IsBounded p }
+        requires range { IsBounded p }
         ensures value { result ≡ eye_point_by self.now p }
         ensures bounded { IsEyePoint self.now.near_plane.norm result }
     {
         let norm = self.near_plane.norm;
-        let x = seen_part(
-            self.x.x,
-            self.x.y,
-            self.x.z,
-            norm,
-            p.x,
-            p.y,
-            p.z,
-            self.shift.x,
-        );
-        let y = seen_part(
-            self.y.x,
-            self.y.y,
-            self.y.z,
-            norm,
-            p.x,
-            p.y,
-            p.z,
-            self.shift.y,
-        );
-        let z = seen_part(
-            self.z.x,
-            self.z.y,
-            self.z.z,
-            norm,
-            p.x,
-            p.y,
-            p.z,
-            self.shift.z,
-        );
+        let x = eye_part(self.x, norm, p, self.shift.x);
+        let y = eye_part(self.y, norm, p, self.shift.y);
+        let z = eye_part(self.z, norm, p, self.shift.z);
         EyePoint { x, y, w: -z }
     }
 }

@@ -26,7 +26,7 @@ impl Projected {
         requires eye { IsEye eye.now }
         requires three { 3 ≤ length corners.now }
         requires points { All (λ c. c < length points.now) corners.now }
-        requires near { All IsInRange points.now }
+        requires range { All IsInRange points.now }
         ensures tris { OnOk result (self.new.tris ≡ self.old.tris ++ tris_by eye.now (fan points.now corners.now paint)) }
         ensures paints { OnOk result (self.new.paints ≡ self.old.paints ++ paints_by eye.now (fan points.now corners.now paint)) }
     {
@@ -47,7 +47,7 @@ impl Projected {
     ) -> Result<(), SceneFault>
         requires eye { IsEye eye.now }
         requires face { IsFace (length obj.now.points) (length obj.now.names) face.now }
-        requires near { All IsInRange obj.now.points }
+        requires range { All IsInRange obj.now.points }
         ensures fault { IfErr result (Tells (line_if_none face.now.line (paint_by (look_up materials.now) obj.now.names face.now.name))) }
         ensures known { OnOk result (line_if_none face.now.line (paint_by (look_up materials.now) obj.now.names face.now.name) ≡ None) }
         ensures tris { OnOk result (self.new.tris ≡ self.old.tris ++ tris_by eye.now (triangles_of (look_up materials.now) obj.now face.now)) }
@@ -73,7 +73,7 @@ pub fn project_run(
 ) -> Result<Projected, SceneFault>
     requires eye { IsEye eye.now }
     requires faces { All (IsFace (length obj.now.points) (length obj.now.names)) faces.now }
-    requires near { All IsInRange obj.now.points }
+    requires range { All IsInRange obj.now.points }
     ensures fault { IfErr result (Tells (unknown_in (look_up materials.now) obj.now.names faces.now)) }
     ensures known { OnOk result (unknown_in (look_up materials.now) obj.now.names faces.now ≡ None) }
     ensures tris { IfOk result (λ p. p.tris ≡ tris_by eye.now (flat_map (triangles_of (look_up materials.now) obj.now) faces.now)) }

@@ -6,7 +6,6 @@ mod eye;
 mod faces;
 pub mod laws;
 mod near_plane;
-mod numbers;
 mod point;
 mod projection;
 mod quaternion;

@@ -4,8 +4,7 @@ ghost use Rattle.abuf_num.specs.Division.{floor_div};
 ghost use Rattle.abuf_view.specs.NearPlane.{cut, clipped, two_inside, one_inside, is_inside, IsNearPlane, IsEyePoint, IsInFront};
 
 use crate::eye::EyePoint;
-use crate::numbers::{minus, product};
-use abuf_num::floor_div;
+use abuf_num::{difference, floor_div, product};
 
 /// A triangle in eye space, or the part of one in front of the near plane.
 #[derive(Clone, Copy, Debug, PartialEq, Eq)]
@@ -67,8 +66,8 @@ fn cut(near_plane: NearPlane, p: EyePoint, q: EyePoint) -> EyePoint
     ensures value { result ≡ cut near_plane.w p q }
     ensures bounded { IsEyePoint near_plane.norm result }
 {
-    let near = minus(p.w, near_plane.w);
-    let span = minus(p.w, q.w);
+    let near = difference(p.w, near_plane.w);
+    let span = difference(p.w, q.w);
     EyePoint {
         x: cut_part(p.x, q.x, near, span),
         y: cut_part(p.y, q.y, near, span),

@@ -6,6 +6,7 @@ ghost use Rattle.abuf_view.specs.Eye.{IsEye, clipped_by, shown_by};
 ghost use Rattle.abuf_obj.specs.Sound.{IsInRange};
 ghost use Rattle.abuf_scene.specs.Triangles.{IsTriangleInRange};
 ghost use Rattle.abuf_view.specs.Primitives.{prims};
+ghost use Rattle.abuf_num.specs.declared.limits.TheConstants.{MAX_PRIMITIVES, MAX_TRIANGLES};
 
 use crate::camera::Camera;
 use crate::eye::Eye;
@@ -29,7 +30,7 @@ pub struct Projected {
 fn to_point(point: [i64; 3]) -> Point3
     requires { IsInRange point }
     ensures value { result ≡ point_of point }
-    ensures near { IsBounded result }
+    ensures range { IsBounded result }
 {
     Point3 {
         x: point[0],
@@ -64,7 +65,7 @@ impl Projected {
     /// Puts the primitives of a triangle last.
     pub fn push_triangle(&mut self, eye: &Eye, t: &Triangle) -> Result<(), NoMemory>
         requires eye { IsEye eye.now }
-        requires near { IsTriangleInRange t.now }
+        requires range { IsTriangleInRange t.now }
         ensures tris { OnOk result (self.new.tris ≡ self.old.tris ++ map (shown_by eye.now) (clipped_by eye.now t.now)) }
         ensures paints { OnOk result (self.new.paints ≡ self.old.paints ++ map (λ _. t.now.paint) (clipped_by eye.now t.now)) }
     {
@@ -80,14 +81,14 @@ impl Projected {
 
 /// The primitives of the scene's triangles, in order, each with the paint of its triangle: none, one or two of a triangle, by the
 /// corners that are in front of the near plane. The caller owes that the scene's coordinates are at most 2147483647 either way, in
-/// units of 1/65536, and that it has at most 1048576 triangles. The error is want of memory alone.
+/// units of 1/65536, and that it has at most 1048576 triangles. The only error is that memory runs out.
 pub fn project(alloc: Global, scene: &Scene, camera: &Camera) -> Result<Projected, NoMemory>
-    requires near { All IsTriangleInRange scene.now.triangles }
-    requires few { length scene.now.triangles ≤ 1048576 }
+    requires range { All IsTriangleInRange scene.now.triangles }
+    requires few { length scene.now.triangles ≤ MAX_TRIANGLES }
     ensures tris { IfOk result (λ p. p.tris ≡ map (λ q. q.triangle) (prims camera.now scene.now.triangles)) }
     ensures paints { IfOk result (λ p. p.paints ≡ map (λ q. q.paint) (prims camera.now scene.now.triangles)) }
     ensures one_length { IfOk result (λ p. length p.tris ≡ length p.paints) }
-    ensures few { IfOk result (λ p. length p.tris ≤ 2097152) }
+    ensures few { IfOk result (λ p. length p.tris ≤ MAX_PRIMITIVES) }
 {
     let eye = camera.eye();
     let mut made = Projected {

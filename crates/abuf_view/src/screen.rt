@@ -1,5 +1,6 @@
 // The screen.
 ghost use Rattle.std.specs.Prelude.{◌≡◌, ◌*◌, ◌^◌, ◌<◌, ◌≤◌, ℤ, pos, ◌+ℤ◌, ◌-ℤ◌, ◌*ℤ◌, ◌<ℤ◌, ◌≤ℤ◌, unsigned_abs, IfSome};
+ghost use Rattle.abuf_num.specs.declared.limits.TheConstants.{MAX_DEPTH, MAX_SIDE};
 ghost use Rattle.abuf_num.specs.Division.{floor_div, round_div, nearest};
 ghost use Rattle.abuf_raster.specs.Triangle.{IsWithin};
 ghost use Rattle.abuf_view.specs.NearPlane.{IsNearPlane, IsEyePoint};
@@ -7,9 +8,8 @@ ghost use Rattle.abuf_view.specs.Screen.{shown, depth_value, on_screen, signed_b
 
 use crate::eye::EyePoint;
 use crate::near_plane::{EyeTriangle, NearPlane};
-use crate::numbers::product;
 use crate::quotient::{quotient, reciprocal};
-use abuf_num::{floor_div, round_div};
+use abuf_num::{floor_div, product, round_div};
 use abuf_raster::{Point, ScreenTri};
 
 // The size below which half of the divisor can be added to it.
@@ -23,7 +23,7 @@ const SHORT_PLANE: u64 = 549755813888;
 
 // 128 times the height, the focal length and the distance from the middle.
 fn wide_size(height: u32, focal: i64, x: i64) -> i128
-    requires height { height ≤ 4096 }
+    requires height { height ≤ MAX_SIDE }
     requires focal { (pos 0 ≤ℤ focal) × (focal ≤ℤ pos 1048576) }
     requires x { unsigned_abs x < 2 ^ 55 }
     ensures value { result ≡ pos (128 * height) *ℤ focal *ℤ x }
@@ -35,7 +35,7 @@ fn wide_size(height: u32, focal: i64, x: i64) -> i128
 
 // The same as `screen_part`, in 128 bits.
 fn wide_part(height: u32, focal: i64, x: i64, w: i64) -> i64
-    requires height { height ≤ 4096 }
+    requires height { height ≤ MAX_SIDE }
     requires focal { (pos 0 ≤ℤ focal) × (focal ≤ℤ pos 1048576) }
     requires x { unsigned_abs x < 2 ^ 55 }
     requires w { pos 0 <ℤ w }
@@ -48,7 +48,7 @@ fn wide_part(height: u32, focal: i64, x: i64, w: i64) -> i64
 
 // The height times the focal length and the distance from the middle, where it is short.
 fn size_of(height: u32, focal: i64, x: i64) -> Option<u64>
-    requires height { height ≤ 4096 }
+    requires height { height ≤ MAX_SIDE }
     requires focal { unsigned_abs focal ≤ 1048576 }
     requires x { unsigned_abs x < 2 ^ 55 }
     ensures value { IfSome result (λ size. size ≡ height * unsigned_abs focal * unsigned_abs x) }
@@ -83,9 +83,9 @@ fn with_sign(x: i64, size: u64) -> i64
     if x < 0 { -(size as i64) } else { size as i64 }
 }
 
-/// The shift of a place from the middle of the screen. It takes a reciprocal of w.
+/// How far a point is from the middle of the screen. It takes a reciprocal of w.
 fn screen_part(height: u32, focal: i64, x: i64, w: i64, reciprocal: u64) -> i64
-    requires height { height ≤ 4096 }
+    requires height { height ≤ MAX_SIDE }
     requires focal { (pos 0 ≤ℤ focal) × (focal ≤ℤ pos 1048576) }
     requires x { unsigned_abs x < 2 ^ 55 }
     requires w { pos 0 <ℤ w }
@@ -110,17 +110,17 @@ pub struct Screen {
     pub focal: i64,
 }
 
-/// The place of a point on the screen.
+/// Where a point of eye space is on the screen.
 fn shown(screen: Screen, near_plane: NearPlane, s: EyePoint, reciprocal: u64) -> Point
     requires near_plane { IsNearPlane near_plane.norm near_plane.w }
-    requires width { screen.width ≤ 4096 }
-    requires height { screen.height ≤ 4096 }
+    requires width { screen.width ≤ MAX_SIDE }
+    requires height { screen.height ≤ MAX_SIDE }
     requires focal { (pos 0 ≤ℤ screen.focal) × (screen.focal ≤ℤ pos 1048576) }
     requires bounded { IsEyePoint near_plane.norm s }
     requires inside { near_plane.w ≤ℤ s.w }
     requires reciprocal { reciprocal * unsigned_abs s.w < 2 ^ 64 }
     ensures value { result ≡ shown screen.width screen.height screen.focal s }
-    ensures near { IsWithin (2 ^ 45) result }
+    ensures range { IsWithin (2 ^ 45) result }
 {
     Point {
         x: (128 * screen.width) as i64
@@ -135,7 +135,7 @@ fn wide_depth(near_plane: NearPlane, s: EyePoint) -> u32
     requires near_plane { IsNearPlane near_plane.norm near_plane.w }
     requires inside { near_plane.w ≤ℤ s.w }
     ensures value { result ≡ depth_value near_plane.w s }
-    ensures small { result ≤ 16777215 }
+    ensures small { result ≤ MAX_DEPTH }
 {
     floor_div(product(16777215, near_plane.w), s.w as i128) as u32
 }
@@ -146,7 +146,7 @@ fn depth_value(near_plane: NearPlane, s: EyePoint, reciprocal: u64) -> u32
     requires inside { near_plane.w ≤ℤ s.w }
     requires reciprocal { reciprocal * unsigned_abs s.w < 2 ^ 64 }
     ensures value { result ≡ depth_value near_plane.w s }
-    ensures small { result ≤ 16777215 }
+    ensures small { result ≤ MAX_DEPTH }
 {
     if near_plane.w.unsigned_abs() < SHORT_PLANE {
         quotient(
@@ -169,15 +169,15 @@ struct ScreenPoint {
 // The corner that the camera sees there. What is divided by its w takes one reciprocal.
 fn corner(screen: Screen, near_plane: NearPlane, s: EyePoint) -> ScreenPoint
     requires near_plane { IsNearPlane near_plane.norm near_plane.w }
-    requires width { screen.width ≤ 4096 }
-    requires height { screen.height ≤ 4096 }
+    requires width { screen.width ≤ MAX_SIDE }
+    requires height { screen.height ≤ MAX_SIDE }
     requires focal { (pos 0 ≤ℤ screen.focal) × (screen.focal ≤ℤ pos 1048576) }
     requires bounded { IsEyePoint near_plane.norm s }
     requires inside { near_plane.w ≤ℤ s.w }
     ensures place { result.place ≡ shown screen.width screen.height screen.focal s }
-    ensures near { IsWithin (2 ^ 45) result.place }
+    ensures range { IsWithin (2 ^ 45) result.place }
     ensures depth { result.depth ≡ depth_value near_plane.w s }
-    ensures small { result.depth ≤ 16777215 }
+    ensures small { result.depth ≤ MAX_DEPTH }
 {
     let reciprocal = reciprocal(s.w.unsigned_abs());
     ScreenPoint {
@@ -189,8 +189,8 @@ fn corner(screen: Screen, near_plane: NearPlane, s: EyePoint) -> ScreenPoint
 /// A triangle on the screen.
 pub fn on_screen(screen: Screen, near_plane: NearPlane, t: EyeTriangle) -> ScreenTri
     requires near_plane { IsNearPlane near_plane.norm near_plane.w }
-    requires width { screen.width ≤ 4096 }
-    requires height { screen.height ≤ 4096 }
+    requires width { screen.width ≤ MAX_SIDE }
+    requires height { screen.height ≤ MAX_SIDE }
     requires focal { (pos 0 ≤ℤ screen.focal) × (screen.focal ≤ℤ pos 1048576) }
     requires a_bounded { IsEyePoint near_plane.norm t.a }
     requires b_bounded { IsEyePoint near_plane.norm t.b }

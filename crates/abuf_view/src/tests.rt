@@ -318,27 +318,44 @@ const TURN: [i32; 4] = [1, 0, 0, 0];
 
 const STILL: [i64; 3] = [0, 0, 0];
 
+// Width, height, turn, shift, focal length and near distance, and whether there is such a camera.
 #[test]
-fn cameras_at_the_bounds_are_made(rt: HostRuntime) {
-    assert!(rt; Camera::new(1, 1, [0, 0, 0, 1], STILL, 1, 4096).is_some());
-    assert!(rt; Camera::new(4096, 1024, [-1024, 1024, 0, 0], STILL, 1048576, 2147483647).is_some());
-    assert!(rt; Camera::new(1024, 4096, TURN, [-2147483647, 2147483647, 0], 1, 4096).is_some());
-}
-
-#[test]
-fn cameras_past_a_bound_are_refused(rt: HostRuntime) {
-    assert!(rt; Camera::new(0, 1, TURN, STILL, 1, 4096).is_none());
-    assert!(rt; Camera::new(1, 0, TURN, STILL, 1, 4096).is_none());
-    assert!(rt; Camera::new(4097, 1, TURN, STILL, 1, 4096).is_none());
-    assert!(rt; Camera::new(1, 4097, TURN, STILL, 1, 4096).is_none());
-    assert!(rt; Camera::new(4096, 1025, TURN, STILL, 1, 4096).is_none());
-    assert!(rt; Camera::new(1, 1, [0, 0, 0, 0], STILL, 1, 4096).is_none());
-    assert!(rt; Camera::new(1, 1, [1025, 0, 0, 0], STILL, 1, 4096).is_none());
-    assert!(rt; Camera::new(1, 1, [0, 0, -1025, 0], STILL, 1, 4096).is_none());
-    assert!(rt; Camera::new(1, 1, TURN, [0, 2147483648, 0], 1, 4096).is_none());
-    assert!(rt; Camera::new(1, 1, TURN, [0, 0, -2147483648], 1, 4096).is_none());
-    assert!(rt; Camera::new(1, 1, TURN, STILL, 0, 4096).is_none());
-    assert!(rt; Camera::new(1, 1, TURN, STILL, 1048577, 4096).is_none());
-    assert!(rt; Camera::new(1, 1, TURN, STILL, 1, 4095).is_none());
-    assert!(rt; Camera::new(1, 1, TURN, STILL, 1, 2147483648).is_none());
+fn cameras_at_their_bounds_and_past_them(rt: HostRuntime) {
+    for (width, height, turn, shift, focal, near, made) in [
+        (1, 1, [0, 0, 0, 1], STILL, 1, 4096, true),
+        (
+            4096,
+            1024,
+            [-1024, 1024, 0, 0],
+            STILL,
+            1048576,
+            2147483647,
+            true,
+        ),
+        (
+            1024,
+            4096,
+            TURN,
+            [-2147483647, 2147483647, 0],
+            1,
+            4096,
+            true,
+        ),
+        (0, 1, TURN, STILL, 1, 4096, false),
+        (1, 0, TURN, STILL, 1, 4096, false),
+        (4097, 1, TURN, STILL, 1, 4096, false),
+        (1, 4097, TURN, STILL, 1, 4096, false),
+        (4096, 1025, TURN, STILL, 1, 4096, false),
+        (1, 1, [0, 0, 0, 0], STILL, 1, 4096, false),
+        (1, 1, [1025, 0, 0, 0], STILL, 1, 4096, false),
+        (1, 1, [0, 0, -1025, 0], STILL, 1, 4096, false),
+        (1, 1, TURN, [0, 2147483648, 0], 1, 4096, false),
+        (1, 1, TURN, [0, 0, -2147483648], 1, 4096, false),
+        (1, 1, TURN, STILL, 0, 4096, false),
+        (1, 1, TURN, STILL, 1048577, 4096, false),
+        (1, 1, TURN, STILL, 1, 4095, false),
+        (1, 1, TURN, STILL, 1, 2147483648, false),
+    ] {
+        assert!(rt; Camera::new(width, height, turn, shift, focal, near).is_some() == made);
+    }
 }

@@ -1,11 +1,12 @@
 // The primitives of a file's faces, on threads.
 ghost use Rattle.std.specs.Prelude.{◌≡◌, ◌*◌, ◌≤◌, ◌<◌, All, List as Items, ℕ, length, map, None, OnOk, IfOk, IfErr};
+ghost use Rattle.abuf_num.specs.declared.limits.TheConstants.{MAX_PRIMITIVES, MAX_THREADS};
 ghost use Rattle.abuf_obj.specs.Sound.{IsScene};
 ghost use Rattle.abuf_mtl.specs.StandsFor.{StandsFor};
 ghost use Rattle.abuf_scene.specs.Triangles.{triangles_by, unknown_by, triangles, unknown, Tells};
 ghost use Rattle.abuf_scene.specs.Lookup.{look_up};
 ghost use Rattle.abuf_view.specs.Eye.{IsEye, tris_by, paints_by};
-ghost use Rattle.abuf_view.specs.Primitives.{prims};
+ghost use Rattle.abuf_view.specs.Primitives.{prims, HasTriangles, HasPaints};
 ghost use Rattle.abuf_view.specs.Runs.{AreRuns};
 
 use crate::camera::Camera;
@@ -28,7 +29,7 @@ const LEAST_RUN: usize = 4096;
 // alone where two workers would have fewer than the least number each.
 pub fn faces_per_run(faces: usize, least: usize, threads: u32) -> usize
     requires least { 1 ≤ least }
-    requires threads { (1 ≤ threads) × (threads ≤ 64) }
+    requires threads { (1 ≤ threads) × (threads ≤ MAX_THREADS) }
     ensures some { 1 ≤ result }
     ensures workers { faces ≤ result * threads }
     ensures few { faces < 2 * least → faces ≤ result }
@@ -87,8 +88,8 @@ pub fn all_faces<R: Threads + Sync>(
     put_together(alloc, runs)
 }
 
-/// What [`assemble`](abuf_scene::assemble) and then [`project`](crate::project) give: the primitives of the faces' triangles, in order,
-/// or the line of the first face whose name has no material. No list of the triangles is made, which would take 80 bytes each.
+/// What [`assemble`](abuf_scene::assemble) and then [`project`](crate::project) give: the primitives of the faces' triangles, in
+/// order, or the line of the first face whose name has no material. No list of the triangles is made, which would take 80 bytes each.
 /// The faces are shared among 1 to 64 workers, and the answer is the same for every number of them; where there are few, one
 /// worker has them all. Memory may run out at any time.
 pub fn project_faces<R: Threads + Sync>(
@@ -100,13 +101,13 @@ pub fn project_faces<R: Threads + Sync>(
     threads: u32,
 ) -> Result<Projected, SceneFault>
     requires scene { IsScene obj.now }
-    requires threads { (1 ≤ threads) × (threads ≤ 64) }
+    requires threads { (1 ≤ threads) × (threads ≤ MAX_THREADS) }
     ensures fault { (libraries : Items (Items ℕ)) → StandsFor libraries materials.now → IfErr result (Tells (unknown libraries obj.now)) }
     ensures known { (libraries : Items (Items ℕ)) → StandsFor libraries materials.now → OnOk result (unknown libraries obj.now ≡ None) }
-    ensures tris { (libraries : Items (Items ℕ)) → StandsFor libraries materials.now → IfOk result (λ p. p.tris ≡ map (λ q. q.triangle) (prims camera.now (triangles libraries obj.now))) }
-    ensures paints { (libraries : Items (Items ℕ)) → StandsFor libraries materials.now → IfOk result (λ p. p.paints ≡ map (λ q. q.paint) (prims camera.now (triangles libraries obj.now))) }
+    ensures tris { (libraries : Items (Items ℕ)) → StandsFor libraries materials.now → HasTriangles result (prims camera.now (triangles libraries obj.now)) }
+    ensures paints { (libraries : Items (Items ℕ)) → StandsFor libraries materials.now → HasPaints result (prims camera.now (triangles libraries obj.now)) }
     ensures one_length { IfOk result (λ p. length p.tris ≡ length p.paints) }
-    ensures few { IfOk result (λ p. length p.tris ≤ 2097152) }
+    ensures few { IfOk result (λ p. length p.tris ≤ MAX_PRIMITIVES) }
 {
     let eye = camera.eye();
     let per_run = faces_per_run(obj.faces.as_slice().len(), LEAST_RUN, threads);

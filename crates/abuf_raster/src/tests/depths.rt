@@ -1,5 +1,6 @@
 // Depth keys: worked rows, and planes against the definition.
 ghost use Rattle.std.specs.Prelude.{◌≡◌, ◌<◌, length};
+ghost use Rattle.abuf_num.specs.declared.limits.TheConstants.{MAX_SIDE};
 ghost use Rattle.abuf_raster.specs.Samples.{offsets_of};
 ghost use Rattle.abuf_raster.specs.Coverage.{covers};
 
@@ -16,8 +17,8 @@ const PATTERNS: [Pattern; 5] = [
 
 // The triangle covers the sample.
 fn covers(t: &ScreenTri, x: u32, y: u32, pattern: Pattern, k: u32) -> bool
-    requires x { x < 4096 }
-    requires y { y < 4096 }
+    requires x { x < MAX_SIDE }
+    requires y { y < MAX_SIDE }
     requires k { k < length (offsets_of pattern) }
     ensures { result ≡ covers t.now (offsets_of pattern) x y k }
 {
@@ -26,8 +27,8 @@ fn covers(t: &ScreenTri, x: u32, y: u32, pattern: Pattern, k: u32) -> bool
 
 // The key at the sample, or none where the triangle doesn't cover it.
 fn key(t: &ScreenTri, x: u32, y: u32, pattern: Pattern, k: u32) -> Option<u32>
-    requires x { x < 4096 }
-    requires y { y < 4096 }
+    requires x { x < MAX_SIDE }
+    requires y { y < MAX_SIDE }
     requires k { k < length (offsets_of pattern) }
 {
     if covers(t, x, y, pattern, k) {
@@ -39,8 +40,8 @@ fn key(t: &ScreenTri, x: u32, y: u32, pattern: Pattern, k: u32) -> Option<u32>
 
 // The same from a plane.
 fn key_of_plane(t: &ScreenTri, x: u32, y: u32, pattern: Pattern, k: u32) -> Option<u32>
-    requires x { x < 4096 }
-    requires y { y < 4096 }
+    requires x { x < MAX_SIDE }
+    requires y { y < MAX_SIDE }
     requires k { k < length (offsets_of pattern) }
 {
     if covers(t, x, y, pattern, k) {

@@ -5,14 +5,14 @@ use Rattle.abuf_raster.proofs.stepping.change_of_edge.Goals as goal
 
 pub plus-requires : goal.plus-requires
 plus-requires g c =
-    let u : g.V.Width.number c.product.result ≡ (c.args.b.x -ℤ c.args.a.x) *ℤ c.args.y = clean_product (g.V.Width.number c.product.result) c.difference.result c.args.b.x c.args.a.x c.args.y (omega arith) (omega arith) (omega arith) c.difference.ensures c.product.ensures in
-    let v : g.V.Width.number c.product-2.result ≡ (c.args.a.y -ℤ c.args.b.y) *ℤ c.args.x = clean_product (g.V.Width.number c.product-2.result) c.difference-2.result c.args.a.y c.args.b.y c.args.x (omega arith) (omega arith) (omega arith) c.difference-2.ensures c.product-2.ensures in
+    let u : g.V.Width.number c.product.result ≡ (c.args.b.x -ℤ c.args.a.x) *ℤ c.args.y = clean_product (g.V.Width.number c.product.result) c.difference.result c.args.b.x c.args.a.x c.args.y (omega arith) (omega arith) (omega arith) c.difference.ensures.value c.product.ensures in
+    let v : g.V.Width.number c.product-2.result ≡ (c.args.a.y -ℤ c.args.b.y) *ℤ c.args.x = clean_product (g.V.Width.number c.product-2.result) c.difference-2.result c.args.a.y c.args.b.y c.args.x (omega arith) (omega arith) (omega arith) c.difference-2.ensures.value c.product-2.ensures in
     let h = change_room g.V.Width.reach c.args.a c.args.b c.args.x c.args.y c.requires.wide c.requires.a_near c.requires.b_near c.requires.x_small c.requires.y_small in
     let e : g.V.Width.number c.product.result +ℤ g.V.Width.number c.product-2.result ≡ edge_change c.args.a c.args.b c.args.x c.args.y = ap₂ (λ (x y : ℤ). x +ℤ y) u v in
     rw e (omega (arith, h))
 
 pub returns : goal.returns
 returns g c =
-    let u : g.V.Width.number c.product.result ≡ (c.args.b.x -ℤ c.args.a.x) *ℤ c.args.y = clean_product (g.V.Width.number c.product.result) c.difference.result c.args.b.x c.args.a.x c.args.y (omega arith) (omega arith) (omega arith) c.difference.ensures c.product.ensures in
-    let v : g.V.Width.number c.product-2.result ≡ (c.args.a.y -ℤ c.args.b.y) *ℤ c.args.x = clean_product (g.V.Width.number c.product-2.result) c.difference-2.result c.args.a.y c.args.b.y c.args.x (omega arith) (omega arith) (omega arith) c.difference-2.ensures c.product-2.ensures in
+    let u : g.V.Width.number c.product.result ≡ (c.args.b.x -ℤ c.args.a.x) *ℤ c.args.y = clean_product (g.V.Width.number c.product.result) c.difference.result c.args.b.x c.args.a.x c.args.y (omega arith) (omega arith) (omega arith) c.difference.ensures.value c.product.ensures in
+    let v : g.V.Width.number c.product-2.result ≡ (c.args.a.y -ℤ c.args.b.y) *ℤ c.args.x = clean_product (g.V.Width.number c.product-2.result) c.difference-2.result c.args.a.y c.args.b.y c.args.x (omega arith) (omega arith) (omega arith) c.difference-2.ensures.value c.product-2.ensures in
     c.plus.ensures ∙ ap₂ (λ (x y : ℤ). x +ℤ y) u v

@@ -3,36 +3,36 @@ use Rattle.std.proofs.lemmas.Int.{ints, to_z-of_z}
 use Rattle.abuf_num.specs.Division.{floor_div}
 use Rattle.abuf_view.proofs.Bounds.{eye_point_small, cut_spans, fits55}
 use Rattle.abuf_view.proofs.near_plane.cut.Goals as goal
-use Rattle.abuf_view.proofs.near_plane.cut.Goals.{After-minus-span}
+use Rattle.abuf_view.proofs.near_plane.cut.Goals.{After-difference-span}
 
-module _ (c : After-minus-span) where
+module _ (c : After-difference-span) where
   p_small : (unsigned_abs c.args.p.x < 2 ^ 55) × (unsigned_abs c.args.p.y < 2 ^ 55) × (unsigned_abs c.args.p.w < 2 ^ 55)
   p_small = eye_point_small c.args.near_plane.norm c.args.near_plane.w c.args.p c.requires.near_plane c.requires.p_bounded
 
   q_small : (unsigned_abs c.args.q.x < 2 ^ 55) × (unsigned_abs c.args.q.y < 2 ^ 55) × (unsigned_abs c.args.q.w < 2 ^ 55)
   q_small = eye_point_small c.args.near_plane.norm c.args.near_plane.w c.args.q c.requires.near_plane c.requires.q_bounded
 
-  near_is : c.minus-near.result ≡ c.args.p.w -ℤ c.args.near_plane.w
-  near_is = c.minus-near.ensures ∙ ap₂ (λ (x y : ℤ). x -ℤ y) (to_z-of_z w64 c.args.p.w (fits55 _ p_small.2)) (to_z-of_z w64 c.args.near_plane.w (fits55 _ (omega (arith, c.requires.near_plane.w_high))))
+  near_is : c.difference-near.result ≡ c.args.p.w -ℤ c.args.near_plane.w
+  near_is = c.difference-near.ensures.value ∙ ap₂ (λ (x y : ℤ). x -ℤ y) (to_z-of_z w64 c.args.p.w (fits55 _ p_small.2)) (to_z-of_z w64 c.args.near_plane.w (fits55 _ (omega (arith, c.requires.near_plane.w_high))))
 
-  span_is : c.minus-span.result ≡ c.args.p.w -ℤ c.args.q.w
-  span_is = c.minus-span.ensures ∙ ap₂ (λ (x y : ℤ). x -ℤ y) (to_z-of_z w64 c.args.p.w (fits55 _ p_small.2)) (to_z-of_z w64 c.args.q.w (fits55 _ q_small.2))
+  span_is : c.difference-span.result ≡ c.args.p.w -ℤ c.args.q.w
+  span_is = c.difference-span.ensures.value ∙ ap₂ (λ (x y : ℤ). x -ℤ y) (to_z-of_z w64 c.args.p.w (fits55 _ p_small.2)) (to_z-of_z w64 c.args.q.w (fits55 _ q_small.2))
 
-  spans : (pos 0 ≤ℤ c.minus-near.result) × (pos 0 <ℤ c.minus-span.result) × (c.minus-near.result ≤ℤ c.minus-span.result)
-  spans = cut_spans c.args.near_plane.norm c.args.near_plane.w c.minus-near.result c.minus-span.result c.args.p c.args.q c.requires.near_plane c.requires.inside c.requires.outside near_is span_is
+  spans : (pos 0 ≤ℤ c.difference-near.result) × (pos 0 <ℤ c.difference-span.result) × (c.difference-near.result ≤ℤ c.difference-span.result)
+  spans = cut_spans c.args.near_plane.norm c.args.near_plane.w c.difference-near.result c.difference-span.result c.args.p c.args.q c.requires.near_plane c.requires.inside c.requires.outside near_is span_is
 
-  near_small : unsigned_abs c.minus-near.result < 2 ^ 56
+  near_small : unsigned_abs c.difference-near.result < 2 ^ 56
   near_small = omega (arith, ints, near_is, p_small.2, c.requires.near_plane.w_high)
 
-  near_fits : SFits w64 c.minus-near.result
-  near_fits = record { sfits = c.minus-near.type_inv }
+  near_fits : SFits w64 c.difference-near.result
+  near_fits = record { sfits = c.difference-near.type_inv }
 
-  span_fits : SFits w64 c.minus-span.result
-  span_fits = record { sfits = c.minus-span.type_inv }
+  span_fits : SFits w64 c.difference-span.result
+  span_fits = record { sfits = c.difference-span.type_inv }
 
 pub cut_part-requires : goal.cut_part-requires
 cut_part-requires c =
-    let d = (goal.at.cut_part-requires c).After-minus-span in
+    let d = (goal.at.cut_part-requires c).After-difference-span in
     let f1 : SFits w64 c.args.p.x = fits55 _ (p_small d).0 in
     let f2 : SFits w64 c.args.q.x = fits55 _ (q_small d).0 in
     let f3 = near_fits d in
@@ -41,7 +41,7 @@ cut_part-requires c =
 
 pub cut_part-requires-2 : goal.cut_part-requires-2
 cut_part-requires-2 c =
-    let d = (goal.at.cut_part-requires-2 c).After-minus-span in
+    let d = (goal.at.cut_part-requires-2 c).After-difference-span in
     let f1 : SFits w64 c.args.p.y = fits55 _ (p_small d).1 in
     let f2 : SFits w64 c.args.q.y = fits55 _ (q_small d).1 in
     let f3 = near_fits d in
@@ -50,7 +50,7 @@ cut_part-requires-2 c =
 
 pub returns : goal.returns
 returns c =
-    let d = (goal.at.returns c).After-minus-span in
+    let d = (goal.at.returns c).After-difference-span in
     let f1 : SFits w64 c.args.p.x = fits55 _ (p_small d).0 in
     let f2 : SFits w64 c.args.q.x = fits55 _ (q_small d).0 in
     let f3 : SFits w64 c.args.p.y = fits55 _ (p_small d).1 in

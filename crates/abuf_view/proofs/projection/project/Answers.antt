@@ -27,7 +27,7 @@ returns-clause-few c =
     let same : length c.loop-triangle.made.tris ≡ length made = ap length tris ∙ length-map made (λ (q : Primitive). q.triangle) in
     omega (arith, same, prims_few c.args.camera.now c.args.scene.now.triangles, c.requires.few)
 
-pub push_triangle-requires-clause-near : goal.push_triangle-requires-clause-near
-push_triangle-requires-clause-near c =
-    let near : All IsTriangleInRange c.as_slice-triangle-items.result.now = subst (All IsTriangleInRange) (sym c.as_slice-triangle-items.ensures) c.requires.near in
+pub push_triangle-requires-clause-range : goal.push_triangle-requires-clause-range
+push_triangle-requires-clause-range c =
+    let near : All IsTriangleInRange c.as_slice-triangle-items.result.now = subst (All IsTriangleInRange) (sym c.as_slice-triangle-items.ensures) c.requires.range in
     near c.loop-triangle.triangle-index _ (omega arith)
