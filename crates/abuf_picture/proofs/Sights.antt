@@ -13,6 +13,7 @@ use Rattle.abuf_frame.specs.Look.{Looked}
 use Rattle.abuf_frame.specs.Draws.{pairs, payloads_at}
 use Rattle.abuf_picture.specs.Drawn.{found}
 
+-- A list of length 0 is empty.
 none_left : (xs : List ℕ) → length xs ≡ 0 → xs ≡ []
 none_left [] e = refl
 none_left (x ∷ xs) e = absurd (omega (arith, e))
@@ -25,6 +26,7 @@ module _ (place : ℕ) (v : View) (old new : List ℕ) (w : Walk) where
       ∙ ap (λ (k : ℕ). take k (map payload_at w.passed ++ rest)) (count ∙ sym (length-map w.passed payload_at))
       ∙ take-append_seam (map payload_at w.passed) rest
 
+  -- Where nothing is left of the walk, the payloads of the nodes passed are all of the pixel.
   whole_list : (rest : List ℕ) → rest ≡ [] → IsPermutation (map payload_at w.passed ++ rest) (payloads_at w.pixel (pairs v.entries)) → w.pixel ≡ place
       → IsPermutation (map payload_at w.passed) (payloads_at place (pairs v.entries))
   whole_list rest none all here =

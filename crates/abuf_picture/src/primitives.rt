@@ -1,5 +1,6 @@
 // What is drawn.
 ghost use Rattle.std.specs.Prelude.{◌≡◌, ◌≤◌, length};
+ghost use Rattle.abuf_num.specs.declared.limits.TheConstants.{MAX_PRIMITIVES};
 
 use abuf_num::Paint;
 use abuf_raster::ScreenTri;
@@ -10,14 +11,14 @@ use abuf_view::Projected;
 pub struct Primitives<'a> {
     pub triangles: &'a [ScreenTri],
     pub paints: &'a [Paint],
-    pub ghost few: { length triangles.now ≤ 2097152 },
+    pub ghost few: { length triangles.now ≤ MAX_PRIMITIVES },
     pub ghost painted: { length paints.now ≡ length triangles.now },
 }
 
 impl<'a> Primitives<'a> {
     /// Those of a scene that is on the screen.
     pub fn of(shown: &'a Projected) -> Primitives<'a>
-        requires few { length shown.now.tris ≤ 2097152 }
+        requires few { length shown.now.tris ≤ MAX_PRIMITIVES }
         requires painted { length shown.now.paints ≡ length shown.now.tris }
         ensures triangles { result.triangles.now ≡ shown.now.tris }
         ensures paints { result.paints.now ≡ shown.now.paints }

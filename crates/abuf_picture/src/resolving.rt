@@ -10,7 +10,7 @@ use crate::target::Target;
 use abuf_frame::Closed;
 use abuf_num::NoMemory;
 use abuf_resolve::laws::{lengths_law, sums_law, words_law};
-use abuf_resolve::{Resolved, resolve_counted};
+use abuf_resolve::{Planes, Resolved, Scene, resolve_counted};
 use std::alloc::Global;
 use std::thread::Threads;
 
@@ -43,7 +43,11 @@ pub fn resolve_drawn<R: Threads + Sync>(
     words_law(closed, triangles, pattern, region);
     sums_law(closed, triangles, paints, pattern, background, region);
     lengths_law(closed, triangles, pattern, region);
-    resolve_counted(
-        rt, alloc, closed, region, triangles, paints, pattern, background, threads,
-    )
+    let scene = Scene {
+        planes: Planes::new(alloc, triangles)?,
+        paints,
+        pattern,
+        background,
+    };
+    resolve_counted(rt, alloc, closed, region, &scene, threads)
 }

@@ -1,5 +1,6 @@
 // What is drawn into.
 ghost use Rattle.std.specs.Prelude.{◌≤◌};
+ghost use Rattle.abuf_num.specs.declared.limits.TheConstants.{MAX_NODES, MAX_THREADS};
 ghost use Rattle.abuf_raster.specs.Region.{IsRegion};
 
 use abuf_raster::{Pattern, Region};
@@ -12,11 +13,11 @@ pub struct Target {
     pub pattern: Pattern,
     /// The colour under all primitives, each channel from 0 to 65535.
     pub background: [u16; 3],
-    /// The number of fragments that the pool has room for, from 1 to 8388608.
+    /// The number of fragments that the pool has room for, from 1 to `MAX_NODES`.
     pub nodes: u32,
-    /// The number of threads that draw and resolve, from 1 to 64.
+    /// The number of threads that draw and resolve, from 1 to `MAX_THREADS`.
     pub threads: u32,
     pub ghost is_region: { IsRegion region },
-    pub ghost nodes_within: { (1 ≤ nodes) × (nodes ≤ 8388608) },
-    pub ghost threads_within: { (1 ≤ threads) × (threads ≤ 64) },
+    pub ghost nodes_within: { (1 ≤ nodes) × (nodes ≤ MAX_NODES) },
+    pub ghost threads_within: { (1 ≤ threads) × (threads ≤ MAX_THREADS) },
 }

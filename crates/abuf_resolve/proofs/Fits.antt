@@ -1,5 +1,5 @@
 -- The words of all fragments, and of lists that hold them, are words of fragments in their pixels.
-use Rattle.std.proofs.Common.{◌≡◌, ℕ, ◌+◌, ◌-◌, ◌*◌, ◌/◌, ◌%◌, ◌^◌, ◌<◌, ◌≤◌, Bool, true, false, cond, if◌then◌else◌, eqb, All, List, [], ◌∷◌, map, length, ℤ, arith, Some, None, slice_index_or, refl, sym, ap, ap₂, ◌∙◌, subst}
+use Rattle.std.proofs.Common.{◌≡◌, ℕ, ◌+◌, ◌-◌, ◌*◌, ◌/◌, ◌%◌, ◌^◌, ◌<◌, ◌≤◌, Bool, true, false, if◌then◌else◌, All, List, [], ◌∷◌, map, length, ℤ, arith, Some, None, slice_index_or, refl, sym, ap, ap₂, ◌∙◌, subst, ◌==◌}
 use Rattle.std.specs.List.{filter, filter_map, cons_option, flat_map, range_with_len}
 use Rattle.std.specs.Int.{bit_at}
 use Rattle.std.proofs.lemmas.Bool.{eqb-true}
@@ -33,7 +33,7 @@ module _ (tris : List Triangle) (limit : length tris ≤ 2 ^ 24) (os : List (ℤ
         covered = λ k l s.
             ap (λ (i : ℕ). covers (triangle_at tris i) os x y k) e
             ∙ (sym (bit_covers (triangle_at tris n) os x y k l)
-            ∙ (ap (λ (v : ℕ). eqb (bit_at v k) 1) (sym (mask_is tris os few x y n)) ∙ s));
+            ∙ (ap (λ (v : ℕ). bit_at v k == 1) (sym (mask_is tris os few x y n)) ∙ s));
       }
 
   module _ (r : Region) (is : IsRegion r) where
@@ -48,7 +48,7 @@ module _ (tris : List Triangle) (limit : length tris ≤ 2 ^ 24) (os : List (ℤ
         let e : ((r.y0 + q / r.w) - r.y0) * r.w + ((r.x0 + q % r.w) - r.x0) ≡ q = ap₂ (λ (a b : ℕ). a * r.w + b) (omega arith) (omega arith) ∙ div-add-mod' q r.w in
         let here : IsIn (((r.y0 + q / r.w) - r.y0) * r.w + ((r.x0 + q % r.w) - r.x0), word_of (triangle_at tris n) os (r.x0 + q % r.w) (r.y0 + q / r.w) n) =
         subst (λ (p : ℕ). IsFragmentAt os tris (r.x0 + p % r.w) (r.y0 + p / r.w) (word_of (triangle_at tris n) os (r.x0 + q % r.w) (r.y0 + q / r.w) n)) (sym e) (word_fits n (r.x0 + q % r.w) (r.y0 + q / r.w) h) in
-        elim (eqb (mask (triangle_at tris n) os (r.x0 + q % r.w) (r.y0 + q / r.w)) 0) as (λ (v : Bool).
+        elim (mask (triangle_at tris n) os (r.x0 + q % r.w) (r.y0 + q / r.w) == 0) as (λ (v : Bool).
         All IsIn (map (placed r) (cons_option (if v then None else Some (record { x = r.x0 + q % r.w; y = r.y0 + q / r.w; fragment = record { prim = n; mask = mask (triangle_at tris n) os (r.x0 + q % r.w) (r.y0 + q / r.w) } })) (filter_map (hit_at (triangle_at tris n) n os r) qs)))) [
           | true ↦ hits_fit n h qs
           | false ↦ All-cons IsIn _ (map (placed r) (filter_map (hit_at (triangle_at tris n) n os r) qs)) here (hits_fit n h qs)
@@ -64,9 +64,9 @@ module _ (tris : List Triangle) (limit : length tris ≤ 2 ^ 24) (os : List (ℤ
     -- and those of the entries at one place,
     fit_at : (es : List (ℕ × ℕ)) (p : ℕ) → All IsIn es → All (IsFragmentAt os tris (r.x0 + p % r.w) (r.y0 + p / r.w)) (payloads_at p es)
     fit_at [] p h = All-nil (IsFragmentAt os tris (r.x0 + p % r.w) (r.y0 + p / r.w))
-    fit_at (e ∷ es) p h = go (fit_at es p (All-tail IsIn e es h)) (eqb e.0 p) refl where
-      go : All (IsFragmentAt os tris (r.x0 + p % r.w) (r.y0 + p / r.w)) (payloads_at p es) → (v : Bool) → v ≡ eqb e.0 p
-          → All (IsFragmentAt os tris (r.x0 + p % r.w) (r.y0 + p / r.w)) (map (λ (d : ℕ × ℕ). d.1) (cond v (e ∷ filter (λ (d : ℕ × ℕ). eqb d.0 p) es) (filter (λ (d : ℕ × ℕ). eqb d.0 p) es)))
+    fit_at (e ∷ es) p h = go (fit_at es p (All-tail IsIn e es h)) (e.0 == p) refl where
+      go : All (IsFragmentAt os tris (r.x0 + p % r.w) (r.y0 + p / r.w)) (payloads_at p es) → (v : Bool) → v ≡ (e.0 == p)
+          → All (IsFragmentAt os tris (r.x0 + p % r.w) (r.y0 + p / r.w)) (map (λ (d : ℕ × ℕ). d.1) (if v then (e ∷ filter (λ (d : ℕ × ℕ). d.0 == p) es) else (filter (λ (d : ℕ × ℕ). d.0 == p) es)))
       go rest false s = rest
       go rest true s =
           All-cons (IsFragmentAt os tris (r.x0 + p % r.w) (r.y0 + p / r.w)) e.1 (payloads_at p es)

@@ -1,5 +1,5 @@
 -- The words of all hits at one place of a region: one for each primitive whose mask there is not 0.
-use Rattle.std.proofs.Common.{◌≡◌, ℕ, zero, suc, ◌+◌, ◌-◌, ◌*◌, ◌/◌, ◌%◌, ◌<◌, ◌≤◌, ◌⊎◌, inl, inr, Bool, true, false, cond, if◌then◌else◌, eqb, List, [], ◌∷◌, ◌++◌, map, length, ℤ, refl, ap, ap₂, ◌∙◌, sym, arith, Some, None}
+use Rattle.std.proofs.Common.{◌≡◌, ℕ, zero, suc, ◌+◌, ◌-◌, ◌*◌, ◌/◌, ◌%◌, ◌<◌, ◌≤◌, ◌⊎◌, inl, inr, Bool, true, false, if◌then◌else◌, List, [], ◌∷◌, ◌++◌, map, length, ℤ, refl, ap, ap₂, ◌∙◌, sym, arith, Some, None, ◌==◌}
 use Rattle.std.specs.List.{filter, filter_map, cons_option, flat_map, range_with_len}
 use Rattle.std.proofs.lemmas.Bool.{eq-eqb, ne_eqb, cases_eq}
 use Rattle.std.proofs.lemmas.Nat.{div-add-mod'}
@@ -21,7 +21,7 @@ word_of t os x y n = packed (record { prim = n; mask = mask t os x y })
 
 -- its word, where its mask is not 0
 abbrev pub word_if : Triangle → List (ℤ × ℤ) → ℕ → ℕ → ℕ → List ℕ
-word_if t os x y n = if eqb (mask t os x y) 0 then [] else word_of t os x y n ∷ []
+word_if t os x y n = if mask t os x y == 0 then [] else word_of t os x y n ∷ []
 
 -- the fragments of all primitives, by their numbers
 abbrev pub all_hits : List (ℤ × ℤ) → List Triangle → Region → List (ℕ × ℕ)
@@ -43,27 +43,27 @@ all_fragments_are os tris r = from_number os tris r tris 0 (λ k l. let e : 0 + 
 -- The payloads at a place of two lists of entries, one after the other.
 pub payloads_at-append : (xs ys : List (ℕ × ℕ)) (p : ℕ) → payloads_at p (xs ++ ys) ≡ payloads_at p xs ++ payloads_at p ys
 payloads_at-append xs ys p =
-    ap (map (λ (e : ℕ × ℕ). e.1)) (filter-append (λ (e : ℕ × ℕ). eqb e.0 p) xs ys)
-    ∙ map-append (λ (e : ℕ × ℕ). e.1) (filter (λ (e : ℕ × ℕ). eqb e.0 p) xs) (filter (λ (e : ℕ × ℕ). eqb e.0 p) ys)
+    ap (map (λ (e : ℕ × ℕ). e.1)) (filter-append (λ (e : ℕ × ℕ). e.0 == p) xs ys)
+    ∙ map-append (λ (e : ℕ × ℕ). e.1) (filter (λ (e : ℕ × ℕ). e.0 == p) xs) (filter (λ (e : ℕ × ℕ). e.0 == p) ys)
 
 -- The payloads at a place of one more entry.
-payloads_at-cons : (e : ℕ × ℕ) (es : List (ℕ × ℕ)) (p : ℕ) → payloads_at p (e ∷ es) ≡ cond (eqb e.0 p) (e.1 ∷ []) [] ++ payloads_at p es
+payloads_at-cons : (e : ℕ × ℕ) (es : List (ℕ × ℕ)) (p : ℕ) → payloads_at p (e ∷ es) ≡ (if e.0 == p then e.1 ∷ [] else []) ++ payloads_at p es
 payloads_at-cons e es p =
-    elim (eqb e.0 p) as (λ (v : Bool). map (λ (d : ℕ × ℕ). d.1) (cond v (e ∷ filter (λ (d : ℕ × ℕ). eqb d.0 p) es) (filter (λ (d : ℕ × ℕ). eqb d.0 p) es)) ≡ cond v (e.1 ∷ []) [] ++ payloads_at p es)
+    elim (e.0 == p) as (λ (v : Bool). map (λ (d : ℕ × ℕ). d.1) (if v then (e ∷ filter (λ (d : ℕ × ℕ). d.0 == p) es) else (filter (λ (d : ℕ × ℕ). d.0 == p) es)) ≡ (if v then e.1 ∷ [] else []) ++ payloads_at p es)
     [ true ↦ refl | false ↦ refl ]
 
 module _ (t : Triangle) (n : ℕ) (os : List (ℤ × ℤ)) (r : Region) (is : IsRegion r) (p : ℕ) where
   -- the hit at place q of the region lies at p exactly where q is p
   step : (q : ℕ) (rest : List Hit) → payloads_at p (map (placed r) (cons_option (hit_at t n os r q) rest))
-      ≡ cond (eqb q p) (word_if t os (r.x0 + q % r.w) (r.y0 + q / r.w) n) [] ++ payloads_at p (map (placed r) rest)
+      ≡ (if q == p then word_if t os (r.x0 + q % r.w) (r.y0 + q / r.w) n else []) ++ payloads_at p (map (placed r) rest)
   step q rest =
       let e : ((r.y0 + q / r.w) - r.y0) * r.w + ((r.x0 + q % r.w) - r.x0) ≡ q = ap₂ (λ (a b : ℕ). a * r.w + b) (omega arith) (omega arith) ∙ div-add-mod' q r.w in
-      elim (eqb (mask t os (r.x0 + q % r.w) (r.y0 + q / r.w)) 0) as (λ (v : Bool).
+      elim (mask t os (r.x0 + q % r.w) (r.y0 + q / r.w) == 0) as (λ (v : Bool).
       payloads_at p (map (placed r) (cons_option (if v then None else Some (record { x = r.x0 + q % r.w; y = r.y0 + q / r.w; fragment = record { prim = n; mask = mask t os (r.x0 + q % r.w) (r.y0 + q / r.w) } })) rest))
-      ≡ cond (eqb q p) (if v then [] else word_of t os (r.x0 + q % r.w) (r.y0 + q / r.w) n ∷ []) [] ++ payloads_at p (map (placed r) rest)) [
-        | true ↦ elim (eqb q p) as (λ (v : Bool). payloads_at p (map (placed r) rest) ≡ cond v [] [] ++ payloads_at p (map (placed r) rest)) [ true ↦ refl | false ↦ refl ]
+      ≡ (if q == p then if v then [] else word_of t os (r.x0 + q % r.w) (r.y0 + q / r.w) n ∷ [] else []) ++ payloads_at p (map (placed r) rest)) [
+        | true ↦ elim (q == p) as (λ (v : Bool). payloads_at p (map (placed r) rest) ≡ (if v then [] else []) ++ payloads_at p (map (placed r) rest)) [ true ↦ refl | false ↦ refl ]
         | false ↦ payloads_at-cons (((r.y0 + q / r.w) - r.y0) * r.w + ((r.x0 + q % r.w) - r.x0), word_of t os (r.x0 + q % r.w) (r.y0 + q / r.w) n) (map (placed r) rest) p
-            ∙ ap (λ (v : ℕ). cond (eqb v p) (word_of t os (r.x0 + q % r.w) (r.y0 + q / r.w) n ∷ []) [] ++ payloads_at p (map (placed r) rest)) e
+            ∙ ap (λ (v : ℕ). (if v == p then word_of t os (r.x0 + q % r.w) (r.y0 + q / r.w) n ∷ [] else []) ++ payloads_at p (map (placed r) rest)) e
       ]
 
   -- no place of the range is p
@@ -80,7 +80,7 @@ module _ (t : Triangle) (n : ℕ) (os : List (ℤ × ℤ)) (r : Region) (is : Is
         → (a ≡ p) ⊎ (a ≡ p → ⊥)
         → payloads_at p (map (placed r) (cons_option (hit_at t n os r a) (filter_map (hit_at t n os r) (range_with_len (a + 1) count)))) ≡ word_if t os (r.x0 + p % r.w) (r.y0 + p / r.w) n
     go later (inl e) =
-        let first : cond (eqb a p) (word_if t os (r.x0 + a % r.w) (r.y0 + a / r.w) n) [] ≡ word_if t os (r.x0 + p % r.w) (r.y0 + p / r.w) n = rw (eq-eqb a p e) (ap (λ (q : ℕ). word_if t os (r.x0 + q % r.w) (r.y0 + q / r.w) n) e) in
+        let first : (if a == p then word_if t os (r.x0 + a % r.w) (r.y0 + a / r.w) n else []) ≡ word_if t os (r.x0 + p % r.w) (r.y0 + p / r.w) n = rw (eq-eqb a p e) (ap (λ (q : ℕ). word_if t os (r.x0 + q % r.w) (r.y0 + q / r.w) n) e) in
         step a (filter_map (hit_at t n os r) (range_with_len (a + 1) count)) ∙ (ap₂ ◌++◌ first (other count (a + 1) (inl (omega arith))) ∙ append-nil (word_if t os (r.x0 + p % r.w) (r.y0 + p / r.w) n))
     go later (inr f) = step a (filter_map (hit_at t n os r) (range_with_len (a + 1) count)) ∙ rw (ne_eqb a p f) (later (omega arith))
 

@@ -1,5 +1,5 @@
 -- Paints laid over one another in the order of a pixel's words.
-use Rattle.std.proofs.Common.{◌≡◌, ℕ, ◌/◌, ◌^◌, ◌<◌, ◌≤◌, Bool, true, false, cond, if◌then◌else◌, ltb, All, List, [], ◌∷◌, map, length, ℤ, refl, ap, ap₂, ◌∙◌, sym, subst, arith}
+use Rattle.std.proofs.Common.{◌≡◌, ℕ, ◌/◌, ◌^◌, ◌<◌, ◌≤◌, Bool, true, false, if◌then◌else◌, All, List, [], ◌∷◌, map, length, ℤ, refl, ap, ap₂, ◌∙◌, sym, subst, arith, nat_lt}
 use Rattle.std.specs.List.{filter, fold}
 use Rattle.std.specs.List.Sorted.{IsNonDecreasing}
 use Rattle.std.proofs.lemmas.List.{length-map}
@@ -27,7 +27,7 @@ shared_fold paints j k u (w ∷ words) all =
     ∙ shared_fold paints j k (with_fragment paints k u w) words (All-tail (λ word. has_sample j word ≡ has_sample k word) w words all)
 
 -- A list that ascends is the list put in order.
-pub ordered_is : (xs : List ℕ) → IsNonDecreasing xs → in_order ltb xs ≡ xs
+pub ordered_is : (xs : List ℕ) → IsNonDecreasing xs → in_order nat_lt xs ≡ xs
 ordered_is xs h = sym (sorted_is xs xs (IsPermutation-refl xs) h)
 
 module _ (os : List (ℤ × ℤ)) (tris : List Triangle) (few : length tris ≤ 2 ^ 24) (x y k : ℕ) (paints : List Paint) where
@@ -37,7 +37,7 @@ module _ (os : List (ℤ × ℤ)) (tris : List Triangle) (few : length tris ≤ 
   laid_is u (w ∷ words) all = go (All-head (IsFragmentAt os tris x y) w words all) (λ v. laid_is v words (All-tail (IsFragmentAt os tris x y) w words all)) (has_sample k w) where
     go : IsFragmentAt os tris x y w → ((v : List ℕ) → fold (with_fragment paints k) v words ≡ folded v paints (sample_words os tris x y k words))
         → (b : Bool) → fold (with_fragment paints k) (if b then laid_over u (paint_at paints (unpacked w).prim) else u) words
-        ≡ folded u paints (map (sample_word os tris x y k) (cond b (w ∷ filter (has_sample k) words) (filter (has_sample k) words)))
+        ≡ folded u paints (map (sample_word os tris x y k) (if b then w ∷ filter (has_sample k) words else filter (has_sample k) words))
     go is rest false = rest u
     go is rest true =
         let known = is.known in
@@ -64,7 +64,7 @@ alone_fits P k list w e all = All-head P w [] (subst (All P) e (All-filter (has_
 pub few_ascend : (os : List (ℤ × ℤ)) (tris : List Triangle) (x y k : ℕ) (words : List ℕ) → length words ≤ 1 → IsNonDecreasing (sample_words os tris x y k words)
 few_ascend os tris x y k [] l = IsNonDecreasingBy-short (λ x. x) [] (omega arith)
 few_ascend os tris x y k (w ∷ []) l = go (has_sample k w) where
-  go : (b : Bool) → IsNonDecreasing (map (sample_word os tris x y k) (cond b (w ∷ []) []))
+  go : (b : Bool) → IsNonDecreasing (map (sample_word os tris x y k) (if b then w ∷ [] else []))
   go true = IsNonDecreasingBy-short (λ x. x) (sample_word os tris x y k w ∷ []) (omega arith)
   go false = IsNonDecreasingBy-short (λ x. x) [] (omega arith)
 few_ascend os tris x y k (v ∷ w ∷ words) l = absurd (omega arith)

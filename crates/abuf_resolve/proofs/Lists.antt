@@ -1,5 +1,5 @@
 -- The fold over a pixel's sorted words is the colour that the primitives give.
-use Rattle.std.proofs.Common.{◌≡◌, ℕ, ◌+◌, ◌*◌, ◌/◌, ◌%◌, ◌^◌, ◌<◌, ◌≤◌, Bool, true, false, cond, if◌then◌else◌, ltb, eqb, List, [], ◌∷◌, ◌++◌, map, length, ℤ, refl, ap, ap₂, ◌∙◌, sym, arith}
+use Rattle.std.proofs.Common.{◌≡◌, ℕ, ◌+◌, ◌*◌, ◌/◌, ◌%◌, ◌^◌, ◌<◌, ◌≤◌, Bool, true, false, if◌then◌else◌, List, [], ◌∷◌, ◌++◌, map, length, ℤ, refl, ap, ap₂, ◌∙◌, sym, arith, ◌==◌, nat_lt}
 use Rattle.std.specs.List.{filter, flat_map}
 use Rattle.std.specs.List.Sorted.{IsNonDecreasing, IsPermutation}
 use Rattle.std.specs.Int.{bit_at}
@@ -34,14 +34,14 @@ module _ (tris : List Triangle) (os : List (ℤ × ℤ)) (few : length os ≤ 16
 
   module _ (k : ℕ) (in_pattern : k < length os) where
     -- the words with the sample are those of the primitives that cover it
-    one_kept : (n : ℕ) → filter (has_sample k) (word_if (triangle_at tris n) os x y n) ≡ cond (covers (triangle_at tris n) os x y k) (word_of (triangle_at tris n) os x y n ∷ []) []
-    one_kept n = go (eqb (mask (triangle_at tris n) os x y) 0) refl where
-      go : (b : Bool) → b ≡ eqb (mask (triangle_at tris n) os x y) 0
-          → filter (has_sample k) (if b then [] else word_of (triangle_at tris n) os x y n ∷ []) ≡ cond (covers (triangle_at tris n) os x y k) (word_of (triangle_at tris n) os x y n ∷ []) []
+    one_kept : (n : ℕ) → filter (has_sample k) (word_if (triangle_at tris n) os x y n) ≡ (if covers (triangle_at tris n) os x y k then word_of (triangle_at tris n) os x y n ∷ [] else [])
+    one_kept n = go (mask (triangle_at tris n) os x y == 0) refl where
+      go : (b : Bool) → b ≡ (mask (triangle_at tris n) os x y == 0)
+          → filter (has_sample k) (if b then [] else word_of (triangle_at tris n) os x y n ∷ []) ≡ (if covers (triangle_at tris n) os x y k then word_of (triangle_at tris n) os x y n ∷ [] else [])
       go true e = rw (none_covered (triangle_at tris n) os x y k in_pattern (eqb-true (mask (triangle_at tris n) os x y) 0 (sym e))) refl
       go false e =
-          ap (λ (v : Bool). cond v (word_of (triangle_at tris n) os x y n ∷ []) [])
-          (ap (λ (m : ℕ). eqb (bit_at m k) 1) (mask_is n) ∙ bit_covers (triangle_at tris n) os x y k in_pattern)
+          ap (λ (v : Bool). (if v then word_of (triangle_at tris n) os x y n ∷ [] else []))
+          (ap (λ (m : ℕ). bit_at m k == 1) (mask_is n) ∙ bit_covers (triangle_at tris n) os x y k in_pattern)
 
     -- The words that have the sample are those of the primitives that cover it.
     pub kept_words : (ns : List ℕ) → filter (has_sample k) (flat_map (λ n. word_if (triangle_at tris n) os x y n) ns)
@@ -51,8 +51,8 @@ module _ (tris : List Triangle) (os : List (ℤ × ℤ)) (few : length os ≤ 16
         filter-append (has_sample k) (word_if (triangle_at tris n) os x y n) (flat_map (λ m. word_if (triangle_at tris m) os x y m) ns)
         ∙ (ap₂ ◌++◌ (one_kept n) (kept_words ns)
         ∙ elim (covers (triangle_at tris n) os x y k) as (λ (v : Bool).
-        cond v (word_of (triangle_at tris n) os x y n ∷ []) [] ++ map (λ m. word_of (triangle_at tris m) os x y m) (filter (λ m. covers (triangle_at tris m) os x y k) ns)
-        ≡ map (λ m. word_of (triangle_at tris m) os x y m) (cond v (n ∷ filter (λ m. covers (triangle_at tris m) os x y k) ns) (filter (λ m. covers (triangle_at tris m) os x y k) ns)))
+        (if v then word_of (triangle_at tris n) os x y n ∷ [] else []) ++ map (λ m. word_of (triangle_at tris m) os x y m) (filter (λ m. covers (triangle_at tris m) os x y k) ns)
+        ≡ map (λ m. word_of (triangle_at tris m) os x y m) (if v then (n ∷ filter (λ m. covers (triangle_at tris m) os x y k) ns) else (filter (λ m. covers (triangle_at tris m) os x y k) ns)))
         [ true ↦ refl | false ↦ refl ])
 
     -- in that sample they are the words of these primitives
@@ -65,7 +65,7 @@ module _ (tris : List Triangle) (os : List (ℤ × ℤ)) (few : length os ≤ 16
     samples_are (n ∷ ns) b = ap₂ ◌∷◌ (sample_is n b.0) (samples_are ns b.1)
 
     -- To lie beneath is to have the lower word.
-    agree : (m n : ℕ) → m < 2 ^ 24 → n < 2 ^ 24 → is_beneath os tris x y k m n ≡ ltb (layer_word os tris x y k m) (layer_word os tris x y k n)
+    agree : (m n : ℕ) → m < 2 ^ 24 → n < 2 ^ 24 → is_beneath os tris x y k m n ≡ nat_lt (layer_word os tris x y k m) (layer_word os tris x y k n)
     agree m n h l = words_ordered (depth_key (triangle_at tris m) os x y k) (depth_key (triangle_at tris n) os x y k) m n h l
 
     -- The numbers of the primitives that cover the sample are small enough,
@@ -77,10 +77,10 @@ module _ (tris : List Triangle) (os : List (ℤ × ℤ)) (few : length os ≤ 16
     layers_below limit = Below-in_order (is_beneath os tris x y k) (layer_word os tris x y k) (2 ^ 24) agree (covering os tris x y k) (below limit)
 
     -- the words of all primitives' fragments, in that sample and in order
-    pub all_samples : length tris ≤ 2 ^ 24 → in_order ltb (sample_words os tris x y k (flat_map (λ n. word_if (triangle_at tris n) os x y n) (numbers tris))) ≡ map (layer_word os tris x y k) (layers os tris x y k)
+    pub all_samples : length tris ≤ 2 ^ 24 → in_order nat_lt (sample_words os tris x y k (flat_map (λ n. word_if (triangle_at tris n) os x y n) (numbers tris))) ≡ map (layer_word os tris x y k) (layers os tris x y k)
     all_samples limit =
-        ap (λ (ws : List ℕ). in_order ltb (map (sample_word os tris x y k) ws)) (kept_words (numbers tris))
-        ∙ (ap (in_order ltb) (samples_are (covering os tris x y k) (below limit))
+        ap (λ (ws : List ℕ). in_order nat_lt (map (sample_word os tris x y k) ws)) (kept_words (numbers tris))
+        ∙ (ap (in_order nat_lt) (samples_are (covering os tris x y k) (below limit))
         ∙ sym (map-in_order (is_beneath os tris x y k) (layer_word os tris x y k) (2 ^ 24) agree (covering os tris x y k) (below limit)))
 
     -- The paint of a primitive's word in the sample is the primitive's.
@@ -108,14 +108,14 @@ module _ (tris : List Triangle) (os : List (ℤ × ℤ)) (few : length os ≤ 16
 pub layers_are : (os : List (ℤ × ℤ)) (tris : List Triangle) (r : Region) (p k : ℕ) (list : List ℕ)
     → length os ≤ 16 → k < length os → length tris ≤ 2 ^ 24 → IsRegion r → p < r.w * r.h
     → Alike (payloads_at p (all_hits os tris r)) list
-    → in_order ltb (sample_words os tris (r.x0 + p % r.w) (r.y0 + p / r.w) k list) ≡ map (layer_word os tris (r.x0 + p % r.w) (r.y0 + p / r.w) k) (layers os tris (r.x0 + p % r.w) (r.y0 + p / r.w) k)
+    → in_order nat_lt (sample_words os tris (r.x0 + p % r.w) (r.y0 + p / r.w) k list) ≡ map (layer_word os tris (r.x0 + p % r.w) (r.y0 + p / r.w) k) (layers os tris (r.x0 + p % r.w) (r.y0 + p / r.w) k)
 layers_are os tris r p k list few in_pattern limit is inside alike =
     let x : ℕ = r.x0 + p % r.w in
     let y : ℕ = r.y0 + p / r.w in
     let all : List ℕ = payloads_at p (all_hits os tris r) in
     sym (in_order_same (sample_words os tris x y k all) (sample_words os tris x y k list)
     (Alike-map (sample_word os tris x y k) (filter (has_sample k) all) (filter (has_sample k) list) (Alike-filter (has_sample k) all list alike)))
-    ∙ (ap (λ (ws : List ℕ). in_order ltb (sample_words os tris x y k ws)) (words_are os tris r is p inside (numbers tris))
+    ∙ (ap (λ (ws : List ℕ). in_order nat_lt (sample_words os tris x y k ws)) (words_are os tris r is p inside (numbers tris))
     ∙ all_samples tris os few x y k in_pattern limit)
 
 -- Such a list gives the colour of the sample.
@@ -130,5 +130,5 @@ list_in_order os background tris paints r p k list few in_pattern limit is insid
     ∙ ap (layered background) (paints_are tris os few x y k in_pattern paints (layers os tris x y k) (layers_below tris os few x y k in_pattern limit))
 
 -- and for the sorted list
-pub sorted_is : (xs ys : List ℕ) → IsPermutation xs ys → IsNonDecreasing ys → ys ≡ in_order ltb xs
+pub sorted_is : (xs ys : List ℕ) → IsPermutation xs ys → IsNonDecreasing ys → ys ≡ in_order nat_lt xs
 sorted_is xs ys perm ascending = in_order_is xs ys (Alike-permutation xs ys perm) (Rises-from_order ys ascending)

@@ -1,5 +1,5 @@
 -- The words at a place, in order, are those of the primitives that are present in the pixel.
-use Rattle.std.proofs.Common.{◌≡◌, ℕ, zero, suc, ◌+◌, ◌*◌, ◌/◌, ◌%◌, ◌^◌, ◌<◌, ◌≤◌, Bool, true, false, not, cond, if◌then◌else◌, ltb, eqb, All, List, [], ◌∷◌, ◌++◌, map, length, get_or, ℤ, refl, ap, ap₂, ◌∙◌, sym, arith}
+use Rattle.std.proofs.Common.{◌≡◌, ℕ, zero, suc, ◌+◌, ◌*◌, ◌/◌, ◌%◌, ◌^◌, ◌<◌, ◌≤◌, Bool, true, false, not, if◌then◌else◌, All, List, [], ◌∷◌, ◌++◌, map, length, get_or, ℤ, refl, ap, ap₂, ◌∙◌, sym, arith, ◌==◌, nat_lt}
 use Rattle.std.specs.List.{filter, flat_map, range_with_len}
 use Rattle.std.proofs.lemmas.Bool.{le-ltb}
 use Rattle.std.proofs.lemmas.List.{get_or-map, length-map}
@@ -35,7 +35,7 @@ length-alike xs ys a = sym (kept-all ys) ∙ (sym (a.times (λ x. true)) ∙ kep
 filter-short : (p : ℕ → Bool) (xs : List ℕ) → length (filter p xs) ≤ length xs
 filter-short p [] = omega arith
 filter-short p (x ∷ xs) =
-    elim (p x) as (λ (v : Bool). length (cond v (x ∷ filter p xs) (filter p xs)) ≤ length (x ∷ xs))
+    elim (p x) as (λ (v : Bool). length (if v then x ∷ filter p xs else filter p xs) ≤ length (x ∷ xs))
     [ true ↦ omega (arith, filter-short p xs) | false ↦ omega (arith, filter-short p xs) ]
 
 module _ (P : ℕ → Type 0) (before : ℕ → ℕ → Bool) where
@@ -56,13 +56,13 @@ module _ (P : ℕ → Type 0) (before : ℕ → ℕ → Bool) where
 module _ (tris : List Triangle) (os : List (ℤ × ℤ)) (few : length os ≤ 16) (x y : ℕ) where
   -- the words at a pixel are those of the primitives that are present
   present_words : (ns : List ℕ) → flat_map (λ n. word_if (triangle_at tris n) os x y n) ns
-      ≡ map (λ n. word_of (triangle_at tris n) os x y n) (filter (λ n. not (eqb (mask (triangle_at tris n) os x y) 0)) ns)
+      ≡ map (λ n. word_of (triangle_at tris n) os x y n) (filter (λ n. not (mask (triangle_at tris n) os x y == 0)) ns)
   present_words [] = refl
   present_words (n ∷ ns) =
       ap (λ (ws : List ℕ). word_if (triangle_at tris n) os x y n ++ ws) (present_words ns)
-      ∙ elim (eqb (mask (triangle_at tris n) os x y) 0) as (λ (v : Bool).
-      (if v then [] else word_of (triangle_at tris n) os x y n ∷ []) ++ map (λ m. word_of (triangle_at tris m) os x y m) (filter (λ m. not (eqb (mask (triangle_at tris m) os x y) 0)) ns)
-      ≡ map (λ m. word_of (triangle_at tris m) os x y m) (cond (not v) (n ∷ filter (λ m. not (eqb (mask (triangle_at tris m) os x y) 0)) ns) (filter (λ m. not (eqb (mask (triangle_at tris m) os x y) 0)) ns)))
+      ∙ elim (mask (triangle_at tris n) os x y == 0) as (λ (v : Bool).
+      (if v then [] else word_of (triangle_at tris n) os x y n ∷ []) ++ map (λ m. word_of (triangle_at tris m) os x y m) (filter (λ m. not (mask (triangle_at tris m) os x y == 0)) ns)
+      ≡ map (λ m. word_of (triangle_at tris m) os x y m) (if not v then (n ∷ filter (λ m. not (mask (triangle_at tris m) os x y == 0)) ns) else (filter (λ m. not (mask (triangle_at tris m) os x y == 0)) ns)))
       [ true ↦ refl | false ↦ refl ]
 
   -- the fragment of a primitive's word
@@ -99,18 +99,18 @@ Climbs-range (suc count) a = (Above-range a count (a + 1) (omega arith), Climbs-
 Above-filter : (p : ℕ → Bool) (n : ℕ) (ms : List ℕ) → Above n ms → Above n (filter p ms)
 Above-filter p n [] h = tt
 Above-filter p n (m ∷ ms) h =
-    elim (p m) as (λ (v : Bool). Above n (cond v (m ∷ filter p ms) (filter p ms))) [ true ↦ (h.0, Above-filter p n ms h.1) | false ↦ Above-filter p n ms h.1 ]
+    elim (p m) as (λ (v : Bool). Above n (if v then m ∷ filter p ms else filter p ms)) [ true ↦ (h.0, Above-filter p n ms h.1) | false ↦ Above-filter p n ms h.1 ]
 
 -- A filtered list climbs where the list does.
 Climbs-filter : (p : ℕ → Bool) (ns : List ℕ) → Climbs ns → Climbs (filter p ns)
 Climbs-filter p [] h = tt
 Climbs-filter p (n ∷ ns) h =
-    elim (p n) as (λ (v : Bool). Climbs (cond v (n ∷ filter p ns) (filter p ns))) [ true ↦ (Above-filter p n ns h.0, Climbs-filter p ns h.1) | false ↦ Climbs-filter p ns h.1 ]
+    elim (p n) as (λ (v : Bool). Climbs (if v then n ∷ filter p ns else filter p ns)) [ true ↦ (Above-filter p n ns h.0, Climbs-filter p ns h.1) | false ↦ Climbs-filter p ns h.1 ]
 
 -- so do the words of fragments of primitives whose numbers climb
 module _ (tris : List Triangle) (os : List (ℤ × ℤ)) (few : length os ≤ 16) (x y : ℕ) where
   -- No word of a higher number is below a number's.
-  none_under : (n : ℕ) (ms : List ℕ) → Above n ms → kept (λ v. ltb v (word_of (triangle_at tris n) os x y n)) (map (λ m. word_of (triangle_at tris m) os x y m) ms) ≡ 0
+  none_under : (n : ℕ) (ms : List ℕ) → Above n ms → kept (λ v. nat_lt v (word_of (triangle_at tris n) os x y n)) (map (λ m. word_of (triangle_at tris m) os x y m) ms) ≡ 0
   none_under n [] h = refl
   none_under n (m ∷ ms) h =
       rw (le-ltb (word_of (triangle_at tris m) os x y m) (word_of (triangle_at tris n) os x y n) (let l : n < m = h.0 in omega (arith, mask_small (triangle_at tris n) os x y few))) (omega (arith, none_under n ms h.1))
@@ -127,16 +127,16 @@ module _ (os : List (ℤ × ℤ)) (tris : List Triangle) (r : Region) (p : ℕ) 
   same_words = words_are os tris r is p inside (numbers tris) ∙ present_words tris os few (r.x0 + p % r.w) (r.y0 + p / r.w) (numbers tris)
 
   -- In ascending order the words there unpack to the fragments of the pixel.
-  pub pixel_is : AreWordsAt (all_hits os tris r) p words → map unpacked (in_order ltb words) ≡ pixel_fragments os tris (r.x0 + p % r.w) (r.y0 + p / r.w)
+  pub pixel_is : AreWordsAt (all_hits os tris r) p words → map unpacked (in_order nat_lt words) ≡ pixel_fragments os tris (r.x0 + p % r.w) (r.y0 + p / r.w)
   pixel_is are =
       let x : ℕ = r.x0 + p % r.w in
       let y : ℕ = r.y0 + p / r.w in
       let w : ℕ → ℕ = λ n. word_of (triangle_at tris n) os x y n in
       let ns : List ℕ = present os tris x y in
-      let below : Below (2 ^ 24) ns = Below-filter (2 ^ 24) (λ n. not (eqb (mask (triangle_at tris n) os x y) 0)) (numbers tris) (Below-range (2 ^ 24) (length tris) 0 (omega arith)) in
+      let below : Below (2 ^ 24) ns = Below-filter (2 ^ 24) (λ n. not (mask (triangle_at tris n) os x y == 0)) (numbers tris) (Below-range (2 ^ 24) (length tris) 0 (omega arith)) in
       let alike = Alike-drawn (all_hits os tris r) are.entries words p are.drawn are.here in
-      let rises : Rises (payloads_at p (all_hits os tris r)) = rw same_words (climbs tris os few x y ns (Climbs-filter (λ n. not (eqb (mask (triangle_at tris n) os x y) 0)) (numbers tris) (Climbs-range (length tris) 0))) in
-      let ordered : in_order ltb words ≡ map w ns =
+      let rises : Rises (payloads_at p (all_hits os tris r)) = rw same_words (climbs tris os few x y ns (Climbs-filter (λ n. not (mask (triangle_at tris n) os x y == 0)) (numbers tris) (Climbs-range (length tris) 0))) in
+      let ordered : in_order nat_lt words ≡ map w ns =
       sym (in_order_is words (payloads_at p (all_hits os tris r)) (record { times = λ q. sym (alike.times q) }) rises) ∙ same_words in
       ap (map unpacked) ordered ∙ fragments_are tris os few x y ns below
 
@@ -149,7 +149,7 @@ module _ (os : List (ℤ × ℤ)) (tris : List Triangle) (r : Region) (p : ℕ) 
 
 -- No more primitives are present than there are.
 pub present_few : (os : List (ℤ × ℤ)) (tris : List Triangle) (x y : ℕ) → length (present os tris x y) ≤ length tris
-present_few os tris x y = omega (arith, filter-short (λ n. not (eqb (mask (triangle_at tris n) os x y) 0)) (numbers tris), length-range_with_len 0 (length tris))
+present_few os tris x y = omega (arith, filter-short (λ n. not (mask (triangle_at tris n) os x y == 0)) (numbers tris), length-range_with_len 0 (length tris))
 
 -- ---- all pixels of a region
 pub lengths_are : (os : List (ℤ × ℤ)) (tris : List Triangle) (r : Region) (lists : List (List ℕ))

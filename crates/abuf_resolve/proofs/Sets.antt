@@ -1,5 +1,5 @@
 -- Sets of samples as masks, and totals over them.
-use Rattle.std.proofs.Common.{◌≡◌, ℕ, zero, suc, ◌+◌, ◌-◌, ◌*◌, ◌%◌, ◌^◌, ◌<◌, ◌≤◌, Bool, true, false, not, ◌&&◌, eqb, if◌then◌else◌, min, List, [], ◌∷◌, slice_index, bit_and, w32, ◌⊎◌, inl, inr, true≢false, refl, ap, ap₂, ◌∙◌, sym, arith}
+use Rattle.std.proofs.Common.{◌≡◌, ℕ, zero, suc, ◌+◌, ◌-◌, ◌*◌, ◌%◌, ◌^◌, ◌<◌, ◌≤◌, Bool, true, false, not, ◌&&◌, if◌then◌else◌, min, List, [], ◌∷◌, slice_index, bit_and, w32, ◌⊎◌, inl, inr, true≢false, refl, ap, ap₂, ◌∙◌, sym, arith, ◌==◌}
 use Rattle.std.specs.Int.{bit_at, bit_not, trailing_zeros}
 use Rattle.std.specs.Int.RustNames.{count_ones}
 use Rattle.std.proofs.Math.Nat.{mod-eq_of_lt}
@@ -11,7 +11,7 @@ use Rattle.abuf_resolve.specs.Sums.{plus, summed}
 use Rattle.abuf_resolve.specs.Tally.{in_set, sums_where, total}
 
 -- A bit as a truth value.
-bit_of : (b : ℕ) → b < 2 → (if eqb b 1 then 1 else 0) ≡ b
+bit_of : (b : ℕ) → b < 2 → (if b == 1 then 1 else 0) ≡ b
 bit_of zero l = refl
 bit_of (suc zero) l = refl
 bit_of (suc (suc n)) l = absurd (omega arith)
@@ -40,25 +40,27 @@ ones_below set (suc n) =
 pub ones_are : (set n : ℕ) → set < 2 ^ n → count_ones set ≡ count_in set n
 ones_are set n l = let e : set % 2 ^ n ≡ set = mod-eq_of_lt l in ap count_ones (sym e) ∙ ones_below set n
 
--- Of what two sets have.
-both_and : (a b : ℕ) → a < 2 → b < 2 → eqb (min a b) 1 ≡ (eqb a 1 && eqb b 1)
-both_and zero b l m = let e : min 0 b ≡ 0 = omega arith in ap (λ (c : ℕ). eqb c 1) e
+-- Two bits are 1 where the lower of them is.
+both_and : (a b : ℕ) → a < 2 → b < 2 → (min a b == 1) ≡ ((a == 1) && (b == 1))
+both_and zero b l m = let e : min 0 b ≡ 0 = omega arith in ap (λ (c : ℕ). c == 1) e
 both_and (suc zero) zero l m = refl
 both_and (suc zero) (suc zero) l m = refl
 both_and (suc zero) (suc (suc b)) l m = absurd (omega arith)
 both_and (suc (suc a)) b l m = absurd (omega arith)
 
+-- Both sets have a sample where what they share has it.
 pub in_both : (a b k : ℕ) → in_set (bit_and a b) k ≡ (in_set a k && in_set b k)
-in_both a b k = ap (λ (m : ℕ). eqb m 1) (bit_at_and a b k) ∙ both_and (bit_at a k) (bit_at b k) (bit_at-lt a k) (bit_at-lt b k)
+in_both a b k = ap (λ (m : ℕ). m == 1) (bit_at_and a b k) ∙ both_and (bit_at a k) (bit_at b k) (bit_at-lt a k) (bit_at-lt b k)
 
--- Of what a set hasn't.
-other : (b : ℕ) → b < 2 → eqb (1 - b) 1 ≡ not (eqb b 1)
+-- A bit is 1 where the other one isn't.
+other : (b : ℕ) → b < 2 → ((1 - b) == 1) ≡ not (b == 1)
 other zero l = refl
 other (suc zero) l = refl
 other (suc (suc b)) l = absurd (omega arith)
 
+-- A set without another has a sample where the first has it and the other hasn't.
 pub in_rest : (a b k : ℕ) → b < 2 ^ 32 → k < 32 → in_set (bit_and a (bit_not w32 b)) k ≡ (in_set a k && not (in_set b k))
-in_rest a b k l m = in_both a (bit_not w32 b) k ∙ ap (λ (v : Bool). in_set a k && v) (ap (λ (c : ℕ). eqb c 1) (bit_at_not w32 b k l m) ∙ other (bit_at b k) (bit_at-lt b k))
+in_rest a b k l m = in_both a (bit_not w32 b) k ∙ ap (λ (v : Bool). in_set a k && v) (ap (λ (c : ℕ). c == 1) (bit_at_not w32 b k l m) ∙ other (bit_at b k) (bit_at-lt b k))
 
 -- ---- totals
 -- Tests that agree give one total.
@@ -115,10 +117,11 @@ module _ (rest set n : ℕ) (below : rest < 2 ^ n) (few : n ≤ 16) (fits : set 
   abbrev left : ℕ
   left = bit_and rest (bit_not w32 set)
 
-  -- Neither has more samples.
+  -- What is left has no more samples than the set,
   pub left_below : left < 2 ^ n
   left_below = omega (arith, and_le_l rest (bit_not w32 set))
 
+  -- nor has what both have.
   here_below : here < 2 ^ n
   here_below = omega (arith, and_le_l rest set)
 
@@ -160,7 +163,7 @@ rest_of_itself a l =
 pub none_yet : (colours : ℕ → List ℕ) (n : ℕ) → sums_where (λ k. not (in_set (2 ^ n - 1) k)) colours n ≡ record { channels = 0 ∷ 0 ∷ 0 ∷ [] }
 none_yet colours n = λ i. record { channels = none (λ k. slice_index (colours k) 0) i ∷ none (λ k. slice_index (colours k) 1) i ∷ none (λ k. slice_index (colours k) 2) i ∷ [] } where
   none : (v : ℕ → ℕ) → total (λ k. not (in_set (2 ^ n - 1) k)) v n ≡ 0
-  none v = total_none (λ k. not (in_set (2 ^ n - 1) k)) v n (λ k l. ap (λ (b : ℕ). not (eqb b 1)) (bit_at_ones n k l))
+  none v = total_none (λ k. not (in_set (2 ^ n - 1) k)) v n (λ k l. ap (λ (b : ℕ). not (b == 1)) (bit_at_ones n k l))
 
 -- ---- members
 -- Both of two truths.

@@ -1,5 +1,5 @@
 -- The sums of lists of the hits' words are the sums of the primitives' colours.
-use Rattle.std.proofs.Common.{◌≡◌, ℕ, zero, suc, ◌+◌, ◌*◌, ◌/◌, ◌%◌, ◌^◌, ◌<◌, ◌≤◌, List, [], map, length, ℤ, refl, ap, ap₂, ◌∙◌, sym, arith, get_or, eqb, cond, ◌&&◌, ◌∷◌, Bool, true, false}
+use Rattle.std.proofs.Common.{◌≡◌, ℕ, zero, suc, ◌+◌, ◌*◌, ◌/◌, ◌%◌, ◌^◌, ◌<◌, ◌≤◌, List, [], map, length, ℤ, refl, ap, ap₂, ◌∙◌, sym, arith, get_or, ◌&&◌, ◌∷◌, Bool, true, false, ◌==◌, if◌then◌else◌}
 use Rattle.std.specs.List.{filter, count_by, range_with_len}
 use Rattle.std.proofs.lemmas.List.Sums.{sum_by-cons}
 use Rattle.std.proofs.lemmas.List.Sorted.{sum_by-IsPermutation}
@@ -17,18 +17,18 @@ use Rattle.abuf_resolve.proofs.Lists.{list_in_order}
 use Rattle.abuf_resolve.proofs.Orders.{Alike, kept, Alike-permutation}
 
 -- how many words at a place pass a test, counted in the entries
-kept_at : (q : ℕ → Bool) (es : List (ℕ × ℕ)) (p : ℕ) → kept q (payloads_at p es) ≡ count_by (λ e. eqb e.0 p && q e.1) es
+kept_at : (q : ℕ → Bool) (es : List (ℕ × ℕ)) (p : ℕ) → kept q (payloads_at p es) ≡ count_by (λ e. (e.0 == p) && q e.1) es
 kept_at q [] p = refl
 kept_at q (e ∷ es) p =
-    elim (eqb e.0 p) as (λ (v : Bool). kept q (map (λ (d : ℕ × ℕ). d.1) (cond v (e ∷ filter (λ (d : ℕ × ℕ). eqb d.0 p) es) (filter (λ (d : ℕ × ℕ). eqb d.0 p) es))) ≡ cond (v && q e.1) 1 0 + count_by (λ d. eqb d.0 p && q d.1) es)
-    [ true ↦ ap (λ (n : ℕ). cond (q e.1) 1 0 + n) (kept_at q es p) | false ↦ omega (arith, kept_at q es p) ]
-    ∙ sym (sum_by-cons (λ d. cond (eqb d.0 p && q d.1) 1 0) e es)
+    elim (e.0 == p) as (λ (v : Bool). kept q (map (λ (d : ℕ × ℕ). d.1) (if v then (e ∷ filter (λ (d : ℕ × ℕ). d.0 == p) es) else (filter (λ (d : ℕ × ℕ). d.0 == p) es))) ≡ (if v && q e.1 then 1 else 0) + count_by (λ d. (d.0 == p) && q d.1) es)
+    [ true ↦ ap (λ (n : ℕ). (if q e.1 then 1 else 0) + n) (kept_at q es p) | false ↦ omega (arith, kept_at q es p) ]
+    ∙ sym (sum_by-cons (λ d. (if (d.0 == p) && q d.1 then 1 else 0)) e es)
 
 -- so entries in another order give the same words
 pub Alike-drawn : (hits entries : List (ℕ × ℕ)) (list : List ℕ) (p : ℕ) → IsPermutation entries hits → IsPermutation list (payloads_at p entries) → Alike (payloads_at p hits) list
 Alike-drawn hits entries list p drawn here = record {
   times = λ q. kept_at q hits p
-      ∙ (sum_by-IsPermutation (λ e. cond (eqb e.0 p && q e.1) 1 0) entries hits drawn
+      ∙ (sum_by-IsPermutation (λ e. (if (e.0 == p) && q e.1 then 1 else 0)) entries hits drawn
       ∙ (sym (kept_at q entries p)
       ∙ sym ((Alike-permutation list (payloads_at p entries) here).times q)));
 }

@@ -9,7 +9,7 @@ use Rattle.abuf_resolve.specs.declared.bounded.Bounded.{Bounded}
 use Rattle.abuf_resolve.specs.declared.scene.Pixel.{Pixel}
 use Rattle.abuf_resolve.specs.declared.scene.Scene.{Scene}
 use Rattle.abuf_resolve.specs.Bounded.{IsBounded}
-use Rattle.abuf_resolve.specs.Words.{pixel_sum, place_sum, sample_of, sample_words, with_fragment, IsFragmentAt}
+use Rattle.abuf_resolve.specs.Words.{frame_sums, pixel_sum, place_sum, sample_of, sample_words, with_fragment, AreSeen, IsFragmentAt}
 
 -- ---- one pixel
 -- The word is one of a fragment of the scene in this pixel.
@@ -32,6 +32,11 @@ sum_at scene at words = pixel_sum (offsets_of scene.pattern) scene.background sc
 abbrev pub SameColours : Scene → Pixel → List ℕ → List ℕ → Type 0
 SameColours scene at xs ys = (k : ℕ) → k < length (offsets_of scene.pattern) → colour_at scene at xs k ≡ colour_at scene at ys k
 
+-- Of the words of a pixel that have sample k, these may be seen there, from the least on.
+abbrev pub AreSeenAt : Scene → Pixel → ℕ → List ℕ → List ℕ → ℕ → Type 0
+AreSeenAt scene at k words seen least =
+    AreSeen scene.paints.now (sample_words (offsets_of scene.pattern) scene.planes at.x at.y k words) seen least
+
 -- In each sample the words stand in order.
 abbrev pub AscendIn : Scene → Pixel → List ℕ → Type 0
 AscendIn scene at words =
@@ -50,3 +55,7 @@ sum_of_list scene r place words =
 -- The same, from its list in a frame.
 abbrev pub sum_in : Scene → Region → List (List ℕ) → ℕ → PixelSum
 sum_in scene r lists place = place_sum (offsets_of scene.pattern) scene.background scene.planes scene.paints.now r lists place
+
+-- The sums of all pixels, by ascending place.
+abbrev pub sums_of : Scene → Region → List (List ℕ) → List PixelSum
+sums_of scene r lists = frame_sums (offsets_of scene.pattern) scene.background scene.planes scene.paints.now r lists

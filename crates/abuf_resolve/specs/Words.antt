@@ -1,5 +1,5 @@
 -- The words of a pixel's fragments, and the colours that they give.
-use Rattle.std.specs.Prelude.{◌≡◌, ℕ, ◌+◌, ◌*◌, ◌/◌, ◌%◌, ◌<◌, ◌^◌, ◌==◌, Bool, true, not, if◌then◌else◌, nat_lt, ℤ, List, [], map, length, slice_index_or, Contains, IsPermutation}
+use Rattle.std.specs.Prelude.{◌≡◌, ℕ, ◌+◌, ◌*◌, ◌/◌, ◌%◌, ◌<◌, ◌^◌, ◌==◌, Bool, true, not, if◌then◌else◌, nat_lt, ℤ, List, [], ◌∷◌, ◌++◌, map, length, slice_index_or, Contains, IsPermutation}
 use Rattle.std.specs.Int.{bit_at}
 use Rattle.std.specs.List.{filter, range_with_len, All}
 use Rattle.abuf_num.specs.declared.plain.Paint.{Paint}
@@ -59,6 +59,15 @@ pub record AreSeen (paints : List Paint) (all seen : List ℕ) (least : ℕ) : T
   pub same : filter (reaches least) seen ≡ filter (reaches least) all
   pub there : 0 < least → Contains all least
   pub hiding : 0 < least → hides paints least ≡ true
+
+-- With one word more, of all words of whatever sample has these as the seen ones, those are seen, from `next` on.
+abbrev pub StillSeen : List Paint → ℕ → List ℕ → List ℕ → ℕ → ℕ → Type 0
+StillSeen paints word old new least next = (all : List ℕ) → AreSeen paints all old least → AreSeen paints (all ++ word ∷ []) new next
+
+-- Whatever the paints are, and what lies under all, these words give the colour of a sample in which those are seen.
+abbrev pub GiveSameColour : List ℕ → ℕ → List ℕ → Type 0
+GiveSameColour seen least words =
+    (paints : List Paint) (all under : List ℕ) → AreSeen paints all seen least → folded under paints words ≡ folded under paints (in_order nat_lt all)
 
 -- ---- the words of one pixel
 -- The fragment of this word has sample k.

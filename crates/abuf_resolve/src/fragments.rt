@@ -2,11 +2,12 @@
 ghost use Rattle.std.specs.Prelude.{◌≡◌, ◌<◌, ◌≤◌, true, nat_lt, length, IfOk};
 ghost use Rattle.std.specs.List.{All};
 ghost use Rattle.std.specs.List.Sorted.{IsNonDecreasing};
+ghost use Rattle.abuf_num.specs.declared.limits.TheConstants.{MAX_PRIMITIVES};
 ghost use Rattle.abuf_raster.specs.Packing.{unpacked};
 ghost use Rattle.abuf_raster.specs.Samples.{offsets_of};
 ghost use Rattle.abuf_resolve.specs.Order.{in_order};
-ghost use Rattle.abuf_resolve.specs.Scene.{IsFragmentOf};
-ghost use Rattle.abuf_resolve.specs.Words.{sample_word, sample_words, has_sample, AreSeen, IsDepthWord, IsFragmentAt};
+ghost use Rattle.abuf_resolve.specs.Scene.{AreSeenAt, IsFragmentOf};
+ghost use Rattle.abuf_resolve.specs.Words.{sample_word, sample_words, has_sample, IsDepthWord, IsFragmentAt};
 
 use crate::order::{push_seen, put_in_order};
 use crate::planes::Planes;
@@ -33,7 +34,7 @@ impl<'a> Planes<'a> {
     /// The fragment of this word in sample k, which it has, as a word: its depth key there times 2^24, plus its primitive number.
     #[inline(always)]
     pub(crate) fn sample_word(&self, word: u64, at: Pixel, pattern: Pattern, k: u32) -> u64
-        requires few { length self.now ≤ 2097152 }
+        requires few { length self.now ≤ MAX_PRIMITIVES }
         requires sample { k < length (offsets_of pattern) }
         requires word { IsFragmentAt (offsets_of pattern) self.now at.x at.y word }
         requires has { has_sample k word ≡ true }
@@ -54,7 +55,7 @@ impl<'a> Planes<'a> {
         pattern: Pattern,
         k: u32,
     ) -> Result<(), NoMemory>
-        requires few { length self.now ≤ 2097152 }
+        requires few { length self.now ≤ MAX_PRIMITIVES }
         requires sample { k < length (offsets_of pattern) }
         requires words { All (IsFragmentAt (offsets_of pattern) self.now at.x at.y) list.now }
         ensures value { IfOk result (λ _. keys.new.items ≡ sample_words (offsets_of pattern) self.now at.x at.y k list.now) }
@@ -71,8 +72,8 @@ impl<'a> Planes<'a> {
 
     /// The fragments of a pixel that have sample k, from the farthest to the nearest. Each is a word: its depth key there times
     /// 2^24, plus its primitive number; the greater key is nearer, and of equal keys the lower number lies beneath. The list has
-    /// the words of the pixel's fragments in any order, with samples alone that their triangles cover. An error means want of
-    /// memory for the buffer.
+    /// the words of the pixel's fragments in any order, with samples alone that their triangles cover. An error means that
+    /// memory for the buffer ran out.
     pub fn sample_words(
         &self,
         keys: &mut Vec<u64>,
@@ -81,7 +82,7 @@ impl<'a> Planes<'a> {
         pattern: Pattern,
         k: u32,
     ) -> Result<(), NoMemory>
-        requires few { length self.now ≤ 2097152 }
+        requires few { length self.now ≤ MAX_PRIMITIVES }
         requires sample { k < length (offsets_of pattern) }
         requires words { All (IsFragmentAt (offsets_of pattern) self.now at.x at.y) list.now }
         ensures value { IfOk result (λ _. keys.new.items ≡ in_order nat_lt (sample_words (offsets_of pattern) self.now at.x at.y k list.now)) }
@@ -106,7 +107,7 @@ impl<'a, 'b> Scene<'a, 'b> {
     ) -> Result<u64, NoMemory>
         requires sample { k < length (offsets_of self.now.pattern) }
         requires words { All (IsFragmentOf self.now at) list.now }
-        ensures seen { IfOk result (λ least. AreSeen self.now.paints.now (sample_words (offsets_of self.now.pattern) self.now.planes at.x at.y k list.now) keys.new.items least) }
+        ensures seen { IfOk result (λ least. AreSeenAt self.now at k list.now keys.new.items least) }
         ensures fits { IfOk result (λ _. All (IsDepthWord (length self.now.paints.now)) keys.new.items) }
     {
         keys.clear();

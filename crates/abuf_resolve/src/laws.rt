@@ -3,6 +3,7 @@
 ghost use Rattle.std.specs.Prelude.{◌≡◌, ◌*◌, ◌<◌, ◌≤◌, length, map, nat_lt, IsPermutation};
 ghost use Rattle.std.specs.List.{All};
 ghost use Rattle.std.specs.List.Sorted.{IsNonDecreasing};
+ghost use Rattle.abuf_num.specs.declared.limits.TheConstants.{MAX_PRIMITIVES};
 ghost use Rattle.abuf_frame.specs.Draws.{payloads_at};
 ghost use Rattle.abuf_raster.specs.Region.{IsRegion};
 ghost use Rattle.abuf_raster.specs.Samples.{offsets_of};
@@ -27,7 +28,7 @@ pub fn list_law(
     sample: u32,
     words: &[u64],
 )
-    requires few { length triangles.now ≤ 2097152 }
+    requires few { length triangles.now ≤ MAX_PRIMITIVES }
     requires sample { sample < length (offsets_of pattern) }
     requires region { IsRegion region }
     requires place { place < region.w * region.h }
@@ -52,7 +53,7 @@ pub fn sums_law(
     background: [u16; 3],
     region: Region,
 )
-    requires few { length triangles.now ≤ 2097152 }
+    requires few { length triangles.now ≤ MAX_PRIMITIVES }
     requires region { IsRegion region }
     requires pixels { length closed.now.lists ≡ region.w * region.h }
     requires lists { AreListsOf (all_fragments triangles.now 0 (offsets_of pattern) region) closed.now.lists }
@@ -62,7 +63,7 @@ pub fn sums_law(
 /// The law of the words. Where the lists of a closed frame hold all fragments of a region, each of their words is one of a
 /// fragment of a primitive in its pixel, with only samples that the primitive covers there.
 pub fn words_law(closed: &Closed, triangles: &[ScreenTri], pattern: Pattern, region: Region)
-    requires few { length triangles.now ≤ 2097152 }
+    requires few { length triangles.now ≤ MAX_PRIMITIVES }
     requires region { IsRegion region }
     requires pixels { length closed.now.lists ≡ region.w * region.h }
     requires lists { AreListsOf (all_fragments triangles.now 0 (offsets_of pattern) region) closed.now.lists }
@@ -80,7 +81,7 @@ pub fn pixel_law(
     place: u32,
     words: &[u64],
 )
-    requires few { length triangles.now ≤ 2097152 }
+    requires few { length triangles.now ≤ MAX_PRIMITIVES }
     requires region { IsRegion region }
     requires place { place < region.w * region.h }
     requires words { AreWordsAt (all_fragments triangles.now 0 (offsets_of pattern) region) place words.now }
@@ -96,7 +97,7 @@ pub fn pixel_law(
 /// The law of one each: at one place of a region there are no more fragments than primitives, in whatever order all
 /// fragments of the region were drawn.
 pub fn one_each_law(triangles: &[ScreenTri], pattern: Pattern, region: Region, place: u32)
-    requires few { length triangles.now ≤ 2097152 }
+    requires few { length triangles.now ≤ MAX_PRIMITIVES }
     requires region { IsRegion region }
     requires place { place < region.w * region.h }
     ensures { HasOneEach (all_fragments triangles.now 0 (offsets_of pattern) region) place (length triangles.now) }
@@ -105,7 +106,7 @@ pub fn one_each_law(triangles: &[ScreenTri], pattern: Pattern, region: Region, p
 /// The law of the lengths. Where the lists of a closed frame hold all fragments of a region, drawn in any order, each list is
 /// as long as there are primitives present in its pixel.
 pub fn lengths_law(closed: &Closed, triangles: &[ScreenTri], pattern: Pattern, region: Region)
-    requires few { length triangles.now ≤ 2097152 }
+    requires few { length triangles.now ≤ MAX_PRIMITIVES }
     requires region { IsRegion region }
     requires pixels { length closed.now.lists ≡ region.w * region.h }
     requires lists { AreListsOf (all_fragments triangles.now 0 (offsets_of pattern) region) closed.now.lists }

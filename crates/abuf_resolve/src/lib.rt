@@ -32,5 +32,5 @@ mod threads;
 pub use fold::{laid_over, over, sample_colour};
 pub use planes::Planes;
 pub use runs::Resolved;
-pub use scene::Pixel;
+pub use scene::{Pixel, Scene};
 pub use threads::{resolve, resolve_counted};

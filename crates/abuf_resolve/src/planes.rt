@@ -50,7 +50,7 @@ fn planes_of(alloc: Global, tris: &[ScreenTri]) -> Result<List<DepthPlane>, NoMe
 }
 
 impl<'a> Planes<'a> {
-    /// The triangles, made ready. An error means want of memory.
+    /// The triangles, made ready. An error means that memory ran out.
     pub fn new(alloc: Global, tris: &'a [ScreenTri]) -> Result<Planes<'a>, NoMemory>
         ensures { IfOk result (λ planes. planes ≡ tris.now) }
     {

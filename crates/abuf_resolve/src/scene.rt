@@ -1,5 +1,6 @@
 // What is drawn, as resolving sees it.
 ghost use Rattle.std.specs.Prelude.{◌≡◌, ◌<◌, ◌≤◌, length};
+ghost use Rattle.abuf_num.specs.declared.limits.TheConstants.{MAX_PRIMITIVES, MAX_SIDE};
 
 use crate::planes::Planes;
 use abuf_num::Paint;
@@ -10,17 +11,18 @@ use abuf_raster::Pattern;
 pub struct Pixel {
     pub x: u32,
     pub y: u32,
-    pub ghost x_small: { x < 4096 },
-    pub ghost y_small: { y < 4096 },
+    pub ghost x_small: { x < MAX_SIDE },
+    pub ghost y_small: { y < MAX_SIDE },
 }
 
-/// Triangles, a paint for each, where their samples lie, and what they are laid over.
+/// What is resolved: triangles, a paint for each, where the samples of a pixel lie, and the colour under all triangles, each
+/// channel from 0 to 65535.
 #[derive(Drop)]
-pub(crate) struct Scene<'a, 'b> {
-    pub(crate) planes: Planes<'a>,
-    pub(crate) paints: &'b [Paint],
-    pub(crate) pattern: Pattern,
-    pub(crate) background: [u16; 3],
-    pub(crate) ghost few: { length planes ≤ 2097152 },
-    pub(crate) ghost painted: { length paints.now ≡ length planes },
+pub struct Scene<'a, 'b> {
+    pub planes: Planes<'a>,
+    pub paints: &'b [Paint],
+    pub pattern: Pattern,
+    pub background: [u16; 3],
+    pub ghost few: { length planes ≤ MAX_PRIMITIVES },
+    pub ghost painted: { length paints.now ≡ length planes },
 }

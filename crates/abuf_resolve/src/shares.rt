@@ -1,6 +1,7 @@
 // How the pixels are shared among workers: in blocks of 64, block after block in turn, since what is drawn often lies in the
 // middle of the image.
 ghost use Rattle.std.specs.Prelude.{◌≡◌, ◌^◌, ◌<◌, ◌≤◌};
+ghost use Rattle.abuf_num.specs.declared.limits.TheConstants.{MAX_PIXELS, MAX_THREADS};
 ghost use Rattle.abuf_resolve.specs.Shares.{count_of, place_at};
 
 /// The pixels of one of 1 to 64 workers.
@@ -9,14 +10,14 @@ pub(crate) struct Share {
     pub(crate) threads: u32,
     pub(crate) worker: u32,
     pub(crate) ghost some: { worker < threads },
-    pub(crate) ghost few: { threads ≤ 64 },
+    pub(crate) ghost few: { threads ≤ MAX_THREADS },
 }
 
 impl Share {
     /// Those of this worker, of so many workers.
     pub(crate) fn new(threads: u32, worker: u32) -> Share
         requires some { worker < threads }
-        requires few { threads ≤ 64 }
+        requires few { threads ≤ MAX_THREADS }
         ensures { (result.threads ≡ threads) × (result.worker ≡ worker) }
     {
         Share { threads, worker }
@@ -24,7 +25,7 @@ impl Share {
 
     /// How many of so many pixels it has.
     pub(crate) fn count(self, pixels: u32) -> u32
-        requires { pixels ≤ 4194304 }
+        requires { pixels ≤ MAX_PIXELS }
         ensures { result ≡ count_of pixels self.threads self.worker }
     {
         let round = 64 * self.threads;

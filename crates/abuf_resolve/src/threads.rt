@@ -1,9 +1,11 @@
 // The sums of all pixels, on threads.
 ghost use Rattle.std.specs.Prelude.{◌≡◌, ◌*◌, ◌<◌, ◌≤◌, length, map, Ok, IfOk};
 ghost use Rattle.std.specs.List.{range_with_len, All};
+ghost use Rattle.abuf_num.specs.declared.limits.TheConstants.{MAX_PIXELS, MAX_PRIMITIVES, MAX_THREADS};
 ghost use Rattle.abuf_raster.specs.Region.{IsRegion};
 ghost use Rattle.abuf_raster.specs.Samples.{offsets_of};
 ghost use Rattle.abuf_resolve.specs.Parts.{AreOfBlock, AreParts, HaveAll, IsPart, joined, longest_in, sums_in};
+ghost use Rattle.abuf_resolve.specs.Scene.{sums_of};
 ghost use Rattle.abuf_resolve.specs.Shares.{greatest};
 ghost use Rattle.abuf_resolve.specs.Sums.{IsSmall};
 ghost use Rattle.abuf_resolve.specs.Words.{frame_sums, AreFragmentLists};
@@ -31,8 +33,8 @@ fn all_of(alloc: Global, parts: Vec<Result<Resolved, NoMemory>>) -> Result<Vec<R
 
 /// The sums of a block of 64 pixels, or of what is left for the last one, from the part of its worker.
 fn block_sums(parts: &[Resolved], pixels: usize, block: usize) -> &[PixelSum]
-    requires workers { (1 ≤ length parts.now) × (length parts.now ≤ 64) }
-    requires pixels { pixels ≤ 4194304 }
+    requires workers { (1 ≤ length parts.now) × (length parts.now ≤ MAX_THREADS) }
+    requires pixels { pixels ≤ MAX_PIXELS }
     requires all { HaveAll (map sums_in parts.now) pixels }
     requires block { 64 * block < pixels }
     ensures { AreOfBlock (map sums_in parts.now) pixels block result.now }
@@ -45,8 +47,8 @@ fn block_sums(parts: &[Resolved], pixels: usize, block: usize) -> &[PixelSum]
 
 /// The sums of all pixels, by ascending place.
 fn join_sums(alloc: Global, pixels: usize, parts: &[Resolved]) -> Result<List<PixelSum>, NoMemory>
-    requires workers { (1 ≤ length parts.now) × (length parts.now ≤ 64) }
-    requires pixels { pixels ≤ 4194304 }
+    requires workers { (1 ≤ length parts.now) × (length parts.now ≤ MAX_THREADS) }
+    requires pixels { pixels ≤ MAX_PIXELS }
     requires all { HaveAll (map sums_in parts.now) pixels }
     ensures { IfOk result (λ sums. sums ≡ joined (map sums_in parts.now) pixels) }
 {
@@ -79,7 +81,7 @@ impl<'a, 'b> Scene<'a, 'b> {
     ) -> Result<Resolved, NoMemory>
         requires region { IsRegion region }
         requires pixels { length closed.now.lists ≡ region.w * region.h }
-        requires workers { (1 ≤ length parts.items) × (length parts.items ≤ 64) }
+        requires workers { (1 ≤ length parts.items) × (length parts.items ≤ MAX_THREADS) }
         requires parts { AreParts self.now region closed.now.lists parts.items }
         ensures { IfOk result (λ all. IsPart self.now region closed.now.lists (range_with_len 0 (region.w * region.h)) all) }
     {
@@ -95,7 +97,7 @@ impl<'a, 'b> Scene<'a, 'b> {
 /// equal keys the lower primitive number lies beneath. The pixels are shared among 1 to 64 workers, and the sums
 /// are the same for every number of them. The frame must not be full, since then its lists lack fragments; each payload
 /// is the word of a fragment of one of these triangles, and its mask has only samples that the triangle covers in that pixel.
-/// An error means want of memory.
+/// An error means that memory ran out.
 pub fn resolve<R: Threads + Sync>(
     rt: &R,
     alloc: Global,
@@ -108,43 +110,14 @@ pub fn resolve<R: Threads + Sync>(
     threads: u32,
 ) -> Result<List<PixelSum>, NoMemory>
     requires not_full { closed.now.fragments ≤ closed.now.nodes }
-    requires threads { (1 ≤ threads) × (threads ≤ 64) }
+    requires threads { (1 ≤ threads) × (threads ≤ MAX_THREADS) }
     requires region { IsRegion region }
     requires pixels { length closed.now.lists ≡ region.w * region.h }
-    requires few { length tris.now ≤ 2097152 }
+    requires few { length tris.now ≤ MAX_PRIMITIVES }
     requires paints { length paints.now ≡ length tris.now }
     requires words { AreFragmentLists (offsets_of pattern) tris.now region closed.now.lists }
     ensures value { IfOk result (λ sums. sums ≡ frame_sums (offsets_of pattern) background tris.now paints.now region closed.now.lists) }
     ensures small { IfOk result (λ sums. All (IsSmall (length (offsets_of pattern))) sums) }
-{
-    let Resolved { sums, longest: _ } = resolve_counted(
-        rt, alloc, closed, region, tris, paints, pattern, background, threads,
-    )?;
-    Ok(sums)
-}
-
-/// The same, with the length of the longest list of a pixel, which the workers learn on the way.
-pub fn resolve_counted<R: Threads + Sync>(
-    rt: &R,
-    alloc: Global,
-    closed: &Closed,
-    region: Region,
-    tris: &[ScreenTri],
-    paints: &[Paint],
-    pattern: Pattern,
-    background: [u16; 3],
-    threads: u32,
-) -> Result<Resolved, NoMemory>
-    requires not_full { closed.now.fragments ≤ closed.now.nodes }
-    requires threads { (1 ≤ threads) × (threads ≤ 64) }
-    requires region { IsRegion region }
-    requires pixels { length closed.now.lists ≡ region.w * region.h }
-    requires few { length tris.now ≤ 2097152 }
-    requires paints { length paints.now ≡ length tris.now }
-    requires words { AreFragmentLists (offsets_of pattern) tris.now region closed.now.lists }
-    ensures value { IfOk result (λ all. all.sums ≡ frame_sums (offsets_of pattern) background tris.now paints.now region closed.now.lists) }
-    ensures small { IfOk result (λ all. All (IsSmall (length (offsets_of pattern))) all.sums) }
-    ensures longest { IfOk result (λ all. all.longest ≡ greatest (map length closed.now.lists)) }
 {
     let scene = Scene {
         planes: Planes::new(alloc, tris)?,
@@ -152,6 +125,29 @@ pub fn resolve_counted<R: Threads + Sync>(
         pattern,
         background,
     };
+    let all = resolve_counted(rt, alloc, closed, region, &scene, threads)?;
+    Ok(all.sums)
+}
+
+/// The same, with the length of the longest list of a pixel, which the workers learn on the way. Here the triangles are a scene,
+/// whose planes were made ready before.
+pub fn resolve_counted<R: Threads + Sync>(
+    rt: &R,
+    alloc: Global,
+    closed: &Closed,
+    region: Region,
+    scene: &Scene,
+    threads: u32,
+) -> Result<Resolved, NoMemory>
+    requires not_full { closed.now.fragments ≤ closed.now.nodes }
+    requires threads { (1 ≤ threads) × (threads ≤ MAX_THREADS) }
+    requires region { IsRegion region }
+    requires pixels { length closed.now.lists ≡ region.w * region.h }
+    requires words { AreFragmentLists (offsets_of scene.now.pattern) scene.now.planes region closed.now.lists }
+    ensures value { IfOk result (λ all. all.sums ≡ sums_of scene.now region closed.now.lists) }
+    ensures small { IfOk result (λ all. All (IsSmall (length (offsets_of scene.now.pattern))) all.sums) }
+    ensures longest { IfOk result (λ all. all.longest ≡ greatest (map length closed.now.lists)) }
+{
     let parts = map_indices(
         rt,
         alloc,

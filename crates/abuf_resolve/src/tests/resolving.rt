@@ -6,7 +6,7 @@ ghost use Rattle.abuf_raster.specs.Coverage.{covers};
 ghost use Rattle.abuf_raster.specs.Region.{IsRegion};
 ghost use Rattle.abuf_resolve.specs.Words.{IsFragmentAt, AreFragmentLists};
 
-use crate::{Resolved, over, resolve, resolve_counted};
+use crate::{Planes, Resolved, Scene, over, resolve, resolve_counted};
 use abuf_frame::{Closed, Frame};
 use abuf_num::{NoMemory, Paint, PixelSum};
 use abuf_raster::{Fragment, Pattern, Region, ScreenTri, depth_at, mask_at, pack};
@@ -243,9 +243,13 @@ fn resolved<R: Threads + Sync>(
     let sums = resolve(
         rt, alloc, &closed, region, tris, paints, pattern, WHITE, threads,
     )?;
-    let all = resolve_counted(
-        rt, alloc, &closed, region, tris, paints, pattern, WHITE, threads,
-    )?;
+    let scene = Scene {
+        planes: Planes::new(alloc, tris)?,
+        paints,
+        pattern,
+        background: WHITE,
+    };
+    let all = resolve_counted(rt, alloc, &closed, region, &scene, threads)?;
     if sums.as_slice() != all.sums.as_slice() {
         return Err("two answers".into());
     }
@@ -273,44 +277,28 @@ fn sums_of_two<R: Threads + Sync>(
     }
 }
 
-// At sample 0 of two the triangle with a slope is the nearer, at sample 1 the farther. Its keys are 507903 and 409599, those of
-// the level one 466033.
+/// A triangle with a slope crosses a level one inside of the pixel: at sample 0 of two it is the nearer, at sample 1 the farther.
+/// Its keys are 507903 and 409599, those of the level one 466033. Of one triangle drawn twice the later one lies on top.
 #[test]
-fn triangles_that_cross_inside_of_a_pixel(rt: HostRuntime) -> Result<(), Fail> {
-    let level = ScreenTri::new([-128, 896, -128], [-128, -128, 896], [466033; 3]).ok_or("level")?;
-    let q = [262143, 1048575, 262143];
-    let slope = ScreenTri::new([-128, 896, -128], [-128, -128, 896], q).ok_or("slope")?;
-    let paints = [paint(65535, 0, 0, 65535), paint(0, 65535, 0, 65535)];
-    let tris = [level, slope];
-    assert_eq!(rt;
-        sums_of_two(&rt, rt.alloc(), &tris, &paints, Pattern::One)?,
-        [65535, 0, 0]
-    );
-    assert_eq!(rt;
-        sums_of_two(&rt, rt.alloc(), &tris, &paints, Pattern::Two)?,
-        [65535, 65535, 0]
-    );
-    let tris = [slope, level];
-    assert_eq!(rt;
-        sums_of_two(&rt, rt.alloc(), &tris, &paints, Pattern::Two)?,
-        [65535, 65535, 0]
-    );
-    Ok(())
-}
-
-// Of one triangle drawn twice the later one lies on top: half green over red.
-#[test]
-fn equal_keys_are_ordered_by_number(rt: HostRuntime) -> Result<(), Fail> {
-    let t = ScreenTri::new([-128, 896, -128], [-128, -128, 896], [7, 8, 9]).ok_or("t")?;
-    let paints = [paint(65535, 0, 0, 65535), paint(0, 65535, 0, 32768)];
-    assert_eq!(rt;
-        sums_of_two(&rt, rt.alloc(), &[t, t], &paints, Pattern::One)?,
-        [32767, 32768, 0]
-    );
-    assert_eq!(rt;
-        sums_of_two(&rt, rt.alloc(), &[t, t], &paints, Pattern::Two)?,
-        [65534, 65536, 0]
-    );
+fn two_fragments_of_one_pixel(rt: HostRuntime) -> Result<(), Fail> {
+    let xs = [-128, 896, -128];
+    let ys = [-128, -128, 896];
+    let level = ScreenTri::new(xs, ys, [466033; 3]).ok_or("level")?;
+    let slope = ScreenTri::new(xs, ys, [262143, 1048575, 262143]).ok_or("slope")?;
+    let red = paint(65535, 0, 0, 65535);
+    let green = paint(0, 65535, 0, 65535);
+    let half_green = paint(0, 65535, 0, 32768);
+    let rows = [
+        ([level, slope], green, Pattern::One, [65535, 0, 0]),
+        ([level, slope], green, Pattern::Two, [65535, 65535, 0]),
+        ([slope, level], green, Pattern::Two, [65535, 65535, 0]),
+        ([level, level], half_green, Pattern::One, [32767, 32768, 0]),
+        ([level, level], half_green, Pattern::Two, [65534, 65536, 0]),
+    ];
+    for (tris, second, pattern, wanted) in rows {
+        let sums = sums_of_two(&rt, rt.alloc(), &tris, &[red, second], pattern)?;
+        assert_eq!(rt; sums, wanted);
+    }
     Ok(())
 }
 
@@ -381,29 +369,6 @@ fn pixels_without_fragments(rt: HostRuntime) -> Result<(), Fail> {
         for sum in all.sums.as_slice() {
             assert_eq!(rt; sum.channels, [1048560; 3]);
         }
-    }
-    Ok(())
-}
-
-// With memory refused at any one place this ends for want of memory, or gives these sums.
-#[test]
-fn refused_memory_gives_no_other_sums(rt: HostRuntime) -> Result<(), Fail> {
-    let t = ScreenTri::new([0, 6000, 0], [0, 0, 3000], [7, 8, 9]).ok_or("t")?;
-    let case = Case {
-        tris: &[t, t],
-        paints: &[paint(65535, 0, 0, 65535), paint(0, 65535, 0, 32768)],
-        pattern: Pattern::Two,
-        region: Region {
-            x0: 0,
-            y0: 0,
-            w: 3,
-            h: 1,
-        },
-    };
-    let all = resolved(&rt, rt.alloc(), &case, 3)?;
-    assert!(rt; all.longest == 2 && all.sums.as_slice().len() == 3);
-    for sum in all.sums.as_slice() {
-        assert_eq!(rt; sum.channels, [65534, 65536, 0]);
     }
     Ok(())
 }

@@ -1,4 +1,4 @@
-use Rattle.std.proofs.Common.{◌≡◌, ◌∙◌, ◌%◌, ◌∷◌, [], ◌<◌, min, ℕ, zero, suc, List, cond, eqb, take, refl, length, get_or, bit_and, ap, sym, arith}
+use Rattle.std.proofs.Common.{◌≡◌, ◌∙◌, ◌%◌, ◌∷◌, [], ◌<◌, min, ℕ, zero, suc, List, take, refl, length, get_or, bit_and, ap, sym, arith, ◌==◌, if◌then◌else◌}
 use Rattle.std.specs.Int.{bit_at}
 use Rattle.std.specs.List.{filter}
 use Rattle.std.proofs.lemmas.List.{take_more}
@@ -11,7 +11,7 @@ use Rattle.abuf_resolve.proofs.having.are_apart.Goals as goal
 -- A word is kept as often as its bit says.
 kept_once : (k w : ℕ) → length (filter (has_sample k) (w ∷ [])) ≡ bit_at (w % 65536) k
 kept_once k w = go (bit_at (w % 65536) k) (bit_at-lt (w % 65536) k) where
-  go : (b : ℕ) → b < 2 → length (cond (eqb b 1) (w ∷ []) []) ≡ b
+  go : (b : ℕ) → b < 2 → length (if b == 1 then w ∷ [] else []) ≡ b
   go zero l = refl
   go (suc zero) l = refl
   go (suc (suc b)) l = absurd (omega arith)

@@ -1,4 +1,4 @@
-use Rattle.std.proofs.Common.{arith, ap, map, ◌∙◌, subst, ◌≡◌, ◌^◌, ◌+◌, ◌%◌, ◌/◌, ◌≤◌, ℕ, List, length, ltb}
+use Rattle.std.proofs.Common.{arith, ap, map, ◌∙◌, subst, ◌≡◌, ◌^◌, ◌+◌, ◌%◌, ◌/◌, ◌≤◌, ℕ, List, length, nat_lt}
 use Rattle.abuf_raster.specs.Samples.{offsets_of}
 use Rattle.abuf_raster.proofs.Masks.{offsets_few}
 use Rattle.abuf_resolve.specs.Pixel.{present}
@@ -35,5 +35,5 @@ returns c =
           ap (map layer_of) (layers_are os tris r p k words few l limit c.requires.region c.requires.place alike)
           ∙ told_are tris os few x y k l (layers os tris x y k) (layers_below tris os few x y k l limit);
       fit = fit;
-      ordered_fit = All-in_order (IsFragmentAt os tris (r.x0 + p % r.w) (r.y0 + p / r.w)) ltb words fit;
+      ordered_fit = All-in_order (IsFragmentAt os tris (r.x0 + p % r.w) (r.y0 + p / r.w)) nat_lt words fit;
     }

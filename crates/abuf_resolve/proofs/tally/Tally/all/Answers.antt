@@ -1,4 +1,4 @@
-use Rattle.std.proofs.Common.{◌∙◌, ℕ, not, eqb, ap}
+use Rattle.std.proofs.Common.{◌∙◌, ℕ, not, ap, ◌==◌}
 use Rattle.std.proofs.lemmas.Nat.Bits.{bit_at-zero}
 use Rattle.abuf_resolve.specs.Tally.{in_set}
 use Rattle.abuf_resolve.proofs.Sets.{whole}
@@ -7,4 +7,4 @@ use Rattle.abuf_resolve.proofs.tally.Tally.all.Goals as goal
 pub returns-clause-value : goal.returns-clause-value
 returns-clause-value c = λ colours holds.
     holds ∙ whole (λ k. not (in_set c.args.self.rest k)) colours c.args.self.samples
-    (λ k l. ap (λ (r : ℕ). not (in_set r k)) c.requires.all ∙ ap (λ (b : ℕ). not (eqb b 1)) (bit_at-zero k))
+    (λ k l. ap (λ (r : ℕ). not (in_set r k)) c.requires.all ∙ ap (λ (b : ℕ). not (b == 1)) (bit_at-zero k))

@@ -1,4 +1,4 @@
-use Rattle.std.proofs.Common.{◌≡◌, ◌∙◌, ◌<◌, ◌/◌, ◌%◌, ℕ, true, eqb, ap, sym, subst, length, arith}
+use Rattle.std.proofs.Common.{◌≡◌, ◌∙◌, ◌<◌, ◌/◌, ◌%◌, ℕ, true, ap, sym, subst, length, arith, ◌==◌}
 use Rattle.std.specs.Int.{bit_at}
 use Rattle.std.proofs.lemmas.Bool.{eqb-true}
 use Rattle.std.proofs.lemmas.List.{get_or_default}
@@ -25,5 +25,5 @@ returns c = λ same.
       known = known;
       covered = λ k l has.
           subst (λ (t : Triangle). covers t os x y k ≡ true) is
-          (sym (bit_covers t os x y k l) ∙ (ap (λ (m : ℕ). eqb (bit_at m k) 1) (sym c.mask_at.ensures ∙ mask) ∙ has));
+          (sym (bit_covers t os x y k l) ∙ (ap (λ (m : ℕ). bit_at m k == 1) (sym c.mask_at.ensures ∙ mask) ∙ has));
     }
