@@ -1,5 +1,6 @@
 // The pixels of a band.
 ghost use Rattle.std.specs.Prelude.{◌≡◌, ◌<◌, ◌≤◌};
+ghost use Rattle.abuf_num.specs.declared.limits.TheConstants.{MAX_SIDE};
 ghost use Rattle.abuf_raster.specs.Region.{IsImageSize, IsRegion};
 ghost use Rattle.abuf_band.specs.Bands.{band_region, first_row};
 
@@ -9,7 +10,7 @@ use abuf_raster::Region;
 fn first_row(height: u32, bands: u32, band: u32) -> u32
     requires bands { (1 ≤ bands) × (bands ≤ height) }
     requires band { band ≤ bands }
-    requires height { height ≤ 4096 }
+    requires height { height ≤ MAX_SIDE }
     ensures value { result ≡ first_row height bands band }
     ensures within { result ≤ height }
 {

@@ -1,5 +1,6 @@
 // An image rendered band by band.
 ghost use Rattle.std.specs.Prelude.{◌≡◌, ◌≤◌, length};
+ghost use Rattle.abuf_num.specs.declared.limits.TheConstants.{MAX_NODES, MAX_PRIMITIVES, MAX_THREADS};
 ghost use Rattle.abuf_raster.specs.Region.{IsImageSize};
 ghost use Rattle.abuf_band.specs.Answers.{Banded, IsAnswer, IsBandAnswer};
 
@@ -37,7 +38,7 @@ fn band_sums<R: Threads + Sync>(
 
 /// For each pixel of an image of this size, in order, the sums over its samples. The image is drawn in bands that share its
 /// rows evenly, from 1 band to as many as there are rows; besides the sums, memory holds the frame of one band at a time. Each
-/// band has nodes for 1 to 8388608 fragments, and 1 to 64 threads draw and resolve it. Where the nodes are enough for each band,
+/// band has nodes for 1 to `MAX_NODES` fragments, and 1 to `MAX_THREADS` threads draw and resolve it. Where the nodes are enough for each band,
 /// the sums don't depend on the numbers of bands, nodes and threads; else the first band that is full is named.
 pub fn render_bands<R: Threads + Sync>(
     rt: &R,
@@ -51,11 +52,11 @@ pub fn render_bands<R: Threads + Sync>(
     threads: u32,
     bands: u32,
 ) -> Result<List<PixelSum>, BandFault>
-    requires few { length shown.now.tris ≤ 2097152 }
+    requires few { length shown.now.tris ≤ MAX_PRIMITIVES }
     requires painted { length shown.now.paints ≡ length shown.now.tris }
     requires size { IsImageSize width height }
-    requires nodes { (1 ≤ nodes) × (nodes ≤ 8388608) }
-    requires threads { (1 ≤ threads) × (threads ≤ 64) }
+    requires nodes { (1 ≤ nodes) × (nodes ≤ MAX_NODES) }
+    requires threads { (1 ≤ threads) × (threads ≤ MAX_THREADS) }
     requires bands { (1 ≤ bands) × (bands ≤ height) }
     ensures { let image : Banded = record { width = width; height = height; pattern = pattern; background = background; bands = bands; nodes = nodes } in
         IsAnswer shown.now.tris shown.now.paints image result }
