@@ -1,5 +1,5 @@
 -- The primitives that are offered to a region.
-use Rattle.std.proofs.Common.{◌≡◌, ℕ, ◌*◌, ◌/◌, ◌%◌, ◌<◌, ◌≤◌, Bool, false, cond, List, [], ◌∷◌, ◌++◌, length, ℤ, All, ap, ◌∙◌, sym, arith}
+use Rattle.std.proofs.Common.{◌≡◌, ℕ, ◌*◌, ◌/◌, ◌%◌, ◌<◌, ◌≤◌, Bool, false, List, [], ◌∷◌, ◌++◌, length, ℤ, All, ap, ◌∙◌, sym, arith, if◌then◌else◌}
 use Rattle.std.specs.List.{range_with_len}
 use Rattle.std.proofs.lemmas.List.{append-nil}
 use Rattle.std.proofs.lemmas.List.Elements.{filter-append}
@@ -37,7 +37,7 @@ pub left_out : (os : List (ℤ × ℤ)) (tris : List Triangle) (s : Sample) (mem
 left_out os tris s members n t e none =
     let off : covers (triangle_at tris n) os s.x s.y s.k ≡ false = ap (λ (u : Triangle). covers u os s.x s.y s.k) (sym e) ∙ none in
     sym (filter-append (λ m. covers (triangle_at tris m) os s.x s.y s.k) members (n ∷ [])
-    ∙ (ap (λ (v : Bool). covering_among os tris s members ++ cond v (n ∷ []) []) off ∙ append-nil (covering_among os tris s members)))
+    ∙ (ap (λ (v : Bool). covering_among os tris s members ++ (if v then n ∷ [] else [])) off ∙ append-nil (covering_among os tris s members)))
 
 -- All primitives are known, and have all.
 pub all_numbers : (os : List (ℤ × ℤ)) (tris : List Triangle) → All (λ n. n < length tris) (range_with_len 0 (length tris))

@@ -1,5 +1,5 @@
 -- What a step finds, and what a sample then takes.
-use Rattle.std.proofs.Common.{◌≡◌, ℕ, ◌+◌, ◌^◌, ◌<◌, ◌≤◌, min, ◌⊎◌, inl, inr, Bool, true, false, ◌&&◌, cond, if◌then◌else◌, ltb, List, [], ◌∷◌, ◌++◌, map, length, ℤ, Option, Some, None, is_some, refl, ap, ◌∙◌, sym, subst, true≢false, arith}
+use Rattle.std.proofs.Common.{◌≡◌, ℕ, ◌+◌, ◌^◌, ◌<◌, ◌≤◌, min, ◌⊎◌, inl, inr, Bool, true, false, ◌&&◌, if◌then◌else◌, List, [], ◌∷◌, ◌++◌, map, length, ℤ, Option, Some, None, is_some, refl, ap, ◌∙◌, sym, subst, true≢false, arith, nat_lt}
 use Rattle.std.specs.List.{filter, range_with_len}
 use Rattle.std.proofs.lemmas.Bool.{lt-ltb, le-ltb, eq-eqb, ne_eqb, cases_lt}
 use Rattle.std.proofs.lemmas.List.{append-nil, map-append, map-id}
@@ -33,16 +33,16 @@ least_more (x ∷ xs) w = go (least xs) (least_more xs w) where
 finds_word : (count from w : ℕ) (xs : List ℕ) (best : ℕ) → IsDepthWord count w → Finds count (least xs) best
     → Finds count (least (xs ++ (if reaches from w then w ∷ [] else []))) (lowered from w best)
 finds_word count from w xs best is f = go (reaches from w) where
-  by_least : (o : Option ℕ) → Finds count o best → Finds count (Some (lower_of w o)) (if ltb w best then w else best)
+  by_least : (o : Option ℕ) → Finds count o best → Finds count (Some (lower_of w o)) (if nat_lt w best then w else best)
   by_least None e = let l : w < best = omega (arith, is.fits, e) in rw (lt-ltb w best l) (refl, is)
   by_least (Some b) e = by_order (cases_lt w best) where
-    by_order : (w < best) ⊎ (best ≤ w) → Finds count (Some (min w b)) (if ltb w best then w else best)
+    by_order : (w < best) ⊎ (best ≤ w) → Finds count (Some (min w b)) (if nat_lt w best then w else best)
     by_order (inl l) = rw (lt-ltb w best l) (let s : w ≡ min w b = omega (arith, e.0) in (s, subst (IsDepthWord count) s is))
     by_order (inr l) = rw (le-ltb w best l) (let s : best ≡ min w b = omega (arith, e.0) in (s, subst (IsDepthWord count) (sym e.0 ∙ s) e.1))
 
-  go : (v : Bool) → Finds count (least (xs ++ (if v then w ∷ [] else []))) (if v && ltb w best then w else best)
+  go : (v : Bool) → Finds count (least (xs ++ (if v then w ∷ [] else []))) (if v && nat_lt w best then w else best)
   go false = subst (λ (ys : List ℕ). Finds count (least ys) best) (sym (append-nil xs)) f
-  go true = subst (λ (o : Option ℕ). Finds count o (if ltb w best then w else best)) (sym (least_more xs w)) (by_least (least xs) f)
+  go true = subst (λ (o : Option ℕ). Finds count o (if nat_lt w best then w else best)) (sym (least_more xs w)) (by_least (least xs) f)
 
 module _ (os : List (ℤ × ℤ)) (tris : List Triangle) (s : Sample) (from : ℕ) where
   -- Among no primitives nothing is found.
@@ -56,7 +56,7 @@ module _ (os : List (ℤ × ℤ)) (tris : List Triangle) (s : Sample) (from : �
       ap (map (layer_word os tris s.x s.y s.k)) (filter-append (λ m. covers (triangle_at tris m) os s.x s.y s.k) ns (n ∷ []))
       ∙ (map-append (layer_word os tris s.x s.y s.k) (filter (λ m. covers (triangle_at tris m) os s.x s.y s.k) ns) (filter (λ m. covers (triangle_at tris m) os s.x s.y s.k) (n ∷ []))
       ∙ ap (λ (ws : List ℕ). words_among os tris s ns ++ ws)
-      (elim (covers (triangle_at tris n) os s.x s.y s.k) as (λ (v : Bool). map (layer_word os tris s.x s.y s.k) (cond v (n ∷ []) []) ≡ (if v then layer_word os tris s.x s.y s.k n ∷ [] else [])) [ true ↦ refl | false ↦ refl ]))
+      (elim (covers (triangle_at tris n) os s.x s.y s.k) as (λ (v : Bool). map (layer_word os tris s.x s.y s.k) (if v then n ∷ [] else []) ≡ (if v then layer_word os tris s.x s.y s.k n ∷ [] else [])) [ true ↦ refl | false ↦ refl ]))
 
   -- What is found among some primitives, once one more is offered.
   pub finds_more : (ns : List ℕ) (n best new : ℕ) → n < length tris → length tris ≤ 2 ^ 24

@@ -1,5 +1,5 @@
 -- Hits, and the samples that they have.
-use Rattle.std.proofs.Common.{◌≡◌, ℕ, zero, suc, ◌+◌, ◌-◌, ◌*◌, ◌/◌, ◌%◌, ◌<◌, ◌≤◌, ◌⊎◌, inl, inr, Bool, true, false, ◌&&◌, ◌||◌, if◌then◌else◌, eqb, List, [], ◌∷◌, length, ℤ, Some, None, IsPermutation, All, refl, ap, ap₂, ◌∙◌, sym, arith, mul-le-mul}
+use Rattle.std.proofs.Common.{◌≡◌, ℕ, zero, suc, ◌+◌, ◌-◌, ◌*◌, ◌/◌, ◌%◌, ◌<◌, ◌≤◌, ◌⊎◌, inl, inr, Bool, true, false, ◌&&◌, ◌||◌, if◌then◌else◌, List, [], ◌∷◌, length, ℤ, Some, None, IsPermutation, All, refl, ap, ap₂, ◌∙◌, sym, arith, mul-le-mul, ◌==◌}
 use Rattle.std.specs.List.{filter_map, cons_option, range_with_len, list_any}
 use Rattle.std.proofs.lemmas.Bool.{eq-eqb, ne_eqb, eqb-true, cases_eq}
 use Rattle.std.proofs.lemmas.Nat.{div-add-mod', div-mul-add, mod-mul-add, div_below, mod_below}
@@ -37,7 +37,7 @@ hit_sample r size k h is l =
 pub hit_has : (r : Region) (size k : ℕ) (h : Hit) → k < size → has_at r size (place_of r h.x h.y * size + k) h ≡ has_sample h k
 unfolding has_at
 hit_has r size k h l =
-    ap₂ (λ (p q : ℕ). eqb (place_of r h.x h.y) p && has_sample h q) (div-mul-add (place_of r h.x h.y) size k l) (mod-mul-add (place_of r h.x h.y) size k l)
+    ap₂ (λ (p q : ℕ). (place_of r h.x h.y == p) && has_sample h q) (div-mul-add (place_of r h.x h.y) size k l) (mod-mul-add (place_of r h.x h.y) size k l)
     ∙ ap (λ (b : Bool). b && has_sample h k) (eq-eqb (place_of r h.x h.y) (place_of r h.x h.y) refl)
 
 -- It has no sample of another pixel.
@@ -51,7 +51,7 @@ module _ (t : Triangle) (n : ℕ) (os : List (ℤ × ℤ)) (r : Region) (is : Is
   masks_are : (qs : List ℕ) → All (HasMask t os) (filter_map (hit_at t n os r) qs)
   masks_are [] = All-nil (HasMask t os)
   masks_are (q ∷ qs) =
-      elim (eqb (mask t os (r.x0 + q % r.w) (r.y0 + q / r.w)) 0) as (λ (v : Bool).
+      elim (mask t os (r.x0 + q % r.w) (r.y0 + q / r.w) == 0) as (λ (v : Bool).
       All (HasMask t os) (cons_option (if v then None else Some (record { x = r.x0 + q % r.w; y = r.y0 + q / r.w; fragment = record { prim = n; mask = mask t os (r.x0 + q % r.w) (r.y0 + q / r.w) } })) (filter_map (hit_at t n os r) qs))) [
         | true ↦ masks_are qs
         | false ↦ All-cons (HasMask t os) _ (filter_map (hit_at t n os r) qs) refl (masks_are qs)
@@ -71,23 +71,23 @@ module _ (t : Triangle) (n : ℕ) (os : List (ℤ × ℤ)) (r : Region) (is : Is
     here = covers t os (r.x0 + at % r.w) (r.y0 + at / r.w) (j % length os)
 
     -- Whether the hit of a place has the sample.
-    step : (q : ℕ) (rest : List Hit) → list_any (has_at r (length os) j) (cons_option (hit_at t n os r q) rest) ≡ ((eqb q (j / length os) && covers t os (r.x0 + q % r.w) (r.y0 + q / r.w) (j % length os)) || list_any (has_at r (length os) j) rest)
+    step : (q : ℕ) (rest : List Hit) → list_any (has_at r (length os) j) (cons_option (hit_at t n os r q) rest) ≡ (((q == (j / length os)) && covers t os (r.x0 + q % r.w) (r.y0 + q / r.w) (j % length os)) || list_any (has_at r (length os) j) rest)
     unfolding has_at
-    step q rest = go (eqb (mask t os (r.x0 + q % r.w) (r.y0 + q / r.w)) 0) refl where
+    step q rest = go (mask t os (r.x0 + q % r.w) (r.y0 + q / r.w) == 0) refl where
       place : ((r.y0 + q / r.w) - r.y0) * r.w + ((r.x0 + q % r.w) - r.x0) ≡ q
       place = ap₂ (λ (a b : ℕ). a * r.w + b) (omega arith) (omega arith) ∙ div-add-mod' q r.w
 
-      go : (b : Bool) → b ≡ eqb (mask t os (r.x0 + q % r.w) (r.y0 + q / r.w)) 0
+      go : (b : Bool) → b ≡ (mask t os (r.x0 + q % r.w) (r.y0 + q / r.w) == 0)
           → list_any (has_at r (length os) j) (cons_option (if b then None else Some (record { x = r.x0 + q % r.w; y = r.y0 + q / r.w; fragment = record { prim = n; mask = mask t os (r.x0 + q % r.w) (r.y0 + q / r.w) } })) rest)
-          ≡ ((eqb q (j / length os) && covers t os (r.x0 + q % r.w) (r.y0 + q / r.w) (j % length os)) || list_any (has_at r (length os) j) rest)
+          ≡ (((q == (j / length os)) && covers t os (r.x0 + q % r.w) (r.y0 + q / r.w) (j % length os)) || list_any (has_at r (length os) j) rest)
       go true e =
           let none = none_covered t os (r.x0 + q % r.w) (r.y0 + q / r.w) (j % length os) known (eqb-true (mask t os (r.x0 + q % r.w) (r.y0 + q / r.w)) 0 (sym e)) in
-          sym (ap (λ (v : Bool). (eqb q (j / length os) && v) || list_any (has_at r (length os) j) rest) none ∙ off (eqb q (j / length os)) (list_any (has_at r (length os) j) rest)) where
+          sym (ap (λ (v : Bool). ((q == (j / length os)) && v) || list_any (has_at r (length os) j) rest) none ∙ off (q == (j / length os)) (list_any (has_at r (length os) j) rest)) where
             off : (a b : Bool) → ((a && false) || b) ≡ b
             off true b = refl
             off false b = refl
       go false e =
-          ap₂ (λ (p : ℕ) (v : Bool). (eqb p (j / length os) && v) || list_any (has_at r (length os) j) rest) place
+          ap₂ (λ (p : ℕ) (v : Bool). ((p == (j / length os)) && v) || list_any (has_at r (length os) j) rest) place
           (bit_covers t os (r.x0 + q % r.w) (r.y0 + q / r.w) (j % length os) known)
 
     -- No hit at another place has it.

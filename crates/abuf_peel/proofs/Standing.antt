@@ -1,4 +1,4 @@
--- Peeled that stand for steps, and the sums of their colours.
+-- What is seen of a layer: after which steps it stands, and the sums of its colours.
 use Rattle.std.proofs.Common.{◌≡◌, ℕ, suc, ◌+◌, ◌*◌, ◌/◌, ◌%◌, ◌^◌, ◌<◌, ◌≤◌, List, [], ℤ, length, get_or, Option, None, refl, ap, ap₂, ◌∙◌, sym, subst, arith, mul-le-mul}
 use Rattle.std.proofs.lemmas.List.{get_or-replicate}
 use Rattle.std.proofs.lemmas.Nat.{div-mul-add, mod-mul-add}
@@ -11,8 +11,18 @@ use Rattle.abuf_resolve.specs.Colour.{colour, covering}
 use Rattle.abuf_resolve.specs.Sums.{sums_at, region_sums}
 use Rattle.abuf_resolve.proofs.Totals.{summed_same, same_on_range}
 use Rattle.abuf_peel.specs.Next.{Sample, next_word, with_word}
-use Rattle.abuf_peel.specs.Layers.{Peeled, Seen, seen_at, taken, after, started, Takes, StandsFor, HaveLayer, AreWhole, count_of, size_of, sample_at, next_at, sum_of_place, layer_sums, whole_colour}
+use Rattle.abuf_peel.specs.Layers.{Peeled, Seen, peeled_of, seen_at, taken, after, started, Takes, StandsFor, HaveLayer, AreWhole, count_of, size_of, sample_at, next_at, sum_of_place, layer_sums, whole_colour}
 use Rattle.abuf_peel.proofs.Steps.{after-layer, after-none, after-many}
+
+-- ---- a layer whose parts are read, and written again
+-- The same parts show the same layer.
+pub same_parts : (r : Region) (pattern : Pattern) (words words' : List ℕ) (colours colours' : List (List ℕ)) → words ≡ words' → colours ≡ colours'
+    → peeled_of r pattern words colours ≡ peeled_of r pattern words' colours'
+same_parts r pattern words words' colours colours' e f = λ i. peeled_of r pattern (e i) (f i)
+
+-- A step from what was read to what is written is a step of the layer.
+pub takes_as : (tris : List Triangle) (paints : List Paint) (old read written new : Peeled) → read ≡ old → written ≡ new → Takes tris paints read written → Takes tris paints old new
+takes_as tris paints old read written new e f t = subst (Takes tris paints old) f (subst (λ (l : Peeled). Takes tris paints l written) e t)
 
 -- Sample k of the pixel at a place.
 pub sample_is : (r : Region) (size place k : ℕ) → k < size → sample_at r size (place * size + k) ≡ record { x = r.x0 + place % r.w; y = r.y0 + place / r.w; k = k }

@@ -1,5 +1,5 @@
 -- Steps take the primitives of a sample from the lowest to the topmost.
-use Rattle.std.proofs.Common.{◌≡◌, ℕ, zero, suc, ◌+◌, ◌^◌, ◌<◌, ◌≤◌, ◌⊎◌, inl, inr, Bool, true, false, cond, if◌then◌else◌, ltb, eqb, List, [], ◌∷◌, map, take, drop, length, ℤ, Option, Some, None, refl, ap, ap₂, ◌∙◌, sym, arith}
+use Rattle.std.proofs.Common.{◌≡◌, ℕ, zero, suc, ◌+◌, ◌^◌, ◌<◌, ◌≤◌, ◌⊎◌, inl, inr, Bool, true, false, if◌then◌else◌, List, [], ◌∷◌, map, take, drop, length, ℤ, Option, Some, None, refl, ap, ap₂, ◌∙◌, sym, arith, ◌==◌, nat_lt}
 use Rattle.std.specs.List.{filter, range_with_len}
 use Rattle.std.proofs.lemmas.Bool.{ne_eqb, eq-eqb, cases_eq}
 use Rattle.std.proofs.lemmas.List.{length-map, map-append, take-map, take_all}
@@ -35,15 +35,15 @@ Below-take bound (suc n) [] b = tt
 Below-take bound (suc n) (x ∷ xs) b = (b.0, Below-take bound n xs b.1)
 
 -- No number of a range is before it.
-before_range : (v a n : ℕ) → v < a → kept (λ m. eqb m v) (range_with_len a n) ≡ 0
+before_range : (v a n : ℕ) → v < a → kept (λ m. m == v) (range_with_len a n) ≡ 0
 before_range v a zero h = refl
 before_range v a (suc n) h = rw (ne_eqb a v (λ e. omega arith)) (omega (arith, before_range v (a + 1) n (omega arith)))
 
 -- A range has no number twice.
-range_once : (v a n : ℕ) → kept (λ m. eqb m v) (range_with_len a n) ≤ 1
+range_once : (v a n : ℕ) → kept (λ m. m == v) (range_with_len a n) ≤ 1
 range_once v a zero = omega arith
 range_once v a (suc n) = go (range_once v (a + 1) n) (cases_eq a v) where
-  go : kept (λ m. eqb m v) (range_with_len (a + 1) n) ≤ 1 → (a ≡ v) ⊎ (a ≡ v → ⊥) → kept (λ m. eqb m v) (a ∷ range_with_len (a + 1) n) ≤ 1
+  go : kept (λ m. m == v) (range_with_len (a + 1) n) ≤ 1 → (a ≡ v) ⊎ (a ≡ v → ⊥) → kept (λ m. m == v) (a ∷ range_with_len (a + 1) n) ≤ 1
   go k (inl e) = rw (eq-eqb a v e) (omega (arith, before_range v (a + 1) n (omega arith)))
   go k (inr f) = rw (ne_eqb a v f) (omega arith)
 
@@ -51,7 +51,7 @@ range_once v a (suc n) = go (range_once v (a + 1) n) (cases_eq a v) where
 kept-filter_le : (p q : ℕ → Bool) (xs : List ℕ) → kept q (filter p xs) ≤ kept q xs
 kept-filter_le p q [] = omega arith
 kept-filter_le p q (x ∷ xs) =
-    elim (p x) as (λ (v : Bool). kept q (cond v (x ∷ filter p xs) (filter p xs)) ≤ cond (q x) 1 0 + kept q xs)
+    elim (p x) as (λ (v : Bool). kept q (if v then x ∷ filter p xs else filter p xs) ≤ (if q x then 1 else 0) + kept q xs)
     [ true ↦ omega (arith, kept-filter_le p q xs) | false ↦ omega (arith, kept-filter_le p q xs) ]
 
 module _ (os : List (ℤ × ℤ)) (background : List ℕ) (tris : List Triangle) (paints : List Paint) (s : Sample) (few : length tris ≤ 2 ^ 24) where
@@ -69,10 +69,10 @@ module _ (os : List (ℤ × ℤ)) (background : List ℕ) (tris : List Triangle)
 
   -- Their words in order.
   abbrev sorted : List ℕ
-  sorted = in_order ltb (map word these)
+  sorted = in_order nat_lt (map word these)
 
   -- To lie beneath is to have the lower word.
-  agree : (m n : ℕ) → m < 2 ^ 24 → n < 2 ^ 24 → is_beneath os tris s.x s.y s.k m n ≡ ltb (word m) (word n)
+  agree : (m n : ℕ) → m < 2 ^ 24 → n < 2 ^ 24 → is_beneath os tris s.x s.y s.k m n ≡ nat_lt (word m) (word n)
   agree m n h l = words_ordered (depth_key (triangle_at tris m) os s.x s.y s.k) (depth_key (triangle_at tris n) os s.x s.y s.k) m n h l
 
   -- Their numbers are small,
@@ -92,10 +92,10 @@ module _ (os : List (ℤ × ℤ)) (background : List ℕ) (tris : List Triangle)
   told n h = omega arith
 
   -- So no two primitives have one word.
-  once : (w : ℕ) (ns : List ℕ) → Below (2 ^ 24) ns → kept (λ v. eqb v w) (map word ns) ≤ kept (λ m. eqb m (prim_of w)) ns
+  once : (w : ℕ) (ns : List ℕ) → Below (2 ^ 24) ns → kept (λ v. v == w) (map word ns) ≤ kept (λ m. m == prim_of w) ns
   once w [] b = omega arith
   once w (n ∷ ns) b = go (once w ns b.1) (cases_eq (word n) w) where
-    go : kept (λ v. eqb v w) (map word ns) ≤ kept (λ m. eqb m (prim_of w)) ns → (word n ≡ w) ⊎ (word n ≡ w → ⊥) → cond (eqb (word n) w) 1 0 + kept (λ v. eqb v w) (map word ns) ≤ cond (eqb n (prim_of w)) 1 0 + kept (λ m. eqb m (prim_of w)) ns
+    go : kept (λ v. v == w) (map word ns) ≤ kept (λ m. m == prim_of w) ns → (word n ≡ w) ⊎ (word n ≡ w → ⊥) → (if word n == w then 1 else 0) + kept (λ v. v == w) (map word ns) ≤ (if n == prim_of w then 1 else 0) + kept (λ m. m == prim_of w) ns
     go k (inl e) = let same : n ≡ prim_of w = sym (told n b.0) ∙ ap prim_of e in rw (eq-eqb (word n) w e, eq-eqb n (prim_of w) same) (omega arith)
     go k (inr f) = rw (ne_eqb (word n) w f) (omega arith)
 
@@ -104,9 +104,9 @@ module _ (os : List (ℤ × ℤ)) (background : List ℕ) (tris : List Triangle)
   climbs = Climbs-from sorted (Rises-in_order (map word these)) (λ w.
       omega (
         arith,
-        kept-in_order ltb (λ v. eqb v w) (map word these),
+        kept-in_order nat_lt (λ v. v == w) (map word these),
         once w these below,
-        kept-filter_le (λ n. covers (triangle_at tris n) os s.x s.y s.k) (λ m. eqb m (prim_of w)) (numbers tris),
+        kept-filter_le (λ n. covers (triangle_at tris n) os s.x s.y s.k) (λ m. m == prim_of w) (numbers tris),
         range_once (prim_of w) 0 (length tris),
       ))
 
@@ -180,5 +180,5 @@ module _ (os : List (ℤ × ℤ)) (background : List ℕ) (tris : List Triangle)
   -- So it is after as many steps as primitives cover it.
   pub after-many : (n : ℕ) → length these ≤ n → (after os background tris paints s n).colour ≡ whole_colour os background tris paints s
   after-many n h =
-      let count : length sorted ≤ n = omega (arith, length-in_order ltb (map word these), length-map these word) in
+      let count : length sorted ≤ n = omega (arith, length-in_order nat_lt (map word these), length-map these word) in
       (took n).colour ∙ (ap (folded background paints) (take_all n sorted count) ∙ whole_is)

@@ -1,5 +1,5 @@
 -- Rising lists of words, and the least of those that are left.
-use Rattle.std.proofs.Common.{◌≡◌, ℕ, zero, suc, ◌+◌, ◌<◌, ◌≤◌, min, ◌⊎◌, inl, inr, Bool, true, false, cond, if◌then◌else◌, ltb, eqb, List, [], ◌∷◌, ◌++◌, take, drop, length, Option, Some, None, get_or, refl, ap, ◌∙◌, sym, subst, true≢false, arith}
+use Rattle.std.proofs.Common.{◌≡◌, ℕ, zero, suc, ◌+◌, ◌<◌, ◌≤◌, min, ◌⊎◌, inl, inr, Bool, true, false, if◌then◌else◌, List, [], ◌∷◌, ◌++◌, take, drop, length, Option, Some, None, get_or, refl, ap, ◌∙◌, sym, subst, true≢false, arith, ◌==◌, nat_lt}
 use Rattle.std.specs.List.{filter}
 use Rattle.std.proofs.lemmas.Bool.{lt-ltb, le-ltb, eq-eqb, ne_eqb, cases_lt, cases_order}
 use Rattle.std.proofs.lemmas.List.Elements.{filter_passes}
@@ -12,7 +12,7 @@ use Rattle.abuf_peel.specs.Next.{least, lower_of, left_from}
 -- Each later number is above each earlier one.
 abbrev pub Climbs : List ℕ → Type 0
 Climbs [] = Unit {0}
-Climbs (x ∷ xs) = (kept (λ y. ltb y (suc x)) xs ≡ 0) × Climbs xs
+Climbs (x ∷ xs) = (kept (λ y. nat_lt y (suc x)) xs ≡ 0) × Climbs xs
 
 -- So it is after some of them.
 pub Climbs-drop : (n : ℕ) (xs : List ℕ) → Climbs xs → Climbs (drop n xs)
@@ -21,33 +21,33 @@ Climbs-drop (suc n) [] c = tt
 Climbs-drop (suc n) (x ∷ xs) c = Climbs-drop n xs c.1
 
 -- At most x are those below x and those equal to it.
-at_most : (x : ℕ) (xs : List ℕ) → kept (λ y. ltb y (suc x)) xs ≡ kept (λ y. ltb y x) xs + kept (λ y. eqb y x) xs
+at_most : (x : ℕ) (xs : List ℕ) → kept (λ y. nat_lt y (suc x)) xs ≡ kept (λ y. nat_lt y x) xs + kept (λ y. y == x) xs
 at_most x [] = refl
 at_most x (y ∷ ys) = go (at_most x ys) (cases_order y x) where
-  go : kept (λ z. ltb z (suc x)) ys ≡ kept (λ z. ltb z x) ys + kept (λ z. eqb z x) ys → (y ≡ x) ⊎ ((y < x) ⊎ (x < y)) → cond (ltb y (suc x)) 1 0 + kept (λ z. ltb z (suc x)) ys ≡ cond (ltb y x) 1 0 + kept (λ z. ltb z x) ys + (cond (eqb y x) 1 0 + kept (λ z. eqb z x) ys)
+  go : kept (λ z. nat_lt z (suc x)) ys ≡ kept (λ z. nat_lt z x) ys + kept (λ z. z == x) ys → (y ≡ x) ⊎ ((y < x) ⊎ (x < y)) → (if nat_lt y (suc x) then 1 else 0) + kept (λ z. nat_lt z (suc x)) ys ≡ (if nat_lt y x then 1 else 0) + kept (λ z. nat_lt z x) ys + ((if y == x then 1 else 0) + kept (λ z. z == x) ys)
   go k (inl e) = rw (lt-ltb y (suc x) (omega arith), le-ltb y x (omega arith), eq-eqb y x e) (omega arith)
   go k (inr (inl l)) = rw (lt-ltb y (suc x) (omega arith), lt-ltb y x l, ne_eqb y x (λ e. omega arith)) (omega arith)
   go k (inr (inr l)) = rw (le-ltb y (suc x) (omega arith), le-ltb y x (omega arith), ne_eqb y x (λ e. omega arith)) (omega arith)
 
 -- A rising list that has no number twice rises strictly.
-pub Climbs-from : (xs : List ℕ) → Rises xs → ((x : ℕ) → kept (λ y. eqb y x) xs ≤ 1) → Climbs xs
+pub Climbs-from : (xs : List ℕ) → Rises xs → ((x : ℕ) → kept (λ y. y == x) xs ≤ 1) → Climbs xs
 Climbs-from [] r once = tt
 Climbs-from (x ∷ xs) r once =
-    let one : cond (eqb x x) 1 0 + kept (λ y. eqb y x) xs ≤ 1 = once x in
-    let rest : 1 + kept (λ y. eqb y x) xs ≤ 1 = rw (eq-eqb x x refl) at one in
+    let one : (if x == x then 1 else 0) + kept (λ y. y == x) xs ≤ 1 = once x in
+    let rest : 1 + kept (λ y. y == x) xs ≤ 1 = rw (eq-eqb x x refl) at one in
     (at_most x xs ∙ omega (arith, r.0), Climbs-from xs r.1 (λ y. omega (arith, once y)))
 
 -- ---- what isn't below a bound
 -- Where none is below it, none is left out.
-pub all_reach : (h : ℕ) (xs : List ℕ) → kept (λ y. ltb y h) xs ≡ 0 → filter (reaches h) xs ≡ xs
+pub all_reach : (h : ℕ) (xs : List ℕ) → kept (λ y. nat_lt y h) xs ≡ 0 → filter (reaches h) xs ≡ xs
 all_reach h [] e = refl
 all_reach h (x ∷ xs) e = go e (all_reach h xs) (cases_lt x h) where
-  go : cond (ltb x h) 1 0 + kept (λ y. ltb y h) xs ≡ 0 → (kept (λ y. ltb y h) xs ≡ 0 → filter (reaches h) xs ≡ xs) → (x < h) ⊎ (h ≤ x) → filter (reaches h) (x ∷ xs) ≡ x ∷ xs
-  go f rest (inl l) = absurd (let g : 1 + kept (λ y. ltb y h) xs ≡ 0 = rw (lt-ltb x h l) at f in omega (arith, g))
+  go : (if nat_lt x h then 1 else 0) + kept (λ y. nat_lt y h) xs ≡ 0 → (kept (λ y. nat_lt y h) xs ≡ 0 → filter (reaches h) xs ≡ xs) → (x < h) ⊎ (h ≤ x) → filter (reaches h) (x ∷ xs) ≡ x ∷ xs
+  go f rest (inl l) = absurd (let g : 1 + kept (λ y. nat_lt y h) xs ≡ 0 = rw (lt-ltb x h l) at f in omega (arith, g))
   go f rest (inr l) = rw (le-ltb x h l) (ap (λ (ys : List ℕ). x ∷ ys) (rest (omega (arith, f))))
 
 -- Nothing is below 0.
-pub none_below : (xs : List ℕ) → kept (λ y. ltb y 0) xs ≡ 0
+pub none_below : (xs : List ℕ) → kept (λ y. nat_lt y 0) xs ≡ 0
 none_below [] = refl
 none_below (x ∷ xs) = rw (le-ltb x 0 (omega arith)) (omega (arith, none_below xs))
 
@@ -92,27 +92,27 @@ first [] = None
 first (x ∷ xs) = Some x
 
 -- A number put in its place is the first where it is below the first.
-first-put : (x : ℕ) (ys : List ℕ) → first (put_in_order ltb x ys) ≡ Some (lower_of x (first ys))
+first-put : (x : ℕ) (ys : List ℕ) → first (put_in_order nat_lt x ys) ≡ Some (lower_of x (first ys))
 first-put x [] = refl
 first-put x (y ∷ ys) = go (cases_lt x y) where
-  go : (x < y) ⊎ (y ≤ x) → first (if ltb x y then x ∷ y ∷ ys else y ∷ put_in_order ltb x ys) ≡ Some (min x y)
+  go : (x < y) ⊎ (y ≤ x) → first (if nat_lt x y then x ∷ y ∷ ys else y ∷ put_in_order nat_lt x ys) ≡ Some (min x y)
   go (inl l) = rw (lt-ltb x y l) (ap (λ (m : ℕ). Some m) (omega arith))
   go (inr l) = rw (le-ltb x y l) (ap (λ (m : ℕ). Some m) (omega arith))
 
 -- The least is the first of the list put in order.
-pub least-first : (xs : List ℕ) → least xs ≡ first (in_order ltb xs)
+pub least-first : (xs : List ℕ) → least xs ≡ first (in_order nat_lt xs)
 least-first [] = refl
-least-first (x ∷ xs) = ap (λ (o : Option ℕ). Some (lower_of x o)) (least-first xs) ∙ sym (first-put x (in_order ltb xs))
+least-first (x ∷ xs) = ap (λ (o : Option ℕ). Some (lower_of x o)) (least-first xs) ∙ sym (first-put x (in_order nat_lt xs))
 
 -- Those of a list put in order that pass a test are those of the list, put in order.
-filter-in_order : (p : ℕ → Bool) (xs : List ℕ) → filter p (in_order ltb xs) ≡ in_order ltb (filter p xs)
+filter-in_order : (p : ℕ → Bool) (xs : List ℕ) → filter p (in_order nat_lt xs) ≡ in_order nat_lt (filter p xs)
 filter-in_order p xs =
-    in_order_is (filter p xs) (filter p (in_order ltb xs))
-    (Alike-filter p xs (in_order ltb xs) (record { times = λ q. sym (kept-in_order ltb q xs) }))
-    (Rises-filter p (in_order ltb xs) (Rises-in_order xs))
+    in_order_is (filter p xs) (filter p (in_order nat_lt xs))
+    (Alike-filter p xs (in_order nat_lt xs) (record { times = λ q. sym (kept-in_order nat_lt q xs) }))
+    (Rises-filter p (in_order nat_lt xs) (Rises-in_order xs))
 
 -- The least of those from a bound on is the first of those in order.
-pub least-left : (from : ℕ) (xs : List ℕ) → least (filter (reaches from) xs) ≡ first (filter (reaches from) (in_order ltb xs))
+pub least-left : (from : ℕ) (xs : List ℕ) → least (filter (reaches from) xs) ≡ first (filter (reaches from) (in_order nat_lt xs))
 least-left from xs = least-first (filter (reaches from) xs) ∙ ap first (sym (filter-in_order (reaches from) xs))
 
 -- Once the first that is left of a strictly rising list is taken, the others are left.

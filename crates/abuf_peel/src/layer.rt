@@ -1,6 +1,7 @@
 // The samples of a region, peeled layer by layer.
 ghost use Rattle.std.specs.Prelude.{◌≡◌, ◌≤◌, false, true, length, IfOk};
 ghost use Rattle.std.specs.List.{All};
+ghost use Rattle.abuf_num.specs.declared.limits.TheConstants.{MAX_PRIMITIVES};
 ghost use Rattle.abuf_raster.specs.Region.{IsRegion};
 ghost use Rattle.abuf_resolve.specs.Sums.{IsSmall};
 ghost use Rattle.abuf_peel.specs.Layers.{NoneLeft, OneStepMore, SomeLeft, StandsForNone, Takes, layer_sums, size_of, started};
@@ -77,9 +78,9 @@ impl Layer {
 
     /// Every sample takes the lowest primitive above the last one taken that covers it, by its depth key there and then by its
     /// number, and lays its paint over the colour. A sample without such a primitive stays. True exactly where some sample took
-    /// one. There is a paint for each of at most 2097152 triangles. Takes no memory.
+    /// one. There is a paint for each of at most `MAX_PRIMITIVES` triangles. Takes no memory.
     pub fn step(&mut self, tris: &[ScreenTri], paints: &[Paint]) -> bool
-        requires few { length tris.now ≤ 2097152 }
+        requires few { length tris.now ≤ MAX_PRIMITIVES }
         requires paints { length paints.now ≡ length tris.now }
         ensures takes { Takes tris.now paints.now self.old self.new }
         ensures layers { OneStepMore tris.now paints.now self.old self.new }
@@ -102,7 +103,7 @@ impl Layer {
         paints: &[Paint],
         members: &mut Vec<u32>,
     ) -> bool
-        requires few { length tris.now ≤ 2097152 }
+        requires few { length tris.now ≤ MAX_PRIMITIVES }
         requires paints { length paints.now ≡ length tris.now }
         requires members { HaveLeft tris.now self.old.region self.old.pattern self.old.from members.old.items }
         ensures takes { Takes tris.now paints.now self.old self.new }

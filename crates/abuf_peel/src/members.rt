@@ -1,6 +1,7 @@
 // Which primitives are offered to a row: only those whose box meets it.
 ghost use Rattle.std.specs.Prelude.{◌≡◌, ◌<◌, ◌≤◌, length, IfOk};
 ghost use Rattle.std.specs.List.{range_with_len, All};
+ghost use Rattle.abuf_num.specs.declared.limits.TheConstants.{MAX_PRIMITIVES};
 ghost use Rattle.abuf_raster.specs.Region.{IsRegion};
 ghost use Rattle.abuf_raster.specs.Samples.{offsets_of};
 ghost use Rattle.abuf_peel.specs.Members.{Keep, KeepOne};
@@ -12,7 +13,7 @@ use std::alloc::Global;
 
 /// The numbers from 0 to before `count`.
 pub(crate) fn numbers(alloc: Global, count: usize) -> Result<Vec<u32>, NoMemory>
-    requires { count ≤ 2097152 }
+    requires { count ≤ MAX_PRIMITIVES }
     ensures { IfOk result (λ all. all.items ≡ range_with_len 0 count) }
 {
     let mut all = Vec::with_capacity(alloc, count)?;

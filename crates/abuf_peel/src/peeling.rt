@@ -1,6 +1,7 @@
 // The sums of all pixels, peeled row by row on threads.
 ghost use Rattle.std.specs.Prelude.{◌≡◌, ◌/◌, ◌%◌, ◌<◌, ◌≤◌, [], length, map, slice_index_or, Ok, IfOk};
 ghost use Rattle.std.specs.List.{All};
+ghost use Rattle.abuf_num.specs.declared.limits.TheConstants.{MAX_PRIMITIVES, MAX_THREADS};
 ghost use Rattle.abuf_raster.specs.Region.{IsImageSize, whole_image};
 ghost use Rattle.abuf_raster.specs.Samples.{offsets_of};
 ghost use Rattle.abuf_resolve.specs.Sums.{region_sums, IsSmall};
@@ -63,7 +64,7 @@ impl<'a, 'b> Scene<'a, 'b> {
         alloc: Global,
         parts: Vec<Result<List<List<PixelSum>>, NoMemory>>,
     ) -> Result<List<PixelSum>, NoMemory>
-        requires workers { (1 ≤ length parts.items) × (length parts.items ≤ 64) }
+        requires workers { (1 ≤ length parts.items) × (length parts.items ≤ MAX_THREADS) }
         requires parts { AreParts self.now parts.items }
         ensures value { IfOk result (λ sums. sums ≡ image_sums self.now) }
         ensures small { IfOk result (λ sums. AreSmall self.now sums) }
@@ -79,8 +80,8 @@ impl<'a, 'b> Scene<'a, 'b> {
 }
 
 /// For each pixel of an image, in order, the sums over the samples of the pattern: per channel the sum of the samples' colours.
-/// There is a paint for each of at most 2097152 primitives; the image is 1 to 4096 pixels wide and high, with at most 4194304 in
-/// all. Each row is a layer of its own, which takes primitives until none is left. The rows are shared among 1 to 64 workers in
+/// There is a paint for each of at most `MAX_PRIMITIVES` primitives; the image is 1 to `MAX_SIDE` pixels wide and high, with at
+/// most `MAX_PIXELS` in all. Each row is a layer of its own, which takes primitives until none is left. The rows are shared among 1 to 64 workers in
 /// turn, and the sums are the same for every number of them. An error means that memory ran out.
 pub fn peel<R: Threads + Sync>(
     rt: &R,
@@ -92,10 +93,10 @@ pub fn peel<R: Threads + Sync>(
     background: [u16; 3],
     threads: u32,
 ) -> Result<List<PixelSum>, NoMemory>
-    requires few { length shown.now.tris ≤ 2097152 }
+    requires few { length shown.now.tris ≤ MAX_PRIMITIVES }
     requires paints { length shown.now.paints ≡ length shown.now.tris }
     requires size { IsImageSize width height }
-    requires threads { (1 ≤ threads) × (threads ≤ 64) }
+    requires threads { (1 ≤ threads) × (threads ≤ MAX_THREADS) }
     ensures value { IfOk result (λ sums. sums ≡ region_sums (offsets_of pattern) background shown.now.tris shown.now.paints (whole_image width height)) }
     ensures small { IfOk result (λ sums. All (IsSmall (length (offsets_of pattern))) sums) }
 {

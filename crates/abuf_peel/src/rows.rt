@@ -1,6 +1,7 @@
 // The rows of one worker, peeled until nothing is left.
 ghost use Rattle.std.specs.Prelude.{◌≡◌, ◌+◌, ◌-◌, ◌*◌, ◌/◌, ◌%◌, ◌<◌, ◌≤◌, length, IfOk};
 ghost use Rattle.std.specs.List.{range_with_len};
+ghost use Rattle.abuf_num.specs.declared.limits.TheConstants.{MAX_SIDE, MAX_THREADS};
 ghost use Rattle.abuf_raster.specs.Region.{IsRegion};
 ghost use Rattle.abuf_raster.specs.Samples.{offsets_of};
 ghost use Rattle.abuf_peel.specs.Layers.{AreWhole, StandsFor};
@@ -20,14 +21,14 @@ pub(crate) struct Share {
     pub(crate) threads: u32,
     pub(crate) worker: u32,
     pub(crate) ghost some: { worker < threads },
-    pub(crate) ghost few: { threads ≤ 64 },
+    pub(crate) ghost few: { threads ≤ MAX_THREADS },
 }
 
 impl Share {
     /// Those of this worker, of so many workers.
     pub(crate) fn new(threads: u32, worker: u32) -> Share
         requires some { worker < threads }
-        requires few { threads ≤ 64 }
+        requires few { threads ≤ MAX_THREADS }
         ensures { (result.threads ≡ threads) × (result.worker ≡ worker) }
     {
         Share { threads, worker }
@@ -35,7 +36,7 @@ impl Share {
 
     /// How many of so many rows it has.
     fn count(self, height: u32) -> u32
-        requires { height ≤ 4096 }
+        requires { height ≤ MAX_SIDE }
         ensures { result ≡ row_count height self.threads self.worker }
     {
         (height + self.threads - 1 - self.worker) / self.threads
@@ -43,7 +44,7 @@ impl Share {
 
     /// Its row with this number.
     fn row(self, i: u32) -> u32
-        requires { i < 4096 }
+        requires { i < MAX_SIDE }
         ensures { result ≡ row_at self.threads self.worker i }
     {
         i * self.threads + self.worker
@@ -125,7 +126,7 @@ impl<'a, 'b> Scene<'a, 'b> {
         share: Share,
         i: u32,
     ) -> Result<(), NoMemory>
-        requires i { i < 4096 }
+        requires i { i < MAX_SIDE }
         requires row { row_at share.threads share.worker i < self.now.height }
         requires all { all.now ≡ range_with_len 0 (length self.now.tris.now) }
         requires held { 0 < i % 16 → HaveBlock self.now share.threads share.worker i block.old.items }

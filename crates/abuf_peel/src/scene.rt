@@ -1,5 +1,6 @@
 // What is peeled.
 ghost use Rattle.std.specs.Prelude.{◌≡◌, ◌≤◌, length};
+ghost use Rattle.abuf_num.specs.declared.limits.TheConstants.{MAX_PRIMITIVES};
 ghost use Rattle.abuf_raster.specs.Region.{IsImageSize};
 
 use abuf_num::Paint;
@@ -14,7 +15,7 @@ pub(crate) struct Scene<'a, 'b> {
     pub(crate) height: u32,
     pub(crate) pattern: Pattern,
     pub(crate) background: [u16; 3],
-    pub(crate) ghost few: { length tris.now ≤ 2097152 },
+    pub(crate) ghost few: { length tris.now ≤ MAX_PRIMITIVES },
     pub(crate) ghost painted: { length paints.now ≡ length tris.now },
     pub(crate) ghost size: { IsImageSize width height },
 }
@@ -24,6 +25,6 @@ pub(crate) struct Scene<'a, 'b> {
 pub(crate) struct Primitives<'a, 'b> {
     pub(crate) tris: &'a [ScreenTri],
     pub(crate) paints: &'b [Paint],
-    pub(crate) ghost few: { length tris.now ≤ 2097152 },
+    pub(crate) ghost few: { length tris.now ≤ MAX_PRIMITIVES },
     pub(crate) ghost painted: { length paints.now ≡ length tris.now },
 }

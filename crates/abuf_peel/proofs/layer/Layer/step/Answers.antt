@@ -2,23 +2,27 @@ use Rattle.std.proofs.Common.{◌≡◌, ◌∙◌, sym, subst}
 use Rattle.std.specs.Vec.{with_items}
 use Rattle.std.proofs.lemmas.List.{with_items_is}
 use Rattle.abuf_peel.specs.Layers.{NoneLeft, Peeled, SomeLeft, Takes, peeled_of}
-use Rattle.abuf_peel.proofs.Standing.{stands_next}
+use Rattle.abuf_peel.proofs.Standing.{same_parts, stands_next, takes_as}
 use Rattle.abuf_peel.proofs.layer.Layer.step.Goals as goal
 use Rattle.abuf_peel.proofs.layer.Layer.step.Goals.{After-take_next}
 
 -- What the parts of the layer show is what was seen of it.
 seen : (c : After-take_next) → peeled_of c.self.inside.region c.self.inside.pattern c.deref_mut.result.now c.deref_mut-3.result.now ≡ c.args.self.now
-seen c = (λ i. peeled_of c.self.inside.region c.self.inside.pattern (c.deref_mut.ensures.value i) (c.deref_mut-3.ensures.value i)) ∙ c.self.view_is
+seen c = same_parts _ _ _ _ _ _ c.deref_mut.ensures.value c.deref_mut-3.ensures.value ∙ c.self.view_is
 
--- So it is after the step.
-after : (c : After-take_next) → peeled_of c.self.inside.region c.self.inside.pattern c.take_next.new.from c.take_next.new.colours ≡ peeled_of c.self.inside.region c.self.inside.pattern (with_items c.self.inside.from c.take_next.new.from).items (with_items c.self.inside.colours c.take_next.new.colours).items
-after c = λ i. peeled_of c.self.inside.region c.self.inside.pattern (sym (with_items_is c.self.inside.from c.take_next.new.from (c.take_next.ensures.sizes.0 ∙ c.deref_mut.ensures.len)) i) (sym (with_items_is c.self.inside.colours c.take_next.new.colours (c.take_next.ensures.sizes.2 ∙ c.deref_mut-3.ensures.len)) i)
+-- What is seen of it after the step.
+abbrev new : (c : After-take_next) → Peeled
+new c = peeled_of c.self.inside.region c.self.inside.pattern (with_items c.self.inside.from c.take_next.new.from).items (with_items c.self.inside.colours c.take_next.new.colours).items
+
+-- It is what the step wrote.
+after : (c : After-take_next) → peeled_of c.self.inside.region c.self.inside.pattern c.take_next.new.from c.take_next.new.colours ≡ new c
+after c =
+    same_parts _ _ _ _ _ _ (sym (with_items_is c.self.inside.from c.take_next.new.from (c.take_next.ensures.sizes.0 ∙ c.deref_mut.ensures.len)))
+    (sym (with_items_is c.self.inside.colours c.take_next.new.colours (c.take_next.ensures.sizes.2 ∙ c.deref_mut-3.ensures.len)))
 
 -- Every sample takes its next primitive.
-takes : (c : After-take_next) → Takes c.args.tris.now c.args.paints.now c.args.self.now (peeled_of c.self.inside.region c.self.inside.pattern (with_items c.self.inside.from c.take_next.new.from).items (with_items c.self.inside.colours c.take_next.new.colours).items)
-takes c =
-    subst (Takes c.args.tris.now c.args.paints.now c.args.self.now) (after c)
-    (subst (λ (l : Peeled). Takes c.args.tris.now c.args.paints.now l (peeled_of c.self.inside.region c.self.inside.pattern c.take_next.new.from c.take_next.new.colours)) (seen c) c.take_next.ensures.takes)
+takes : (c : After-take_next) → Takes c.args.tris.now c.args.paints.now c.args.self.now (new c)
+takes c = takes_as c.args.tris.now c.args.paints.now _ _ _ _ (seen c) (after c) c.take_next.ensures.takes
 
 pub returns-clause-takes : goal.returns-clause-takes
 returns-clause-takes c = takes ((goal.at.returns-clause-takes c).After-take_next)
