@@ -15,11 +15,12 @@ use Rattle.abuf_mtl.specs.Material.{paint_of}
 use Rattle.abuf_mtl.specs.Reading.{paint_at}
 use Rattle.abuf_num.specs.declared.plain.Paint.{Paint}
 
-one_behind : (v : Bool) (place : Option ℕ) (x : Paint) (paints : List Paint)
+-- one pair more in front puts each place one further
+one_further : (v : Bool) (place : Option ℕ) (x : Paint) (paints : List Paint)
     → cond v (Some x) (option_map (λ k. get_or paints k (paint_of None None)) place) ≡ option_map (λ k. get_or (x ∷ paints) k (paint_of None None)) (cond v (Some 0) (option_map suc place))
-one_behind true place x paints = refl
-one_behind false None x paints = refl
-one_behind false (Some k) x paints = refl
+one_further true place x paints = refl
+one_further false None x paints = refl
+one_further false (Some k) x paints = refl
 
 -- a search among the pairs finds the paint at the name's place
 pub lookup-zip : (n : List ℕ) (names : List (List ℕ)) (paints : List Paint) → length paints ≡ length names → lookup (bytes_eq n) (zip names paints) ≡ paint_at names paints n
@@ -27,16 +28,18 @@ lookup-zip n [] paints same = refl
 lookup-zip n (m ∷ names) [] same = absurd (omega arith)
 lookup-zip n (m ∷ names) (x ∷ paints) same =
     ap (cond (bytes_eq n m) (Some x)) (lookup-zip n names paints (omega arith))
-    ∙ one_behind (bytes_eq n m) (place_of n names) x paints
+    ∙ one_further (bytes_eq n m) (place_of n names) x paints
     ∙ ap (option_map (λ k. get_or (x ∷ paints) k (paint_of None None))) (sym (position-cons (bytes_eq n) m names))
 
 -- the name at a place is the name that has it
 pub name_at : (n : List ℕ) (names : List (List ℕ)) (k : ℕ) → place_of n names ≡ Some k → n ≡ get_or names k []
 name_at n names k is = (bytes_decides n (get_or names k [])).0 (position_passes (bytes_eq n) names k [] is).1
 
+-- a name's place is one of the list
 pub place_within : (n : List ℕ) (names : List (List ℕ)) (k : ℕ) → place_of n names ≡ Some k → k < length names
 place_within n names k is = (position_passes (bytes_eq n) names k [] is).0
 
+-- values that are wrapped alike are alike
 pub some_same : {a b : ℕ} → Some a ≡ Some b → a ≡ b
 some_same e = cc
 
@@ -83,6 +86,7 @@ paint_at-push names paints n x same none other =
     (λ no. rw no (front_keeps names paints other x same (place_of other names) refl))
     (cases_Bool (bytes_eq n other))
 
+-- where a test holds, the value is there and changed; otherwise nothing changes
 changed_at : (v : Bool) (change : Paint → Paint) (x : Paint) (old : Option Paint) → (v ≡ true → old ≡ Some x) → cond v (Some (change x)) old ≡ cond v (option_map change old) old
 changed_at true change x old is = rw (is refl) refl
 changed_at false change x old is = refl
@@ -104,6 +108,7 @@ paint_at-change names paints k change x is same here other =
 pub place_stands : (n : List ℕ) (names : List (List ℕ)) (k : ℕ) → place_of n names ≡ Some k → (k < length names) × (place_of (get_or names k []) names ≡ Some k)
 place_stands n names k is = (place_within n names k is, subst (λ (m : List ℕ). place_of m names ≡ Some k) (name_at n names k is) is)
 
+-- a new name that is put last has the last place
 pub place_of-last : (n : List ℕ) (names : List (List ℕ)) → place_of n names ≡ None → place_of n (names ++ n ∷ []) ≡ Some (length names)
 place_of-last n names none =
     let same : bytes_eq n n ≡ true = (bytes_decides n n).1 refl in

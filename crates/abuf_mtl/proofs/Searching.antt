@@ -18,10 +18,12 @@ current_of (nothing ∷ before) = current_of before
 abbrev pub override : Option (List ℕ) → Option ℕ → Paint → Paint
 override c a paint = record { colour = unwrap_or c paint.colour; alpha = unwrap_or a paint.alpha }
 
+-- a colour that was met first stays over one that is met later
 override-colour : (c : Option (List ℕ)) (a : Option ℕ) (x : List ℕ) (p : Paint) → override (first_of c (Some x)) a p ≡ override c a (override (Some x) None p)
 override-colour None a x p = refl
 override-colour (Some c) a x p = refl
 
+-- and so does an alpha
 override-alpha : (c : Option (List ℕ)) (a : Option ℕ) (x : ℕ) (p : Paint) → override c (first_of a (Some x)) p ≡ override c a (override None (Some x) p)
 override-alpha c None x p = refl
 override-alpha c (Some a) x p = refl
@@ -31,6 +33,7 @@ record Found (key : List ℕ) (before : List Said) : Type 0 where
   paint : Paint
   with_met : (c : Option (List ℕ)) (a : Option ℕ) → search_from key c a before ≡ Some (override c a paint)
 
+-- where the open section is that of the name, the search finds a paint there
 found : (key : List ℕ) (before : List Said) (n : List ℕ) → current_of before ≡ Some n → bytes_eq n key ≡ true → Found key before
 found key [] n is same = absurd (let e : None ≡ Some n = is in cc)
 found key (name m ∷ before) n is same =
@@ -63,6 +66,7 @@ pub record SaidSo (start now : Look) (begun : Option (List ℕ)) (before : List 
   pub each : (key : List ℕ) → now key ≡ first_of (search_from key None None before) (start key)
   pub open_name : begun ≡ current_of before
 
+-- a choice between two finds that fall back on the same is one find that falls back on it
 cond-first : (v : Bool) (x : Paint) (o start : Option Paint) → (if v then Some x else first_of o start) ≡ first_of (if v then Some x else o) start
 cond-first true x o start = refl
 cond-first false x o start = refl
@@ -77,6 +81,7 @@ changed true key before n c a change start same is test =
 changed false key before n c a change start same is test = ap (λ (o : Option Paint). first_of o start) (sym (past key before n c a is test))
 
 module _ (start : Look) (old new : Reader) (before : List Said) (so : SaidSo start (look old) (current old) before) where
+  -- what a line changes of the open name's paint is what the search meets in it
   changed_by : (c : Option (List ℕ)) (a : Option ℕ) (change : Paint → Paint) → ((p : Paint) → override c a p ≡ change p) → Changes change old new
       → ((key : List ℕ) → look new key ≡ first_of (search_from key c a before) (start key)) × (current new ≡ current_of before)
   changed_by c a change same h =
@@ -85,6 +90,7 @@ module _ (start : Look) (old new : Reader) (before : List Said) (so : SaidSo sta
         h.after ∙ sym is,
       )
 
+  -- one line more is said
   pub said_more : (s : Said) → Says old new s → SaidSo start (look new) (current new) (s ∷ before)
   said_more (name n) h = record {
     each = λ key. h.0 key ∙ ap (λ (o : Option Paint). if bytes_eq n key then Some (paint_of None None) else o) (so.each key) ∙ cond-first (bytes_eq n key) _ _ (start key);

@@ -1,5 +1,6 @@
--- The first fault of a Wavefront MTL library that stands behind others.
+-- The first fault of a Wavefront MTL library that is read after others.
 use Rattle.std.specs.Prelude.{◌≡◌, ◌||◌, ◌+◌, ◌++◌, ◌∷◌, [], ℕ, Bool, nat_lt, List, length, flat_map, Option, Some, None, is_some, if◌then◌else◌}
+use Rattle.abuf_num.specs.declared.limits.TheConstants.{MAX_MATERIALS}
 use Rattle.abuf_text.specs.Lines.{lines}
 use Rattle.abuf_text.specs.Statement.{statement, arguments}
 use Rattle.abuf_text.specs.Rest.{rest}
@@ -31,14 +32,14 @@ names_on lines = flat_map names_in lines
 abbrev pub names_of : List (List ℕ) → List (List ℕ)
 names_of libraries = with_names [] (flat_map (λ library. names_on (lines library)) libraries)
 
--- a `newmtl` line is among these lines, so a material is open behind them
+-- a `newmtl` line is among these lines, so a material is open after them
 abbrev pub is_open : List (List ℕ) → Bool
 is_open lines = nat_lt 0 (length (names_on lines))
 
--- what is wrong with the name of a `newmtl` line, where these names are there: there are at most 4096
+-- what is wrong with the name of a `newmtl` line, where these names are there: there are at most MAX_MATERIALS
 abbrev pub name_why : List (List ℕ) → List ℕ → Option MtlWhy
 name_why names name =
-    if nat_lt 0 (length name) then (if is_some (place_of name names) || nat_lt (length names) 4096 then None else Some why_.TooMany)
+    if nat_lt 0 (length name) then (if is_some (place_of name names) || nat_lt (length names) MAX_MATERIALS then None else Some why_.TooMany)
     else Some why_.NoName
 
 -- what is wrong with a `Kd` or a `d` line, by whether a material is open and whether its numbers can be read
@@ -61,22 +62,22 @@ abbrev pub fault_or : ℕ → Option MtlWhy → Option (ℕ × MtlWhy) → Optio
 fault_or number None later = later
 fault_or number (Some why) later = Some (number, why)
 
--- the first fault on lines of a library that stand behind others, and behind libraries with these names
+-- the first fault on lines of a library that stand after others, and after libraries with these names
 abbrev pub fault_from : List (List ℕ) → List (List ℕ) → List (List ℕ) → Option (ℕ × MtlWhy)
 fault_from names before [] = None
 fault_from names before (line ∷ rest) =
     fault_or (length before + 1) (why (with_names names (names_on before)) (is_open before) line) (fault_from names (before ++ line ∷ []) rest)
 
--- the first fault of a library behind others: the number of its line, from 1, and the cause
+-- the first fault of a library that is read after others: the number of its line, from 1, and the cause
 abbrev pub library_fault : List (List ℕ) → List ℕ → Option (ℕ × MtlWhy)
 library_fault earlier library = fault_from (names_of earlier) [] (lines library)
 
--- the fault is want of memory, or this line's first cause
+-- memory ran out, or the fault is this line's first cause
 abbrev pub TellsWhy : ℕ → Option MtlWhy → MtlFault → Type 0
 TellsWhy number why Memory = Unit {0}
 TellsWhy number why (Line line cause) = (line ≡ number) × (why ≡ Some cause)
 
--- the fault is want of memory, or the first one
+-- memory ran out, or the fault is the first one
 abbrev pub TellsFirst : Option (ℕ × MtlWhy) → MtlFault → Type 0
 TellsFirst first Memory = Unit {0}
 TellsFirst first (Line line cause) = first ≡ Some (line, cause)

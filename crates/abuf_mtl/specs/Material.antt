@@ -2,25 +2,22 @@
 -- a search from the end.
 use Rattle.std.specs.Prelude.{◌∷◌, [], ℕ, List, map, reverse, Option, Some, None, unwrap_or, if◌then◌else◌}
 use Rattle.std.specs.Str.{bytes_eq}
+use Rattle.abuf_num.specs.Paints.{white}
 use Rattle.abuf_text.specs.Lines.{lines}
 use Rattle.abuf_mtl.specs.Said.{Said, said, name, colour, alpha, nothing}
 use Rattle.abuf_num.specs.declared.plain.Paint.{Paint}
-
--- the colour that a material begins with
-abbrev pub white : List ℕ
-white = 65535 ∷ 65535 ∷ 65535 ∷ []
 
 -- the first of the two that is there
 abbrev pub first_of : {A : Type 0} → Option A → Option A → Option A
 first_of None later = later
 first_of (Some x) later = Some x
 
--- a paint of the colour and the alpha that were met, and of 65535 where none was
+-- a paint of the colour and the alpha that were met, and white and opaque where none was
 abbrev pub paint_of : Option (List ℕ) → Option ℕ → Paint
-paint_of c a = record { colour = unwrap_or c white; alpha = unwrap_or a 65535 }
+paint_of c a = record { colour = unwrap_or c white.colour; alpha = unwrap_or a white.alpha }
 
 -- The search for the name n, over what the lines say from the last to the first. A section is what stands
--- behind a `newmtl` line, up to the next; c and a are the colour and the alpha of its last `Kd` and `d` line,
+-- after a `newmtl` line, up to the next; c and a are the colour and the alpha of its last `Kd` and `d` line,
 -- as far as they were met.
 abbrev pub search_from : List ℕ → Option (List ℕ) → Option ℕ → List Said → Option Paint
 search_from n c a [] = None

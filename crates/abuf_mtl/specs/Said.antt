@@ -1,7 +1,8 @@
--- What a line of a Wavefront MTL library says: `newmtl`, `Kd` and `d` are read, all else is passed on.
-use Rattle.std.specs.Prelude.{ℕ, ℤ, pos, negsuc, min, List, [], ◌∷◌, codes, Option, Some, None, Result, Ok, Err, if◌then◌else◌}
+-- What a line of a Wavefront MTL library says: `newmtl`, `Kd` and `d` are read, all else is ignored.
+use Rattle.std.specs.Prelude.{ℕ, ℤ, List, [], ◌∷◌, codes, Option, Some, None, Result, Ok, Err, if◌then◌else◌}
 use Rattle.std.specs.Str.{bytes_eq}
 use Rattle.abuf_num.specs.Decimal.{scaled}
+use Rattle.abuf_num.specs.Paints.{channel}
 use Rattle.abuf_num.specs.declared.decimal.NumFault.{NumFault}
 use Rattle.abuf_text.specs.Statement.{statement, arguments}
 use Rattle.abuf_text.specs.Rest.{rest}
@@ -20,16 +21,11 @@ abbrev pub keyword_of : List (List ℕ) → Keyword
 keyword_of [] = keyword.Other
 keyword_of (word ∷ _) = named word
 
--- held into 0 to 65535
-abbrev pub held : ℤ → ℕ
-held (pos n) = min n 65535
-held (negsuc n) = 0
-
 abbrev pub share_from : Result ℤ NumFault → Option ℕ
-share_from (Ok value) = Some (held value)
+share_from (Ok value) = Some (channel value)
 share_from (Err fault) = None
 
--- a number, of which 1 counts as 65535, held into 0 to 65535
+-- a number, of which 1 counts as 65535, clamped to 0 to 65535
 abbrev pub share_of : List ℕ → Option ℕ
 share_of text = share_from (scaled text 65535)
 

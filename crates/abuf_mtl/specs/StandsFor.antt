@@ -10,7 +10,7 @@ use Rattle.abuf_num.specs.declared.plain.Paint.{Paint}
 abbrev pub find_paint : List ℕ → List (List ℕ × Paint) → Option Paint
 find_paint name pairs = lookup (bytes_eq name) pairs
 
--- libraries behind others have no fault
+-- libraries that are read after others have no fault
 abbrev pub IsSound : List (List ℕ) → List (List ℕ) → Type 0
 IsSound earlier [] = Unit {0}
 IsSound earlier (library ∷ later) = (library_fault earlier library ≡ None) × IsSound (earlier ++ library ∷ []) later
@@ -20,3 +20,7 @@ pub record StandsFor (libraries : List (List ℕ)) (pairs : List (List ℕ × Pa
   pub sound : IsSound [] libraries
   pub names : map (λ pair. pair.0) pairs ≡ names_of libraries
   pub paints : (name : List ℕ) → find_paint name pairs ≡ material libraries name
+
+-- they stand for some list of libraries
+unfoldable pub StandForSome : List (List ℕ × Paint) → Type 0
+StandForSome pairs = (libraries : List (List ℕ)) × StandsFor libraries pairs

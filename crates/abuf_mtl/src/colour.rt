@@ -1,23 +1,16 @@
 // The numbers of a `Kd` or a `d` line.
 ghost use Rattle.std.specs.Prelude.{◌≡◌};
-ghost use Rattle.abuf_mtl.specs.Said.{held, share_of, colour_of, colour_from, grey, alpha_of};
+ghost use Rattle.abuf_mtl.specs.Said.{share_of, colour_of, colour_from, grey, alpha_of};
 
-use abuf_num::scaled;
+use abuf_num::{channel, scaled};
 use abuf_text::Statement;
 
-// The number, held into 0 to 65535.
-fn held(value: i64) -> u16
-    ensures { result ≡ held value }
-{
-    value.clamp(0, 65535) as u16
-}
-
-// A number from 0 to 1, in parts of 65535.
+// A number from 0 to 1 as a channel; other numbers are clamped.
 fn share(text: &[u8]) -> Option<u16>
     ensures { result ≡ share_of text.now }
 {
     match scaled(text, 65535) {
-        Ok(value) => Some(held(value)),
+        Ok(value) => Some(channel(value)),
         Err(_) => None,
     }
 }

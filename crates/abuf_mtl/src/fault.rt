@@ -9,7 +9,7 @@ use abuf_num::NoMemory;
 pub enum MtlWhy {
     /// A `newmtl` without a name.
     NoName,
-    /// A `newmtl` with a new name, where 4096 names are there.
+    /// A `newmtl` with a new name, where [`MAX_MATERIALS`](abuf_num::limits::MAX_MATERIALS) names are there.
     TooMany,
     /// A `Kd` or a `d` with no `newmtl` above it in this library.
     NoMaterial,

@@ -35,7 +35,7 @@ impl Keyword {
 }
 
 // The kind of a line, and its arguments.
-pub fn cut_line(line: &[u8]) -> (Keyword, Statement)
+pub fn split_line(line: &[u8]) -> (Keyword, Statement)
     ensures keyword { result.0 ≡ keyword_of (statement line.now) }
     ensures arguments { result.1 ≡ arguments line.now }
 {

@@ -15,4 +15,4 @@ mod reader;
 mod tests;
 
 pub use fault::{MtlFault, MtlWhy};
-pub use materials::{Materials, read_mtl};
+pub use materials::{Materials, materials_law, read_mtl};

@@ -5,7 +5,7 @@ ghost use Rattle.abuf_text.specs.Lines.{lines};
 ghost use Rattle.abuf_mtl.specs.Fault.{library_fault, fault_from, TellsFirst};
 ghost use Rattle.abuf_mtl.specs.Material.{material};
 ghost use Rattle.abuf_mtl.specs.Reading.{ReadsAll};
-ghost use Rattle.abuf_mtl.specs.StandsFor.{StandsFor, find_paint};
+ghost use Rattle.abuf_mtl.specs.StandsFor.{StandsFor, StandForSome, find_paint};
 
 use crate::fault::MtlFault;
 use crate::reader::Reader;
@@ -14,7 +14,8 @@ use abuf_text::{Lines, Names};
 use std::alloc::Global;
 use std::marker::Model;
 
-/// Materials: each name once, with its paint, at most 4096 of them.
+/// Materials: each name once, with its paint, at most [`MAX_MATERIALS`](abuf_num::limits::MAX_MATERIALS) of them. They stand for
+/// some list of libraries at any time.
 #[derive(Drop)]
 pub struct Materials {
     names: Names,
@@ -24,13 +25,15 @@ pub struct Materials {
 impl Model for Materials {
     ghost use Rattle.std.specs.Prelude.{◌≡◌, ◌≤◌, List as Items, ℕ, length};
     ghost use Rattle.std.specs.List.{zip};
+    ghost use Rattle.abuf_num.specs.declared.limits.TheConstants.{MAX_MATERIALS};
     ghost use Rattle.abuf_num.specs.declared.plain.Paint.{Paint as Painted};
+    ghost use Rattle.abuf_mtl.specs.StandsFor.{StandForSome};
 
     ghost Value = { Items (Items ℕ × Painted) };
 
     ghost view = { λ m. zip m.names m.paints.items };
 
-    ghost invariant = { λ m. (length m.paints.items ≡ length m.names) × (length m.names ≤ 4096) };
+    ghost invariant = { λ m. (length m.paints.items ≡ length m.names) × (length m.names ≤ MAX_MATERIALS) × StandForSome (zip m.names m.paints.items) };
 }
 
 impl Materials {
@@ -59,7 +62,9 @@ impl Materials {
 
     // The same materials once more, for a reader.
     fn reader(&self, alloc: Global) -> Result<Reader, NoMemory>
-        ensures { IfOk result (λ r. (zip r.names r.paints.items ≡ self.now) × (r.begun ≡ None)) }
+        ensures same { IfOk result (λ r. zip r.names r.paints.items ≡ self.now) }
+        ensures closed { IfOk result (λ r. r.begun ≡ None) }
+        ensures stand { StandForSome self.now }
     {
         Ok(Reader {
             names: self.names.copy(alloc)?,
@@ -67,6 +72,14 @@ impl Materials {
             begun: None,
         })
     }
+}
+
+/// Materials always stand for some list of libraries, so what holds of them for each list that they stand for is said of a
+/// list that there is.
+pub fn materials_law(materials: &Materials)
+    ensures { StandForSome materials.now }
+{
+    let _names = &materials.names;
 }
 
 // Takes the lines of a library, up to the first with a fault.
@@ -84,9 +97,9 @@ fn read_lines(alloc: Global, bytes: &[u8], reader: &mut Reader) -> Result<(), Mt
     Ok(())
 }
 
-/// Reads a library behind those that the materials stand for. A material begins with a colour and an
-/// alpha of 65535; the last `Kd` and the last `d` of a material hold, and the last `newmtl` of a name.
-/// After any refusal, want of memory included, `into` is unchanged.
+/// Reads a library after those that the materials stand for. A material begins white and opaque; the last
+/// `Kd` and the last `d` of a material hold, and the last `newmtl` of a name. After any error, also where
+/// memory runs out, `into` is unchanged.
 pub fn read_mtl(alloc: Global, bytes: &[u8], into: &mut Materials) -> Result<(), MtlFault>
     requires { length bytes.now < 2 ^ 32 - 1 }
     ensures fault { (libraries : Items (Items ℕ)) → StandsFor libraries into.old → IfErr result (TellsFirst (library_fault libraries bytes.now)) }

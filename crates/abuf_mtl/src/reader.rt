@@ -1,22 +1,15 @@
 // The materials so far, line by line.
 ghost use Rattle.std.specs.Prelude.{◌≡◌, ◌≤◌, length};
+ghost use Rattle.abuf_num.specs.declared.limits.TheConstants.{MAX_MATERIALS};
 ghost use Rattle.abuf_mtl.specs.Open.{IsOpen};
 
 use crate::colour::{alpha, colour};
 use crate::fault::{MtlFault, MtlWhy};
-use crate::keyword::{Keyword, cut_line};
-use abuf_num::{NoMemory, Paint};
+use crate::keyword::{Keyword, split_line};
+use abuf_num::limits::MAX_MATERIALS;
+use abuf_num::{NoMemory, Paint, WHITE};
 use abuf_text::{Names, rest};
 use std::alloc::Global;
-
-// How many names there may be.
-const MOST: usize = 4096;
-
-// What a material begins with.
-const NEW: Paint = Paint {
-    colour: [65535, 65535, 65535],
-    alpha: 65535,
-};
 
 // Names with their paints, and the place of the material that is open.
 #[derive(Drop)]
@@ -25,12 +18,13 @@ pub struct Reader {
     pub paints: Vec<Paint>,
     pub begun: Option<usize>,
     ghost beside: { length paints.items ≡ length names },
-    ghost few: { length names ≤ 4096 },
+    ghost few: { length names ≤ MAX_MATERIALS },
     ghost begun_is: { IsOpen names begun },
 }
 
 impl Reader {
     ghost use Rattle.std.specs.Prelude.{◌≡◌, ◌<◌, ◌++◌, ◌∷◌, [], List as Items, ℕ, IfErr, OnOk, Some, None, is_some, length};
+    ghost use Rattle.abuf_num.specs.declared.limits.TheConstants.{MAX_MATERIALS};
     ghost use Rattle.abuf_text.specs.Names.{place_of};
     ghost use Rattle.abuf_mtl.specs.Said.{said_colour, said_alpha};
     ghost use Rattle.abuf_mtl.specs.Fault.{why, name_why, number_why, TellsWhy};
@@ -52,7 +46,7 @@ impl Reader {
                 self.begin_again(place as usize, name);
                 Ok(())
             }
-            None if self.names.len() < MOST => {
+            None if self.names.len() < MAX_MATERIALS => {
                 self.begin_new(alloc, name)?;
                 Ok(())
             }
@@ -70,14 +64,14 @@ impl Reader {
         ensures current { current self.new ≡ Some name.now }
         ensures names { self.new.names ≡ self.old.names }
     {
-        self.paints[place] = NEW;
+        self.paints[place] = WHITE;
         self.begun = Some(place);
     }
 
     // The material of a new name begins.
     fn begin_new(&mut self, alloc: Global, name: &[u8]) -> Result<(), NoMemory>
         requires new { place_of name.now self.old.names ≡ None }
-        requires few { length self.old.names < 4096 }
+        requires few { length self.old.names < MAX_MATERIALS }
         ensures starts { OnOk result (StartsName (look self.old) (look self.new) name.now) }
         ensures current { OnOk result (current self.new ≡ Some name.now) }
         ensures names { OnOk result (self.new.names ≡ self.old.names ++ name.now ∷ []) }
@@ -85,7 +79,7 @@ impl Reader {
         let place = self.names.len();
         self.paints.reserve(1)?;
         self.names.push(alloc, name)?;
-        self.paints.push_reserved(NEW);
+        self.paints.push_reserved(WHITE);
         self.begun = Some(place);
         Ok(())
     }
@@ -112,7 +106,9 @@ impl Reader {
 
     fn take_colour(&mut self, line: u32, colour: Option<[u16; 3]>) -> Result<(), MtlFault>
         ensures fault { IfErr result (TellsWhy line (number_why (is_some self.old.begun) (is_some colour))) }
-        ensures ok { OnOk result ((number_why (is_some self.old.begun) (is_some colour) ≡ None) × Says self.old self.new (said_colour colour) × (self.new.names ≡ self.old.names)) }
+        ensures sound { OnOk result (number_why (is_some self.old.begun) (is_some colour) ≡ None) }
+        ensures says { OnOk result (Says self.old self.new (said_colour colour)) }
+        ensures names { OnOk result (self.new.names ≡ self.old.names) }
     {
         match (self.begun, colour) {
             (None, _) => Err(MtlFault::Line {
@@ -132,7 +128,9 @@ impl Reader {
 
     fn take_alpha(&mut self, line: u32, alpha: Option<u16>) -> Result<(), MtlFault>
         ensures fault { IfErr result (TellsWhy line (number_why (is_some self.old.begun) (is_some alpha))) }
-        ensures ok { OnOk result ((number_why (is_some self.old.begun) (is_some alpha) ≡ None) × Says self.old self.new (said_alpha alpha) × (self.new.names ≡ self.old.names)) }
+        ensures sound { OnOk result (number_why (is_some self.old.begun) (is_some alpha) ≡ None) }
+        ensures says { OnOk result (Says self.old self.new (said_alpha alpha)) }
+        ensures names { OnOk result (self.new.names ≡ self.old.names) }
     {
         match (self.begun, alpha) {
             (None, _) => Err(MtlFault::Line {
@@ -155,7 +153,7 @@ impl Reader {
         ensures fault { IfErr result (TellsWhy number (why self.old.names (is_some self.old.begun) line.now)) }
         ensures ok { OnOk result (TakesLine line.now self.old self.new) }
     {
-        let (keyword, arguments) = cut_line(line);
+        let (keyword, arguments) = split_line(line);
         match keyword {
             Keyword::Material => self.start(alloc, number, rest(line)),
             Keyword::Colour => self.take_colour(number, colour(arguments)),

@@ -6,10 +6,10 @@ use Rattle.abuf_mtl.proofs.reader.Reader.take.Goals as goal
 
 pub returns-in-Material-clause-fault : goal.returns-in-Material-clause-fault
 returns-in-Material-clause-fault c =
-    let word : keyword_of (statement c.args.line.now) ≡ keyword.Material = sym c.cut_line-keyword.ensures.keyword ∙ c.in-Material.is in
+    let word : keyword_of (statement c.args.line.now) ≡ keyword.Material = sym c.split_line-keyword.ensures.keyword ∙ c.in-Material.is in
     rw word (rw (← c.rest.ensures) c.start.ensures.fault)
 
 pub returns-in-Material-clause-ok : goal.returns-in-Material-clause-ok
 returns-in-Material-clause-ok c =
-    let word : keyword_of (statement c.args.line.now) ≡ keyword.Material = sym c.cut_line-keyword.ensures.keyword ∙ c.in-Material.is in
+    let word : keyword_of (statement c.args.line.now) ≡ keyword.Material = sym c.split_line-keyword.ensures.keyword ∙ c.in-Material.is in
     rw word (rw (← c.rest.ensures) (c.start.ensures.ok (arguments c.args.line.now)))
