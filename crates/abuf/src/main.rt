@@ -8,7 +8,7 @@ use std::io::ErrorKind;
 use std::process::ExitCode;
 use std::rt::Env;
 
-// The words behind the program's name; none of them where one isn't UTF-8. No answer means want of memory.
+// The words after the program's name; none of them where one isn't UTF-8. No answer means that memory ran out.
 fn words(rt: &(impl Env + AllocGlobal)) -> Option<Vec<String>> {
     match env::args(rt) {
         Ok(args) => args.skip(1).collect(rt.alloc()).ok(),

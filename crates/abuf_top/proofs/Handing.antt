@@ -48,6 +48,7 @@ Fits ended.WriteFault one closed = HasFrame one closed
 Fits ended.Memory one closed = Unit {0}
 Fits ended.Path one closed = Unit {0}
 
+-- With which statuses a fitting frame is handed back.
 under : (s : Status) (one : Bool) (closed : Option Ended) → Fits s one closed → IsSome (handed_back s closed) ↔ (GoesWithFrame (status_number s) × one ≡ true)
 under ended.Written one closed has = handed 0 one closed (inl refl) has
 under ended.Words one closed has = withheld 2 one (none_of 2 (λ e. absurd (omega arith)) (λ e. absurd (omega arith)) (λ e. absurd (omega arith)))
@@ -59,6 +60,7 @@ under ended.WriteFault one closed has = handed 7 one closed (inr (inr refl)) has
 under ended.Memory one closed has = withheld 8 one (none_of 8 (λ e. absurd (omega arith)) (λ e. absurd (omega arith)) (λ e. absurd (omega arith)))
 under ended.Path one closed has = withheld 9 one (none_of 9 (λ e. absurd (omega arith)) (λ e. absurd (omega arith)) (λ e. absurd (omega arith)))
 
+-- Any frame fits a refusal, which hands none back.
 fits_refusal : (r : Refusal) (one : Bool) (closed : Option Ended) → Fits (refusal_status r) one closed
 fits_refusal refusal.Words one closed = tt
 fits_refusal (refusal.Value option) one closed = tt
@@ -73,9 +75,11 @@ fits_refusal (refusal.LibraryTooLong k) one closed = tt
 fits_refusal (refusal.LibraryLine k line why) one closed = tt
 
 module _ (one : Bool) (closed : Option Ended) (is : Status) (err : Taken) where
+  -- What fits a status fits one that is the same.
   of_status : (s : Status) → is ≡ s → Fits s one closed → Fits is one closed
   of_status s e h = subst (λ (x : Status). Fits x one closed) (sym e) h
 
+  -- The frame of a run fits its status.
   fits : (r : Result (Unit {0}) Stop) → Tells r is err → HandsBack one r closed → Fits is one closed
   fits (Ok _) said has = of_status ended.Written said.0 has
   fits (Err (stop.Refused r)) (inl said) has = of_status (refusal_status r) said.0 (fits_refusal r one closed)
@@ -94,6 +98,7 @@ hands one r closed ran err c has =
     (subst (λ (n : ℕ). IsSome (handed_back c.is closed) ↔ (GoesWithFrame n × one ≡ true)) (sym c.has_number)
     (under c.is one closed (fits one closed c.is err r c.tells has)))
 
+-- What holds of a frame holds of it where it is handed back.
 still : (s : Status) (closed : Option Ended) (P : Ended → Type 0) → IfSome closed P → IfSome (handed_back s closed) P
 still ended.Written closed P h = h
 still ended.Words closed P h = tt

@@ -1,9 +1,10 @@
 pub mod Asking
-pub mod Behind
+pub mod Afterwards
 pub mod Telling
 pub mod Pathing
 pub mod Writing
 pub mod Answering
+pub mod Allowing
 pub mod Handing
 pub mod Storing
 pub mod Sums

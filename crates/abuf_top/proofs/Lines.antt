@@ -5,6 +5,7 @@ use Rattle.std.proofs.lemmas.Grind.{flat_map-append}
 use Rattle.std.proofs.lemmas.Nat.{div-mul-add, mod-mul-add}
 use Rattle.abuf_raster.specs.declared.region.Region.{Region}
 
+-- a range that is longer by one has one number more at its end
 range_suc : (a n : ℕ) → range_with_len a (suc n) ≡ range_with_len a n ++ (a + n) ∷ []
 range_suc a zero = ap (λ (x : ℕ). x ∷ []) (omega arith)
 range_suc a (suc n) = ap (λ (xs : List ℕ). a ∷ xs) (range_suc (a + 1) n ∙ ap (λ (x : ℕ). range_with_len (a + 1) n ++ x ∷ []) (omega arith))
@@ -22,6 +23,7 @@ one_more line k =
 pub column_is : (r : Region) (x y : ℕ) → r.x0 ≡ 0 → x < r.w → r.x0 + (y * r.w + x) % r.w ≡ x
 column_is r x y corner l = let d = mod-mul-add y r.w x l in omega (arith, d, corner)
 
+-- and its row is that of y
 pub row_is : (r : Region) (x y : ℕ) → r.y0 ≡ 0 → x < r.w → r.y0 + (y * r.w + x) / r.w ≡ y
 row_is r x y corner l = let d = div-mul-add y r.w x l in omega (arith, d, corner)
 

@@ -11,14 +11,15 @@ use Rattle.abuf_top.specs.Ending.{Ends, WritesLast, HandsBack, Concludes, Announ
 use Rattle.abuf_sequence.specs.Sequences.{Taken}
 use Rattle.abuf_top.specs.Refusals.{refusal_status}
 use Rattle.abuf_top.specs.Status.{status_number}
-use Rattle.abuf_top.specs.Promise.{GoesWithFrame, HasSizeOf, WordsDecide, has_frame, command_has_frame, IsFrameOfLine, IsRun}
+use Rattle.abuf_top.specs.Promise.{GoesWithFrame, HasSizeOf, WordsDecide, has_frame, command_has_frame, IsFrameOfTask, IsRun}
 use Rattle.abuf_top.specs.Fetches.{fetches, most_fetches, CallsAtMost, NeedsNoSource}
 use Rattle.abuf_top.specs.Image.{Drawing, DrawsOnce, has_one_frame}
 use Rattle.abuf_top.specs.Images.{Images}
 use Rattle.abuf_top.specs.Outside.{Outside, ReadFailed, told}
 use Rattle.abuf_top.specs.Prepared.{PreparesTask, AskOnce, IsTaskOf}
 use Rattle.abuf_top.specs.Stopped.{HasCause, RefusesFor, IsOfWords, IsAfterWords, IsOfDrawing}
-use Rattle.abuf_top.specs.Verdict.{task, verdict, pool_line, image_line}
+use Rattle.abuf_top.specs.Reads.{CallsShelf, IsUncalled}
+use Rattle.abuf_top.specs.Verdict.{task, final_verdict, pool_verdict, pools_verdict}
 use Rattle.abuf_top.specs.declared.task.Task.{Task}
 use Rattle.abuf_top.specs.declared.task.Task.TheVariants.{Draw, Sequence}
 use Rattle.abuf_top.specs.declared.stop.Refusal.{Refusal}
@@ -26,18 +27,12 @@ use Rattle.abuf_top.specs.declared.stop.Refusal.TheVariants as refusal
 use Rattle.abuf_top.specs.declared.stop.Stop.{Stop}
 use Rattle.abuf_top.specs.declared.stop.Stop.TheVariants as stop
 use Rattle.abuf_top.specs.declared.top.Ran.{Ran}
-use Rattle.abuf_top.proofs.Answering.{did, stopped, answered, complete}
+use Rattle.abuf_top.proofs.Allowing.{found-allowed}
+use Rattle.abuf_top.proofs.Answering.{weaker, found_by, found-told, stopped, answered, complete}
 use Rattle.abuf_top.proofs.Handing.{hands, frame, unwritten}
 use Rattle.std.specs.Io.KnownBytes.{Keeps}
 
-frame-of-line : (line : Option (Result Task Refusal)) (d : Drawing) (c : Ended) → IfSome line (λ l. l ≡ Ok (Draw d)) → IsFrameOf d c → IfSome line (λ l. IsFrameOfLine l c)
-frame-of-line None d c is h = tt
-frame-of-line (Some l) d c is h = subst (λ (x : Result Task Refusal). IsFrameOfLine x c) (sym is) h
-
-frames-of-line : (line : Option (Result Task Refusal)) (d : Drawing) (closed : Option Ended) → IfSome line (λ l. l ≡ Ok (Draw d)) → IfSome closed (IsFrameOf d) → IfSome closed (λ c. IfSome line (λ l. IsFrameOfLine l c))
-frames-of-line line d None is h = tt
-frames-of-line line d (Some c) is h = frame-of-line line d c is h
-
+-- The frame of a drawing has the size that the words say.
 sizes : (words : Result Job WordFault) (d : Drawing) (closed : Option Ended) → words ≡ Ok d.job → IfSome closed (IsFrameOf d) → IfSome closed (HasSizeOf words)
 sizes words d None is h = tt
 sizes words d (Some c) is h = subst (λ (w : Result Job WordFault). HasSizeOf w c) (sym is) (h.pixels_are, h.nodes_are)
@@ -56,6 +51,7 @@ no-frame (what.Pick x y) one more = absurd (more tt)
 no-frame (what.Demo number) one more = absurd (more tt)
 no-frame (what.Sequence name) one more = refl
 
+-- The same by the words.
 without-frame : (words : Result Job WordFault) → (AskOnce words → ⊥) → false ≡ has_frame words
 without-frame (Ok job) more = no-frame job.what (has_one_frame job) more
 without-frame (Err why) more = refl
@@ -90,6 +86,7 @@ after_words (refusal.LibraryMissing k) h two = absurd (omega (arith, two))
 after_words (refusal.LibraryTooLong k) h two = absurd (omega (arith, two))
 after_words (refusal.LibraryLine k line why) h two = absurd (omega (arith, two))
 
+-- And that of a refusal of the words.
 of_words : (r : Refusal) → IsOfWords r → status_number (refusal_status r) ≡ 2
 of_words refusal.Words h = refl
 of_words (refusal.Value option) h = refl
@@ -103,14 +100,17 @@ of_words (refusal.LibraryMissing k) h = absurd h
 of_words (refusal.LibraryTooLong k) h = absurd h
 of_words (refusal.LibraryLine k line why) h = absurd h
 
+-- Where memory runs out, the status isn't that of the words.
 memory_decides : (words : Result Job WordFault) (number : ℕ) → number ≡ 8 → WordsDecide words number
 memory_decides (Ok job) number eight = λ two. absurd (omega (arith, eight, two))
 memory_decides (Err why) number eight = inr eight
 
+-- A refusal has that status exactly where it is one of the words.
 refusal_decides : (words : Result Job WordFault) (number : ℕ) (r : Refusal) → RefusesFor words r → number ≡ status_number (refusal_status r) → WordsDecide words number
 refusal_decides (Ok job) number r h e = λ two. after_words r h (sym e ∙ two)
 refusal_decides (Err why) number r h e = inl (e ∙ of_words r h)
 
+-- A fault of reading comes only where the words give a job.
 fault_decides : (words : Result Job WordFault) (number : ℕ) → IsOk words → number ≡ 6 → WordsDecide words number
 fault_decides (Ok job) number h e = λ two. absurd (omega (arith, e, two))
 fault_decides (Err why) number h e = absurd (true≢false (sym h))
@@ -128,34 +128,37 @@ stop_decides words rose stop.WriteFault closed ran err cause c = absurd cause
 stop_decides words rose stop.Memory closed ran err cause c = memory_decides words ran.status (c.has_number ∙ ap status_number c.tells.0)
 
 module _ (words : List (List ℕ)) (o : Outside)
-    (source : NeedsNoSource (job words) (told o.shelf) → (o.source.left_new ≡ o.source.left_old) × (o.source.faults_new ≡ o.source.faults_old))
-    (calls : IfSome (fetches words o.source.left_old (told o.shelf)) (CallsAtMost o.shelf.calls_old o.shelf.calls_new o.shelf.faults_old o.shelf.faults_new))
+    (source : NeedsNoSource (job words) (told o.shelf) → IsUncalled o.source)
+    (calls : CallsShelf (fetches words) o.source o.shelf)
     (most : IfSome (most_fetches (job words) o.source.left_old) (λ n. o.shelf.calls_new ≤ o.shelf.calls_old + n)) where
   -- A run that drew.
   pub run_drew : (t : Task) (d : Drawing) → t ≡ Draw d → (r : Result (Unit {0}) Stop) (closed : Option Ended) (ran : Ran)
       → IfSome (task words o.source.left_old (told o.shelf)) (λ line. PreparesTask line (ReadFailed o.source o.shelf) (Ok t))
       → IsTaskOf (job words) t
-      → Ends (Some (pool_line d)) ⊥ o.out r → WritesLast o.out r → IfSome closed (IsFrameOf d) → HandsBack (has_one_frame d.job) r closed → IfErr r IsOfDrawing
+      → Ends (pool_verdict d) ⊥ o.out r → WritesLast o.out r → IfSome closed (IsFrameOf d) → HandsBack (has_one_frame d.job) r closed → IfErr r IsOfDrawing
       → Concludes r closed ran o.err → IsRun words ran o
   run_drew t d t_is r closed ran line_of is_of ends last frames handed stops c =
       let line = subst (λ (x : Task). IfSome (task words o.source.left_old (told o.shelf)) (λ l. l ≡ Ok x)) t_is line_of in
       let is = subst (IsTaskOf (job words)) t_is is_of in
-      let ended = did (task words o.source.left_old (told o.shelf)) (Draw d) (ReadFailed o.source o.shelf) o.out r line ends in
-      let answer = answered (verdict words o.source.left_old (told o.shelf)) o r closed ran ended c in
+      let answer = answered (pool_verdict d) o r closed ran (weaker (pool_verdict d) (ReadFailed o.source o.shelf) o.out r ends) c in
       let one : has_one_frame d.job ≡ has_frame (job words) = one-frame d.job.what (has_one_frame d.job) is.1 ∙ ap has_frame (sym is.0) in
       record {
+        found = Ok (Draw d);
+        as_told = line;
+        allowed = is;
         answer = answer;
-        complete = complete (verdict words o.source.left_old (told o.shelf)) ran.status o answer;
+        complete = complete (task words o.source.left_old (told o.shelf)) (Ok (Draw d)) ran.status o line answer;
         two = subst (λ (w : Result Job WordFault). WordsDecide w ran.status) (sym is.0) (drew_decides r closed ran o.err stops c);
         unwritten = λ once. unwritten r closed ran o.out o.err c last;
         handed = subst (λ (b : Bool). IsSome ran.closed ↔ (GoesWithFrame ran.status × b ≡ true)) one (hands (has_one_frame d.job) r closed ran o.err c handed);
-        closed = frame r closed ran o.err _ c (frames-of-line (task words o.source.left_old (told o.shelf)) d closed line frames);
+        closed = frame r closed ran o.err (IsFrameOf d) c frames;
         size = frame r closed ran o.err _ c (sizes (job words) d closed is.0 frames);
         source = source;
         calls = calls;
         most = most;
       }
 
+  -- Where there is no frame, none is handed back.
   no-frame-back : (r : Result (Unit {0}) Stop) → HandsBack false r None
   no-frame-back (Ok _) = refl
   no-frame-back (Err (stop.Refused r)) = refl
@@ -168,27 +171,30 @@ module _ (words : List (List ℕ)) (o : Outside)
   pub run_wrote : (t : Task) (i : Images) → t ≡ Sequence i → (r : Result (Unit {0}) Stop) (closed : Option Ended) (ran : Ran)
       → IfSome (task words o.source.left_old (told o.shelf)) (λ line. PreparesTask line (ReadFailed o.source o.shelf) (Ok t))
       → IsTaskOf (job words) t
-      → Ends (Some (image_line i)) ⊥ o.out r → IfErr r IsOfDrawing → closed ≡ None
+      → Ends (pools_verdict i) ⊥ o.out r → IfErr r IsOfDrawing → closed ≡ None
       → Concludes r closed ran o.err → IsRun words ran o
   run_wrote t i t_is r closed ran line_of is_of ends stops none c =
       let line = subst (λ (x : Task). IfSome (task words o.source.left_old (told o.shelf)) (λ l. l ≡ Ok x)) t_is line_of in
       let is = subst (IsTaskOf (job words)) t_is is_of in
-      let ended = did (task words o.source.left_old (told o.shelf)) (Sequence i) (ReadFailed o.source o.shelf) o.out r line ends in
-      let answer = answered (verdict words o.source.left_old (told o.shelf)) o r closed ran ended c in
+      let answer = answered (pools_verdict i) o r closed ran (weaker (pools_verdict i) (ReadFailed o.source o.shelf) o.out r ends) c in
       let back : HandsBack false r closed = subst (λ (x : Option Ended). HandsBack false r x) (sym none) (no-frame-back r) in
       record {
+        found = Ok (Sequence i);
+        as_told = line;
+        allowed = is;
         answer = answer;
-        complete = complete (verdict words o.source.left_old (told o.shelf)) ran.status o answer;
-        two = sequence_decides (job words) ran.status is (drew_decides r closed ran o.err stops c);
-        unwritten = λ once. absurd (is once);
-        handed = subst (λ (b : Bool). IsSome ran.closed ↔ (GoesWithFrame ran.status × b ≡ true)) (without-frame (job words) is) (hands false r closed ran o.err c back);
-        closed = frame r closed ran o.err _ c (subst (λ (x : Option Ended). IfSome x (λ c. IfSome (task words o.source.left_old (told o.shelf)) (λ l. IsFrameOfLine l c))) (sym none) tt);
+        complete = complete (task words o.source.left_old (told o.shelf)) (Ok (Sequence i)) ran.status o line answer;
+        two = sequence_decides (job words) ran.status is.0 (drew_decides r closed ran o.err stops c);
+        unwritten = λ once. absurd (is.0 once);
+        handed = subst (λ (b : Bool). IsSome ran.closed ↔ (GoesWithFrame ran.status × b ≡ true)) (without-frame (job words) is.0) (hands false r closed ran o.err c back);
+        closed = frame r closed ran o.err (IsFrameOfTask (Ok (Sequence i))) c (subst (λ (x : Option Ended). IfSome x (IsFrameOfTask (Ok (Sequence i)))) (sym none) tt);
         size = frame r closed ran o.err _ c (subst (λ (x : Option Ended). IfSome x (HasSizeOf (job words))) (sym none) tt);
         source = source;
         calls = calls;
         most = most;
       }
 
+  -- A run that stops before it draws hands none back,
   handed-none : (one : Bool) (s : Stop) → HasCause (job words) (ReadFailed o.source o.shelf) s → HandsBack {T = Unit {0}} one (Err s) None
   handed-none one (stop.Refused r) cause = refl
   handed-none one (stop.PoolFull pool) cause = absurd cause
@@ -196,6 +202,7 @@ module _ (words : List (List ℕ)) (o : Outside)
   handed-none one stop.WriteFault cause = absurd cause
   handed-none one stop.Memory cause = refl
 
+  -- and leaves the output as it was.
   unwritten-none : (s : Stop) → Keeps o.out.old o.out.new → HasCause (job words) (ReadFailed o.source o.shelf) s → WritesLast o.out (Err s)
   unwritten-none (stop.Refused r) k cause = k
   unwritten-none (stop.PoolFull pool) k cause = absurd cause
@@ -209,16 +216,21 @@ module _ (words : List (List ℕ)) (o : Outside)
       → HasCause (job words) (ReadFailed o.source o.shelf) s → Keeps o.out.old o.out.new → closed ≡ None
       → Concludes (Err s) closed ran o.err → IsRun words ran o
   run_stopped s closed ran line cause kept none c =
-      let ended = stopped (task words o.source.left_old (told o.shelf)) (job words) (ReadFailed o.source o.shelf) o.out s kept line cause in
-      let answer = answered (verdict words o.source.left_old (told o.shelf)) o (Err s) closed ran ended c in
+      let all = task words o.source.left_old (told o.shelf) in
+      let found = found_by all s in
+      let is_told = found-told all (ReadFailed o.source o.shelf) s line in
+      let answer = answered (final_verdict found) o (Err s) closed ran (stopped all (job words) (ReadFailed o.source o.shelf) o.out s kept cause) c in
       let back : HandsBack {T = Unit {0}} (has_frame (job words)) (Err s) closed = subst (λ (x : Option Ended). HandsBack {T = Unit {0}} (has_frame (job words)) (Err s) x) (sym none) (handed-none (has_frame (job words)) s cause) in
       record {
+        found = found;
+        as_told = is_told;
+        allowed = found-allowed words o.source.left_old (told o.shelf) s;
         answer = answer;
-        complete = complete (verdict words o.source.left_old (told o.shelf)) ran.status o answer;
+        complete = complete (task words o.source.left_old (told o.shelf)) (found) ran.status o is_told answer;
         two = stop_decides (job words) (ReadFailed o.source o.shelf) s closed ran o.err cause c;
         unwritten = λ once. unwritten (Err s) closed ran o.out o.err c (unwritten-none s kept cause);
         handed = hands (has_frame (job words)) (Err s) closed ran o.err c back;
-        closed = frame (Err s) closed ran o.err _ c (subst (λ (x : Option Ended). IfSome x (λ c. IfSome (task words o.source.left_old (told o.shelf)) (λ l. IsFrameOfLine l c))) (sym none) tt);
+        closed = frame (Err s) closed ran o.err (IsFrameOfTask found) c (subst (λ (x : Option Ended). IfSome x (IsFrameOfTask found)) (sym none) tt);
         size = frame (Err s) closed ran o.err _ c (subst (λ (x : Option Ended). IfSome x (HasSizeOf (job words))) (sym none) tt);
         source = source;
         calls = calls;

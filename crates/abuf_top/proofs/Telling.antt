@@ -1,4 +1,4 @@
--- What is told of the source and of the shelf, and what follows for the lines of the verdict.
+-- What is told of the source and of the shelf, and what follows for the verdicts on them.
 use Rattle.std.proofs.Common.{◌≡◌, ◌+◌, ◌++◌, ◌∷◌, [], ◌≤◌, ℕ, Bool, true, false, List, Option, Some, None, option_map, option_and_then, Result, Ok, Err, IfSome, refl, sym, ap, ◌∙◌, subst, append-nil, arith}
 use Rattle.std.specs.Io.KnownBytes.{Consumes, IsAtEnd}
 use Rattle.abuf_io.specs.Causes.{Rose}
@@ -10,7 +10,7 @@ use Rattle.abuf_cli.specs.declared.job.Job.{Job}
 use Rattle.abuf_view.specs.declared.projection.Projected.{Projected}
 use Rattle.abuf_top.specs.Libraries.{Holdings, told_by, first_refusal, contents, asked, one_and}
 use Rattle.abuf_top.specs.Prepared.{Loads, Prepares, StopsAt}
-use Rattle.abuf_top.specs.Verdict.{library_line, material_line, drawing_line, or_refusal, shelf_for}
+use Rattle.abuf_top.specs.Verdict.{library_verdict, material_verdict, drawing_verdict, or_refusal, shelf_for}
 use Rattle.abuf_top.specs.Fetches.{CallsAtMost}
 use Rattle.abuf_top.specs.declared.loaded.Loaded.{Loaded}
 use Rattle.abuf_top.specs.declared.task.Task.{Task}
@@ -18,6 +18,7 @@ use Rattle.abuf_top.specs.declared.stop.Refusal.{Refusal}
 use Rattle.abuf_top.specs.declared.stop.Stop.{Stop}
 use Rattle.abuf_top.specs.declared.stop.Stop.TheVariants as stop
 
+-- more causes of a stop may be named,
 stops-weaker : {T : Type 0} (line : Result T Refusal) (few more : Type 0) (s : Stop) → (few → more) → StopsAt line few s → StopsAt line more s
 stops-weaker line few more (stop.Refused r) f h = h
 stops-weaker line few more (stop.PoolFull pool) f h = h
@@ -30,11 +31,13 @@ pub loads-weaker : (line : Result (List Triangle) Refusal) (few more : Type 0) (
 loads-weaker line few more (Ok loaded) f h = h
 loads-weaker line few more (Err s) f h = stops-weaker line few more s f h
 
+-- also of what is told,
 pub told-weaker : (line : Option (Result (List Triangle) Refusal)) (few more : Type 0) (r : Result Loaded Stop) → (few → more)
     → IfSome line (λ l. Loads l few r) → IfSome line (λ l. Loads l more r)
 told-weaker None few more r f h = tt
 told-weaker (Some line) few more r f h = loads-weaker line few more r f h
 
+-- and of a scene that is projected
 prepares-weaker : (line : Result Task Refusal) (few more : Type 0) (job : Job) (r : Result Projected Stop) → (few → more) → Prepares line few job r → Prepares line more job r
 prepares-weaker line few more job (Ok shown) f h = h
 prepares-weaker line few more job (Err s) f h = stops-weaker line few more s f h
@@ -42,15 +45,16 @@ prepares-weaker line few more job (Err s) f h = stops-weaker line few more s f h
 -- a scene that is loaded is projected
 pub projected : (line : Option (Result (List Triangle) Refusal)) (rose : Type 0) (job : Job) (loaded : Loaded) (r : Result Projected Stop)
     → IfSome line (λ l. Loads l rose (Ok loaded))
-    → ((libraries : List (List ℕ)) → StandsFor libraries loaded.materials → Prepares (drawing_line job (material_line loaded.obj libraries)) ⊥ job r)
-    → IfSome (option_map (drawing_line job) line) (λ l. Prepares l rose job r)
+    → ((libraries : List (List ℕ)) → StandsFor libraries loaded.materials → Prepares (drawing_verdict job (material_verdict loaded.obj libraries)) ⊥ job r)
+    → IfSome (option_map (drawing_verdict job) line) (λ l. Prepares l rose job r)
 projected None rose job loaded r h told = tt
 projected (Some line) rose job loaded r h told =
-    prepares-weaker (drawing_line job line) ⊥ rose job r (λ e. absurd e)
-    (subst (λ (l : Result (List Triangle) Refusal). Prepares (drawing_line job l) ⊥ job r) (sym h.2) (told h.0 h.1))
+    prepares-weaker (drawing_verdict job line) ⊥ rose job r (λ e. absurd e)
+    (subst (λ (l : Result (List Triangle) Refusal). Prepares (drawing_verdict job l) ⊥ job r) (sym h.2) (told h.0 h.1))
 
-stops-drawing : (line : Result (List Triangle) Refusal) (rose : Type 0) (job : Job) (s : Stop) → StopsAt line rose s → StopsAt (drawing_line job line) rose s
-stops-drawing line rose job (stop.Refused r) h = ap (drawing_line job) h
+-- what stops a scene stops its drawing
+stops-drawing : (line : Result (List Triangle) Refusal) (rose : Type 0) (job : Job) (s : Stop) → StopsAt line rose s → StopsAt (drawing_verdict job line) rose s
+stops-drawing line rose job (stop.Refused r) h = ap (drawing_verdict job) h
 stops-drawing line rose job (stop.PoolFull pool) h = h
 stops-drawing line rose job stop.ReadFault h = h
 stops-drawing line rose job stop.WriteFault h = h
@@ -58,7 +62,7 @@ stops-drawing line rose job stop.Memory h = h
 
 -- and one that isn't loaded is no drawing
 pub unprojected : (line : Option (Result (List Triangle) Refusal)) (rose : Type 0) (job : Job) (s : Stop)
-    → IfSome line (λ l. StopsAt l rose s) → IfSome (option_map (drawing_line job) line) (λ l. StopsAt l rose s)
+    → IfSome line (λ l. StopsAt l rose s) → IfSome (option_map (drawing_verdict job) line) (λ l. StopsAt l rose s)
 unprojected None rose job s h = tt
 unprojected (Some line) rose job s h = stops-drawing line rose job s h
 
@@ -68,21 +72,23 @@ still h = absurd (omega (arith, h))
 
 -- a scene's libraries are read from a shelf that tells, or there are none
 pub furnish_told : (obj : Obj) (tells : Bool) (held : Holdings) (rose : Type 0) (r : Result Loaded Stop)
-    → (tells ≡ true → Loads (library_line obj held) rose r) → (obj.libraries ≡ [] → Loads (material_line obj []) ⊥ r)
-    → IfSome (option_map (library_line obj) (shelf_for obj.libraries (told_by tells held))) (λ line. Loads line rose r)
+    → (tells ≡ true → Loads (library_verdict obj held) rose r) → (obj.libraries ≡ [] → Loads (material_verdict obj []) ⊥ r)
+    → IfSome (option_map (library_verdict obj) (shelf_for obj.libraries (told_by tells held))) (λ line. Loads line rose r)
 furnish_told obj tells held rose r told none = go obj.libraries refl tells refl where
   P : List (List ℕ) → Bool → Type 0
-  P names t = IfSome (option_map (λ (h : Holdings). or_refusal (first_refusal h names) (material_line obj (contents h names))) (shelf_for names (told_by t held))) (λ line. Loads line rose r)
+  P names t = IfSome (option_map (λ (h : Holdings). or_refusal (first_refusal h names) (material_verdict obj (contents h names))) (shelf_for names (told_by t held))) (λ line. Loads line rose r)
 
   go : (names : List (List ℕ)) → obj.libraries ≡ names → (t : Bool) → tells ≡ t → P obj.libraries tells
-  go [] e t f = subst (λ (ns : List (List ℕ)). P ns tells) (sym e) (loads-weaker (material_line obj []) ⊥ rose r (λ h. absurd h) (none e))
-  go (name ∷ names) e true f = subst (λ (ns : List (List ℕ)). P ns tells) (sym e) (subst (λ (u : Bool). P (name ∷ names) u) (sym f) (subst (λ (ns : List (List ℕ)). Loads (or_refusal (first_refusal held ns) (material_line obj (contents held ns))) rose r) e (told f)))
+  go [] e t f = subst (λ (ns : List (List ℕ)). P ns tells) (sym e) (loads-weaker (material_verdict obj []) ⊥ rose r (λ h. absurd h) (none e))
+  go (name ∷ names) e true f = subst (λ (ns : List (List ℕ)). P ns tells) (sym e) (subst (λ (u : Bool). P (name ∷ names) u) (sym f) (subst (λ (ns : List (List ℕ)). Loads (or_refusal (first_refusal held ns) (material_verdict obj (contents held ns))) rose r) e (told f)))
   go (name ∷ names) e false f = subst (λ (ns : List (List ℕ)). P ns tells) (sym e) (subst (λ (u : Bool). P (name ∷ names) u) (sym f) tt)
 
+-- at least one library is asked for
 one_and-some : (r : Option Refusal) (later : ℕ) → one_and r later ≡ 0 → ⊥
 one_and-some None later e = absurd (omega arith)
 one_and-some (Some refusal) later e = absurd (omega arith)
 
+-- how often a shelf is asked for these libraries, where that is told
 pub fetches_told : (names : List (List ℕ)) (tells : Bool) (held : Holdings) (a b c d : ℕ)
     → (tells ≡ true → b ≤ a + asked held names) → (names ≡ [] → (b ≡ a) × (d ≡ c))
     → IfSome (option_map (λ (h : Holdings). asked h names) (shelf_for names (told_by tells held))) (CallsAtMost a b c d)

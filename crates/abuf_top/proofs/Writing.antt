@@ -12,7 +12,7 @@ use Rattle.abuf_top.specs.Images.{Images, image_pool}
 use Rattle.abuf_top.specs.Refusals.{full_text}
 use Rattle.abuf_top.specs.declared.status.Status.TheVariants as ended
 use Rattle.abuf_top.specs.Table.{TookSome, most_whole}
-use Rattle.abuf_top.specs.Verdict.{Refused, full_image, image_line}
+use Rattle.abuf_top.specs.Verdict.{Refused, full_image, pools_verdict}
 use Rattle.abuf_top.specs.declared.stop.FullPool.{FullPool}
 use Rattle.abuf_top.specs.declared.stop.FullPool.TheVariants as full
 use Rattle.abuf_top.specs.declared.stop.Stop.{Stop}
@@ -20,23 +20,24 @@ use Rattle.abuf_top.specs.declared.stop.Stop.TheVariants as stop
 
 module _ (i : Images) (out : Taken) where
   -- All images
-  pub wrote : AreWritten i.plan i.triangles i.shots out → ((image_line i).refusal ≡ None) × Appends out.old out.new (concat (image_line i).outputs)
+  pub wrote : AreWritten i.plan i.triangles i.shots out → ((pools_verdict i).refusal ≡ None) × Appends out.old out.new (concat (pools_verdict i).outputs)
   wrote h = (ap (full_image i) h.none_full, h.written)
 
   -- those before a full one
   pub filled : (image fragments nodes : ℕ) → StopsAtFull i.plan i.triangles i.shots out image fragments nodes
-      → RefusesBy (image_line i) (stop.PoolFull (full.InSequence image fragments nodes)) × Appends out.old out.new (concat (image_line i).outputs)
+      → RefusesBy (pools_verdict i) (stop.PoolFull (full.InSequence image fragments nodes)) × Appends out.old out.new (concat (pools_verdict i).outputs)
   filled image fragments nodes h =
       let back : image - 1 + 1 ≡ image = omega (arith, h.from_one) in
       let count : slice_index (totals i.plan i.triangles i.shots) (image - 1) ≡ fragments = sym h.count in
       let nodes_are : i.plan.nodes ≡ nodes = sym h.nodes_are in
       let pool : image_pool i (image - 1) ≡ full.InSequence image fragments nodes = λ j. full.InSequence (back j) (count j) (nodes_are j) in
       (ap (full_image i) h.first ∙ ap (λ (p : FullPool). Some (of_pool p)) pool, h.written) where
+        -- The refusal of a pool.
         of_pool : FullPool → Refused
         of_pool p = record { status = ended.PoolFull; text = full_text p }
 
   -- a prefix of those
-  pub cut : StopsAtFault i.plan i.triangles i.shots out → ((image_line i).outputs ≡ [] → ⊥) × (count : ℕ) × Appends out.old out.new (take count (concat (image_line i).outputs))
+  pub cut : StopsAtFault i.plan i.triangles i.shots out → ((pools_verdict i).outputs ≡ [] → ⊥) × (count : ℕ) × Appends out.old out.new (take count (concat (pools_verdict i).outputs))
   cut h = (λ none. absurd (omega (arith, h.begun, ap (λ (xs : List (List ℕ)). length xs) none)), h.part.0, h.part.1)
 
   abbrev sound : ℕ
@@ -53,6 +54,7 @@ module _ (i : Images) (out : Taken) where
   is_some None = false
   is_some (Some k) = true
 
+  -- Which image is the first that is full.
   first_is : (b : Bool) → nat_lt sound count ≡ b → first_full i.plan i.triangles i.shots ≡ first_if b
   first_is true e = rw e refl
   first_is false e = rw e refl
@@ -64,11 +66,12 @@ module _ (i : Images) (out : Taken) where
     go true e = absurd (true≢false (ap is_some (sym (first_is true e) ∙ none)))
     go false e = omega (arith, ltb-false sound count e, length-take sound (images i.plan i.triangles i.shots), length-map i.shots (image_of i.plan i.triangles), length-map i.shots (total_of i.plan i.triangles))
 
+  -- As many images as were written may be.
   most : (written : ℕ) → written ≤ length (sound_images i.plan i.triangles i.shots) → written < length i.shots → (k : Option ℕ) → first_full i.plan i.triangles i.shots ≡ k
       → written ≤ most_whole (full_image i k) (length (sound_images i.plan i.triangles i.shots))
   most written sound left None is = omega (arith, left, all_sound is)
   most written sound left (Some k) is = sound
 
   -- or some, whole.
-  pub gave_up : (written : ℕ) → StopsAfter i.plan i.triangles i.shots out written → TookSome out (image_line i)
+  pub gave_up : (written : ℕ) → StopsAfter i.plan i.triangles i.shots out written → TookSome out (pools_verdict i)
   gave_up written h = (written, most written h.sound h.left (first_full i.plan i.triangles i.shots) refl, h.whole)

@@ -2,7 +2,7 @@
 use Rattle.std.specs.Prelude.{◌≤◌, ℕ, List, Option, IfSome, Result}
 use Rattle.abuf_frame.specs.Closing.{Ended}
 use Rattle.abuf_top.specs.Image.{Drawing, has_one_frame}
-use Rattle.abuf_top.specs.Verdict.{pool_line}
+use Rattle.abuf_top.specs.Verdict.{pool_verdict}
 use Rattle.abuf_top.specs.Ending.{IsFrameOf, Produces, HandsBack}
 use Rattle.abuf_top.specs.declared.stop.Stop.{Stop}
 
@@ -12,6 +12,6 @@ IsWholeFrameOf d closed = IsFrameOf d closed × (closed.fragments ≤ closed.nod
 
 -- The bytes that a drawing writes, or how it stops, and its closed frame.
 pub record IsOutputOf (d : Drawing) (bytes : Result (List ℕ) Stop) (closed : Option Ended) : Type 0 where
-  pub produced : Produces (pool_line d) bytes
+  pub produced : Produces (pool_verdict d) bytes
   pub frame : IfSome closed (IsFrameOf d)
   pub handed : HandsBack (has_one_frame d.job) bytes closed

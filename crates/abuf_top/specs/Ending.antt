@@ -26,24 +26,24 @@ IsFrameOf d closed = picture.IsFrameOf d.triangles d.job.pattern (region_of d.jo
 abbrev pub RefusesBy : Verdict → Stop → Type 0
 RefusesBy v s = v.refusal ≡ Some (record { status = stop_status s; text = stop_text s })
 
--- The bytes that are to be written, or how a drawing stops before that: by a full pool, or by want of memory.
+-- The bytes that are to be written, or how a drawing stops before that: by a full pool, or because memory runs out.
 abbrev pub Produces : Verdict → Result (List ℕ) Stop → Type 0
-Produces line (Ok bytes) = line ≡ write bytes
-Produces line (Err (stop.Refused r)) = ⊥
-Produces line (Err (stop.PoolFull pool)) = (line.outputs ≡ []) × RefusesBy line (stop.PoolFull pool)
-Produces line (Err stop.ReadFault) = ⊥
-Produces line (Err stop.WriteFault) = ⊥
-Produces line (Err stop.Memory) = Unit {0}
+Produces verdict (Ok bytes) = verdict ≡ write bytes
+Produces verdict (Err (stop.Refused r)) = ⊥
+Produces verdict (Err (stop.PoolFull pool)) = (verdict.outputs ≡ []) × RefusesBy verdict (stop.PoolFull pool)
+Produces verdict (Err stop.ReadFault) = ⊥
+Produces verdict (Err stop.WriteFault) = ⊥
+Produces verdict (Err stop.Memory) = Unit {0}
 
 -- How a run of this verdict ends, before it says so: by its end, by the first refusal, by a full pool, by a fault of reading or
--- writing, which comes only where a count rose, or by want of memory.
-abbrev pub Ends : Option Verdict → Type 0 → Taken → Result (Unit {0}) Stop → Type 0
-Ends v rose out (Ok _) = IfSome v (λ v. (v.refusal ≡ None) × TookAll out v.outputs)
-Ends v rose out (Err (stop.Refused r)) = (IfSome v (λ v. RefusesBy v (stop.Refused r))) × Keeps out.old out.new
-Ends v rose out (Err (stop.PoolFull pool)) = IfSome v (λ v. RefusesBy v (stop.PoolFull pool) × TookAll out v.outputs)
+-- writing, which comes only where a count rose, or because memory runs out.
+abbrev pub Ends : Verdict → Type 0 → Taken → Result (Unit {0}) Stop → Type 0
+Ends v rose out (Ok _) = (v.refusal ≡ None) × TookAll out v.outputs
+Ends v rose out (Err (stop.Refused r)) = RefusesBy v (stop.Refused r) × Keeps out.old out.new
+Ends v rose out (Err (stop.PoolFull pool)) = RefusesBy v (stop.PoolFull pool) × TookAll out v.outputs
 Ends v rose out (Err stop.ReadFault) = rose × Keeps out.old out.new
-Ends v rose out (Err stop.WriteFault) = (IfSome v (λ v. (v.outputs ≡ [] → ⊥) × TookPart out (concat v.outputs))) × Failed out
-Ends v rose out (Err stop.Memory) = IfSome v (TookSome out)
+Ends v rose out (Err stop.WriteFault) = ((v.outputs ≡ [] → ⊥) × TookPart out (concat v.outputs)) × Failed out
+Ends v rose out (Err stop.Memory) = TookSome out v
 
 -- Nothing is written but by a write that is begun after all else: at the end, or where it fails.
 abbrev pub WritesLast : Taken → Result (Unit {0}) Stop → Type 0
@@ -68,8 +68,8 @@ HandsBack one_frame (Err stop.ReadFault) closed = IsNone closed
 HandsBack one_frame (Err stop.WriteFault) closed = HasFrame one_frame closed
 HandsBack one_frame (Err stop.Memory) closed = IsNone closed
 
--- What a run says, and its status: those of its stop. Where memory runs out for the text of a refusal, it is that of want of
--- memory.
+-- What a run says, and its status: those of its stop. Where memory runs out for the text of a refusal, they say that memory ran
+-- out.
 abbrev pub Announces : Stop → Status → Taken → Type 0
 Announces s is err = (is ≡ stop_status s) × TookLine err (stop_text s)
 

@@ -1,6 +1,7 @@
 -- How often a run asks its shelf: for a path, and for libraries.
 use Rattle.std.specs.Prelude.{◌≡◌, ◌≤◌, ◌+◌, ℕ, nat_lt, List, length, Option, Some, None, option_map, option_and_then}
 use Rattle.std.specs.Prelude.{Result, Ok, Err, IsErr, if◌then◌else◌}
+use Rattle.abuf_num.specs.declared.limits.TheConstants.{MAX_BYTES}
 use Rattle.abuf_obj.specs.Scene.{libraries, obj_fault}
 use Rattle.abuf_obj.specs.declared.fault.Why.{Why}
 use Rattle.abuf_cli.specs.Jobs.{job}
@@ -10,7 +11,7 @@ use Rattle.abuf_cli.specs.declared.job.What.TheVariants.{Render, Pick, Demo, Seq
 use Rattle.abuf_cli.specs.declared.job.WordFault.{WordFault}
 use Rattle.abuf_top.specs.Libraries.{Holdings, asked}
 use Rattle.abuf_sequence.specs.declared.path.Shot.{Shot}
-use Rattle.abuf_top.specs.Paths.{path_line}
+use Rattle.abuf_top.specs.Paths.{path_verdict}
 use Rattle.abuf_top.specs.Verdict.{shelf_for}
 use Rattle.abuf_top.specs.declared.stop.Refusal.{Refusal}
 
@@ -20,7 +21,7 @@ fault_fetches names shelf (Some fault) = Some 0
 fault_fetches names shelf None = option_map (λ held. asked held names) (shelf_for names shelf)
 
 abbrev pub scene_fetches : Option Holdings → List ℕ → Option ℕ
-scene_fetches shelf bytes = if nat_lt 67108864 (length bytes) then Some 0 else fault_fetches (libraries bytes) shelf (obj_fault bytes)
+scene_fetches shelf bytes = if nat_lt MAX_BYTES (length bytes) then Some 0 else fault_fetches (libraries bytes) shelf (obj_fault bytes)
 
 -- Those for the scene of a command: none for `demo`, whose scene is its own.
 abbrev pub load_fetches : What → Option (List ℕ) → Option Holdings → Option ℕ
@@ -46,7 +47,7 @@ path_fetches (Ok shots) later = option_map (λ n. 1 + n) later
 
 abbrev pub sequence_fetches : List ℕ → Option (List ℕ) → Option Holdings → Option ℕ
 sequence_fetches name scene None = None
-sequence_fetches name scene (Some held) = path_fetches (path_line (held name)) (option_and_then (scene_fetches (Some held)) scene)
+sequence_fetches name scene (Some held) = path_fetches (path_verdict (held name)) (option_and_then (scene_fetches (Some held)) scene)
 
 abbrev pub command_fetches : What → Option (List ℕ) → Option Holdings → Option ℕ
 command_fetches Render scene shelf = load_fetches Render scene shelf
@@ -88,7 +89,7 @@ LoadNeedsNoSource (Sequence name) = ⊥
 -- A sequence whose path is refused reads no scene.
 abbrev pub PathIsRefused : List ℕ → Option Holdings → Type 0
 PathIsRefused name None = ⊥
-PathIsRefused name (Some held) = IsErr (path_line (held name))
+PathIsRefused name (Some held) = IsErr (path_verdict (held name))
 
 abbrev pub CommandNeedsNoSource : What → Option Holdings → Type 0
 CommandNeedsNoSource Render shelf = ⊥

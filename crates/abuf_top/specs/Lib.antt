@@ -13,6 +13,7 @@ pub mod Images
 pub mod Verdict
 pub mod Outside
 pub mod Fetches
+pub mod Reads
 pub mod Prepared
 pub mod Table
 pub mod Ending

@@ -1,5 +1,6 @@
 -- The libraries of a scene, one after another: the first refusal, how many are asked for, and their contents.
 use Rattle.std.specs.Prelude.{◌++◌, ◌∷◌, [], ◌+◌, Bool, true, false, ℕ, nat_lt, List, length, Option, Some, None, if◌then◌else◌}
+use Rattle.abuf_num.specs.declared.limits.TheConstants.{MAX_BYTES}
 use Rattle.abuf_mtl.specs.Fault.{library_fault}
 use Rattle.abuf_mtl.specs.declared.fault.MtlWhy.{MtlWhy}
 use Rattle.abuf_top.specs.declared.stop.Refusal.{Refusal}
@@ -18,12 +19,12 @@ abbrev pub line_refusal : ℕ → Option (ℕ × MtlWhy) → Option Refusal
 line_refusal k None = None
 line_refusal k (Some fault) = Some (LibraryLine k fault.0 fault.1)
 
--- What refuses library k, which stands behind the libraries `before`: it isn't held, it is longer than 67108864 bytes,
+-- What refuses library k, which is read after the libraries `before`: it isn't held, it has more bytes than a library may,
 -- or its first faulty line.
 abbrev pub library_refusal : ℕ → List (List ℕ) → Option (List ℕ) → Option Refusal
 library_refusal k before None = Some (LibraryMissing k)
 library_refusal k before (Some content) =
-    if nat_lt 67108864 (length content) then Some (LibraryTooLong k) else line_refusal k (library_fault before content)
+    if nat_lt MAX_BYTES (length content) then Some (LibraryTooLong k) else line_refusal k (library_fault before content)
 
 abbrev pub or_later : Option Refusal → Option Refusal → Option Refusal
 or_later None later = later
@@ -55,7 +56,7 @@ asked_from held k before (name ∷ names) =
 abbrev pub asked : Holdings → List (List ℕ) → ℕ
 asked held names = asked_from held 1 [] names
 
--- The contents of the libraries of these names, behind others.
+-- The contents of the libraries of these names, after others.
 abbrev pub contents_from : Holdings → List (List ℕ) → List (List ℕ) → List (List ℕ)
 contents_from held before [] = before
 contents_from held before (name ∷ names) = contents_from held (with_content before (held name)) names

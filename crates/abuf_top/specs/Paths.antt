@@ -1,5 +1,6 @@
 -- The path of a sequence, from the shelf.
 use Rattle.std.specs.Prelude.{ℕ, nat_lt, List, length, Option, Some, None, Result, Ok, Err, if◌then◌else◌}
+use Rattle.abuf_num.specs.declared.limits.TheConstants.{MAX_PATH_BYTES}
 use Rattle.abuf_sequence.specs.Paths.{path}
 use Rattle.abuf_sequence.specs.declared.path.PathFault.{PathFault}
 use Rattle.abuf_sequence.specs.declared.path.PathFault.TheVariants as fault
@@ -16,8 +17,8 @@ abbrev pub shots_by : Result (List Shot) PathFault → Result (List Shot) Refusa
 shots_by (Ok shots) = Ok shots
 shots_by (Err fault) = Err (path_refusal fault)
 
--- The shots of what is held under the name of a path, or what refuses it: it isn't held, it is longer than 1048576 bytes, or its
+-- The shots of what is held under the name of a path, or what refuses it: it isn't held, it has more bytes than a path may, or its
 -- first faulty line.
-abbrev pub path_line : Option (List ℕ) → Result (List Shot) Refusal
-path_line None = Err PathMissing
-path_line (Some content) = if nat_lt 1048576 (length content) then Err PathTooLong else shots_by (path content)
+abbrev pub path_verdict : Option (List ℕ) → Result (List Shot) Refusal
+path_verdict None = Err PathMissing
+path_verdict (Some content) = if nat_lt MAX_PATH_BYTES (length content) then Err PathTooLong else shots_by (path content)

@@ -1,8 +1,7 @@
 -- The statuses and texts of everything that a run can be refused by.
 use Rattle.std.specs.Prelude.{◌++◌, ℕ, List, codes}
 use Rattle.std.specs.Fmt.{decimal}
-use Rattle.abuf_cli.specs.declared.job.Opt.{Opt}
-use Rattle.abuf_cli.specs.declared.job.Opt.TheVariants as opt
+use Rattle.abuf_cli.specs.Options.{name_of}
 use Rattle.abuf_obj.specs.declared.fault.Why.{Why}
 use Rattle.abuf_obj.specs.declared.fault.Why.TheVariants as obj
 use Rattle.abuf_mtl.specs.declared.fault.MtlWhy.{MtlWhy}
@@ -17,24 +16,6 @@ use Rattle.abuf_top.specs.declared.stop.Refusal.{Refusal}
 use Rattle.abuf_top.specs.declared.stop.Refusal.TheVariants as refusal
 use Rattle.abuf_top.specs.declared.stop.Stop.{Stop}
 use Rattle.abuf_top.specs.declared.stop.Stop.TheVariants as stop
-
--- The name of an option in messages: what the user writes after `--`, and for the value of `pick` and of `demo` a name of
--- its own.
-abbrev pub option_text : Opt → List ℕ
-option_text opt.Size = codes "size"
-option_text opt.Samples = codes "samples"
-option_text opt.Threads = codes "threads"
-option_text opt.Nodes = codes "nodes"
-option_text opt.Turn = codes "turn"
-option_text opt.Shift = codes "move"
-option_text opt.Focal = codes "focal"
-option_text opt.Near = codes "near"
-option_text opt.Background = codes "background"
-option_text opt.Maxval = codes "maxval"
-option_text opt.Bands = codes "bands"
-option_text opt.Path = codes "path"
-option_text opt.At = codes "at"
-option_text opt.Number = codes "number"
 
 -- What is wrong with a line of a scene.
 abbrev pub scene_cause : Why → List ℕ
@@ -83,7 +64,7 @@ refusal_status (refusal.LibraryLine k line why) = ended.Library
 
 abbrev pub refusal_text : Refusal → List ℕ
 refusal_text refusal.Words = codes "words not understood"
-refusal_text (refusal.Value option) = codes "bad value: " ++ option_text option
+refusal_text (refusal.Value option) = codes "bad value: " ++ name_of option
 refusal_text refusal.PathMissing = codes "path missing"
 refusal_text refusal.PathTooLong = codes "path too long"
 refusal_text (refusal.PathLine line why) = codes "path line " ++ decimal line ++ codes ": " ++ path_cause why

@@ -33,10 +33,14 @@ line_of offsets triangles x y k = sample_line k (map (layer_at offsets triangles
 abbrev pub samples_text : List (ℤ × ℤ) → List Triangle → ℕ → ℕ → ℕ → List ℕ
 samples_text offsets triangles x y n = flat_map (line_of offsets triangles x y) (range_with_len 0 n)
 
+-- A line for each of all samples.
+abbrev pub all_samples_text : List (ℤ × ℤ) → List Triangle → ℕ → ℕ → List ℕ
+all_samples_text offsets triangles x y = samples_text offsets triangles x y (length offsets)
+
 -- The fragments of pixel (x, y) by ascending number of their primitives, and then the samples.
 abbrev pub pixel_report : List (ℤ × ℤ) → List Triangle → ℕ → ℕ → List ℕ
 pixel_report offsets triangles x y =
-    fragments_text (pixel_fragments offsets triangles x y) ++ samples_text offsets triangles x y (length offsets)
+    fragments_text (pixel_fragments offsets triangles x y) ++ all_samples_text offsets triangles x y
 
 unfoldable pub report : Drawing → ℕ → ℕ → List ℕ
 report d x y = pixel_report (offsets_of d.job.pattern) d.triangles x y

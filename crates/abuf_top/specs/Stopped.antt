@@ -7,7 +7,7 @@ use Rattle.abuf_top.specs.declared.stop.Refusal.TheVariants as refusal
 use Rattle.abuf_top.specs.declared.stop.Stop.{Stop}
 use Rattle.abuf_top.specs.declared.stop.Stop.TheVariants as stop
 
--- By the first refusal, by a fault of reading, which comes only where a count rose, or by want of memory.
+-- By the first refusal, by a fault of reading, which comes only where a count rose, or because memory runs out.
 abbrev pub StoppedBy : Option Refusal → Type 0 → Stop → Type 0
 StoppedBy first rose (stop.Refused r) = first ≡ Some r
 StoppedBy first rose (stop.PoolFull pool) = ⊥

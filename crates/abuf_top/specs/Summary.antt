@@ -10,7 +10,7 @@ use Rattle.abuf_top.specs.Image.{Drawing, total, image, region_of}
 unfoldable pub longest : Drawing → ℕ
 longest d = picture.longest d.triangles d.job.pattern (region_of d.job)
 
--- The bytes of a job's image behind its header.
+-- The bytes of a job's image after its header.
 abbrev pub values_in : Job → List ℕ → List ℕ
 values_in job bytes = drop (length (pam.header job.camera.width job.camera.height job.maxval)) bytes
 
@@ -24,6 +24,6 @@ summary_text triangles fragments most value_sum =
     codes "triangles " ++ decimal triangles ++ codes "\nfragments " ++ decimal fragments ++ codes "\nlongest " ++ decimal most ++ codes "\nsum " ++ decimal value_sum ++ codes "\n"
 
 -- The number of primitives, the number of fragments, the length of the longest list of a pixel, and the sum of the image's
--- bytes behind its header.
+-- bytes after its header.
 unfoldable pub summary : Drawing → List ℕ
 summary d = summary_text (length d.triangles) (total d) (longest d) (sum (values d))

@@ -34,27 +34,27 @@ most_whole (Some refused) n = n
 abbrev pub TookSome : Taken → Verdict → Type 0
 TookSome sink v = (count : ℕ) × (count ≤ most_whole v.refusal (length v.outputs)) × Appends sink.old sink.new (concat (take count v.outputs))
 
--- The message of a stop that has this status; where the verdict is told, it is the verdict's refusal.
-pub record Says (verdict : Option Verdict) (is : Status) (err : Taken) : Type 0 where
+-- The message of a stop that has this status, which is the verdict's refusal.
+pub record Says (v : Verdict) (is : Status) (err : Taken) : Type 0 where
   pub stop : Stop
   pub has_status : stop_status stop ≡ is
-  pub refusal : IfSome verdict (λ v. v.refusal ≡ Some (record { status = is; text = stop_text stop }))
+  pub refusal : v.refusal ≡ Some (record { status = is; text = stop_text stop })
   pub text : TookLine err (stop_text stop)
 
 -- Everything that the verdict writes was written, and no message.
-pub record Wrote (verdict : Option Verdict) (out err : Taken) : Type 0 where
-  pub output : IfSome verdict (λ v. (v.refusal ≡ None) × TookAll out v.outputs)
+pub record Wrote (v : Verdict) (out err : Taken) : Type 0 where
+  pub output : (v.refusal ≡ None) × TookAll out v.outputs
   pub silent : Keeps err.old err.new
 
 -- The verdict refuses with this status, before anything is written.
-pub record Refuses (verdict : Option Verdict) (is : Status) (out err : Taken) : Type 0 where
-  pub says : Says verdict is err
+pub record Refuses (v : Verdict) (is : Status) (out err : Taken) : Type 0 where
+  pub says : Says v is err
   pub unwritten : Keeps out.old out.new
 
 -- The verdict refuses by a full pool, after its outputs.
-pub record IsFull (verdict : Option Verdict) (out err : Taken) : Type 0 where
-  pub says : Says verdict ended.PoolFull err
-  pub output : IfSome verdict (λ v. TookAll out v.outputs)
+pub record IsFull (v : Verdict) (out err : Taken) : Type 0 where
+  pub says : Says v ended.PoolFull err
+  pub output : TookAll out v.outputs
 
 -- Reading failed: a count of faults rose.
 pub record FailedToRead (o : Outside) : Type 0 where
@@ -63,40 +63,40 @@ pub record FailedToRead (o : Outside) : Type 0 where
   pub text : TookLine o.err (codes "read fault")
 
 -- Writing failed on the way: the verdict writes something, and a prefix of it was written.
-pub record FailedToWrite (verdict : Option Verdict) (out err : Taken) : Type 0 where
-  pub output : IfSome verdict (λ v. (v.outputs ≡ [] → ⊥) × TookPart out (concat v.outputs))
+pub record FailedToWrite (v : Verdict) (out err : Taken) : Type 0 where
+  pub output : (v.outputs ≡ [] → ⊥) × TookPart out (concat v.outputs)
   pub rose : Failed out
   pub text : TookLine err (codes "write fault")
 
 -- Memory ran out before the last write.
-pub record GaveUp (verdict : Option Verdict) (out err : Taken) : Type 0 where
-  pub output : IfSome verdict (TookSome out)
+pub record GaveUp (v : Verdict) (out err : Taken) : Type 0 where
+  pub output : TookSome out v
   pub text : TookLine err (codes "no memory")
 
 -- The table.
-abbrev pub Row : Option Verdict → Status → Outside → Type 0
-Row verdict ended.Written o = Wrote verdict o.out o.err
-Row verdict ended.Words o = Refuses verdict ended.Words o.out o.err
-Row verdict ended.Scene o = Refuses verdict ended.Scene o.out o.err
-Row verdict ended.Library o = Refuses verdict ended.Library o.out o.err
-Row verdict ended.PoolFull o = IsFull verdict o.out o.err
-Row verdict ended.ReadFault o = FailedToRead o
-Row verdict ended.WriteFault o = FailedToWrite verdict o.out o.err
-Row verdict ended.Memory o = GaveUp verdict o.out o.err
-Row verdict ended.Path o = Refuses verdict ended.Path o.out o.err
+abbrev pub Row : Verdict → Status → Outside → Type 0
+Row v ended.Written o = Wrote v o.out o.err
+Row v ended.Words o = Refuses v ended.Words o.out o.err
+Row v ended.Scene o = Refuses v ended.Scene o.out o.err
+Row v ended.Library o = Refuses v ended.Library o.out o.err
+Row v ended.PoolFull o = IsFull v o.out o.err
+Row v ended.ReadFault o = FailedToRead o
+Row v ended.WriteFault o = FailedToWrite v o.out o.err
+Row v ended.Memory o = GaveUp v o.out o.err
+Row v ended.Path o = Refuses v ended.Path o.out o.err
 
 -- The answer is a row of the table, under its number.
-pub record IsAnswer (verdict : Option Verdict) (number : ℕ) (o : Outside) : Type 0 where
+pub record IsAnswer (v : Verdict) (number : ℕ) (o : Outside) : Type 0 where
   pub is : Status
   pub has_number : number ≡ status_number is
-  pub row : Row verdict is o
+  pub row : Row v is o
 
 -- The status with which a run of this verdict ends.
 abbrev pub last_status : Option Refused → Status
 last_status None = ended.Written
 last_status (Some refused) = refused.status
 
--- Where no count of faults rose, the answer is that of the verdict, or want of memory. Faults of writing count only where
+-- Where no count of faults rose, the answer is that of the verdict, or memory ran out. Faults of writing count only where
 -- something is to be written.
 abbrev pub Follows : Verdict → ℕ → Outside → Type 0
 Follows v number o =

@@ -2,6 +2,7 @@
 -- hangs on something that isn't told: what the source has left, or what the shelf holds.
 use Rattle.std.specs.Prelude.{◌+◌, Bool, true, false, ℕ, nat_lt, List, [], ◌∷◌, length, Option, Some, None, option_map}
 use Rattle.std.specs.Prelude.{option_and_then, Result, Ok, Err, if◌then◌else◌}
+use Rattle.abuf_num.specs.declared.limits.TheConstants.{MAX_BYTES}
 use Rattle.abuf_obj.specs.Scene.{points, faces, names, libraries, obj_fault}
 use Rattle.abuf_obj.specs.declared.fault.Why.{Why}
 use Rattle.abuf_obj.specs.declared.scene.Obj.{Obj}
@@ -18,7 +19,7 @@ use Rattle.abuf_cli.specs.declared.job.WordFault.TheVariants as fault
 use Rattle.abuf_sequence.specs.declared.path.Shot.{Shot}
 use Rattle.abuf_sequence.specs.Sequences as sequence
 use Rattle.abuf_sequence.specs.Sequences.{sound_images}
-use Rattle.abuf_top.specs.Paths.{path_line}
+use Rattle.abuf_top.specs.Paths.{path_verdict}
 use Rattle.abuf_top.specs.Images.{Images, plan_of, image_pool}
 use Rattle.abuf_top.specs.Libraries.{Holdings, first_refusal, contents}
 use Rattle.abuf_top.specs.Demonstration.{scene_for, shelf_of}
@@ -62,16 +63,16 @@ or_unknown (Some line) triangles = Err (UnknownMaterial line)
 or_unknown None triangles = Ok triangles
 
 -- A face whose material no library has, or else the triangles of the scene.
-abbrev pub material_line : Obj → List (List ℕ) → Result (List Triangle) Refusal
-material_line scene libs = or_unknown (unknown libs scene) (triangles libs scene)
+abbrev pub material_verdict : Obj → List (List ℕ) → Result (List Triangle) Refusal
+material_verdict scene libs = or_unknown (unknown libs scene) (triangles libs scene)
 
 abbrev pub or_refusal : Option Refusal → Result (List Triangle) Refusal → Result (List Triangle) Refusal
 or_refusal (Some refusal) later = Err refusal
 or_refusal None later = later
 
 -- The libraries in order, and then the materials.
-abbrev pub library_line : Obj → Holdings → Result (List Triangle) Refusal
-library_line scene held = or_refusal (first_refusal held scene.libraries) (material_line scene (contents held scene.libraries))
+abbrev pub library_verdict : Obj → Holdings → Result (List Triangle) Refusal
+library_verdict scene held = or_refusal (first_refusal held scene.libraries) (material_verdict scene (contents held scene.libraries))
 
 -- A scene without libraries needs no shelf.
 abbrev pub shelf_for : List (List ℕ) → Option Holdings → Option Holdings
@@ -79,17 +80,17 @@ shelf_for [] shelf = Some (λ name. None)
 shelf_for (name ∷ names) shelf = shelf
 
 -- The first fault of the scene's lines, and then the libraries.
-abbrev pub fault_line : Obj → Option Holdings → Option (ℕ × Why) → Option (Result (List Triangle) Refusal)
-fault_line scene shelf (Some fault) = Some (Err (SceneLine fault.0 fault.1))
-fault_line scene shelf None = option_map (library_line scene) (shelf_for scene.libraries shelf)
+abbrev pub fault_verdict : Obj → Option Holdings → Option (ℕ × Why) → Option (Result (List Triangle) Refusal)
+fault_verdict scene shelf (Some fault) = Some (Err (SceneLine fault.0 fault.1))
+fault_verdict scene shelf None = option_map (library_verdict scene) (shelf_for scene.libraries shelf)
 
 -- The length of the scene, and then its lines.
-abbrev pub scene_line : Option Holdings → List ℕ → Option (Result (List Triangle) Refusal)
-scene_line shelf bytes = if nat_lt 67108864 (length bytes) then Some (Err SceneTooLong) else fault_line (scene_of bytes) shelf (obj_fault bytes)
+abbrev pub scene_verdict : Option Holdings → List ℕ → Option (Result (List Triangle) Refusal)
+scene_verdict shelf bytes = if nat_lt MAX_BYTES (length bytes) then Some (Err SceneTooLong) else fault_verdict (scene_of bytes) shelf (obj_fault bytes)
 
 -- The scene of a command: that of the source and the shelf, or `demo`'s own.
 abbrev pub loaded : What → Option (List ℕ) → Option Holdings → Option (Result (List Triangle) Refusal)
-loaded what scene shelf = option_and_then (scene_line (shelf_of what shelf)) (scene_for what scene)
+loaded what scene shelf = option_and_then (scene_verdict (shelf_of what shelf)) (scene_for what scene)
 
 abbrev pub word_refusal : WordFault → Refusal
 word_refusal fault.Words = Words
@@ -97,38 +98,38 @@ word_refusal (fault.Value option) = Value option
 word_refusal fault.Memory = Words
 
 -- One drawing of a scene's triangles, unless the scene is refused.
-abbrev pub drawing_line : Job → Result (List Triangle) Refusal → Result Task Refusal
-drawing_line job (Err refusal) = Err refusal
-drawing_line job (Ok triangles) = Ok (Draw (drawing_of job (prims job.camera triangles)))
+abbrev pub drawing_verdict : Job → Result (List Triangle) Refusal → Result Task Refusal
+drawing_verdict job (Err refusal) = Err refusal
+drawing_verdict job (Ok triangles) = Ok (Draw (drawing_of job (prims job.camera triangles)))
 
 -- An image of them for each shot.
-abbrev pub images_line : Job → List Shot → Result (List Triangle) Refusal → Result Task Refusal
-images_line job shots (Err refusal) = Err refusal
-images_line job shots (Ok triangles) = Ok (Sequence (record { plan = plan_of job; triangles = triangles; shots = shots }))
+abbrev pub images_verdict : Job → List Shot → Result (List Triangle) Refusal → Result Task Refusal
+images_verdict job shots (Err refusal) = Err refusal
+images_verdict job shots (Ok triangles) = Ok (Sequence (record { plan = plan_of job; triangles = triangles; shots = shots }))
 
 -- The path, and then the scene.
-abbrev pub shots_line : Job → Option (List ℕ) → Option Holdings → Result (List Shot) Refusal → Option (Result Task Refusal)
-shots_line job scene shelf (Err refusal) = Some (Err refusal)
-shots_line job scene shelf (Ok shots) = option_map (images_line job shots) (loaded job.what scene shelf)
+abbrev pub shots_verdict : Job → Option (List ℕ) → Option Holdings → Result (List Shot) Refusal → Option (Result Task Refusal)
+shots_verdict job scene shelf (Err refusal) = Some (Err refusal)
+shots_verdict job scene shelf (Ok shots) = option_map (images_verdict job shots) (loaded job.what scene shelf)
 
-abbrev pub sequence_line : Job → List ℕ → Option (List ℕ) → Option Holdings → Option (Result Task Refusal)
-sequence_line job name scene None = None
-sequence_line job name scene (Some held) = shots_line job scene (Some held) (path_line (held name))
+abbrev pub sequence_verdict : Job → List ℕ → Option (List ℕ) → Option Holdings → Option (Result Task Refusal)
+sequence_verdict job name scene None = None
+sequence_verdict job name scene (Some held) = shots_verdict job scene (Some held) (path_verdict (held name))
 
-abbrev pub command_line : What → Job → Option (List ℕ) → Option Holdings → Option (Result Task Refusal)
-command_line what.Render job scene shelf = option_map (drawing_line job) (loaded job.what scene shelf)
-command_line (what.Pick x y) job scene shelf = option_map (drawing_line job) (loaded job.what scene shelf)
-command_line (what.Demo number) job scene shelf = option_map (drawing_line job) (loaded job.what scene shelf)
-command_line (what.Sequence name) job scene shelf = sequence_line job name scene shelf
+abbrev pub command_verdict : What → Job → Option (List ℕ) → Option Holdings → Option (Result Task Refusal)
+command_verdict what.Render job scene shelf = option_map (drawing_verdict job) (loaded job.what scene shelf)
+command_verdict (what.Pick x y) job scene shelf = option_map (drawing_verdict job) (loaded job.what scene shelf)
+command_verdict (what.Demo number) job scene shelf = option_map (drawing_verdict job) (loaded job.what scene shelf)
+command_verdict (what.Sequence name) job scene shelf = sequence_verdict job name scene shelf
 
 -- The words, and then the path of a sequence and the scene.
-abbrev pub words_line : Result Job WordFault → Option (List ℕ) → Option Holdings → Option (Result Task Refusal)
-words_line (Err why) scene shelf = Some (Err (word_refusal why))
-words_line (Ok job) scene shelf = command_line job.what job scene shelf
+abbrev pub words_verdict : Result Job WordFault → Option (List ℕ) → Option Holdings → Option (Result Task Refusal)
+words_verdict (Err why) scene shelf = Some (Err (word_refusal why))
+words_verdict (Ok job) scene shelf = command_verdict job.what job scene shelf
 
 -- The first refusal of the words, the path, the scene, the libraries and the materials, or what is drawn.
 unfoldable pub task : List (List ℕ) → Option (List ℕ) → Option Holdings → Option (Result Task Refusal)
-task words scene shelf = words_line (job words) scene shelf
+task words scene shelf = words_verdict (job words) scene shelf
 
 -- Where the pool of a whole image has fewer nodes than there are fragments, it is full.
 abbrev pub whole_pool : Drawing → Option FullPool
@@ -153,27 +154,27 @@ abbrev pub or_output : Drawing → Option FullPool → Verdict
 or_output d (Some pool) = refuse ended.PoolFull (full_text pool)
 or_output d None = write (output d)
 
-abbrev pub pool_line : Drawing → Verdict
-pool_line d = or_output d (full_pool d d.job.peel d.job.bands)
+abbrev pub pool_verdict : Drawing → Verdict
+pool_verdict d = or_output d (full_pool d d.job.peel d.job.bands)
 
 -- The images of a sequence before the first whose pool is full, and then its refusal; or all images, where there is none.
 abbrev pub full_image : Images → Option ℕ → Option Refused
 full_image i (Some k) = Some (record { status = ended.PoolFull; text = full_text (image_pool i k) })
 full_image i None = None
 
-abbrev pub image_line : Images → Verdict
-image_line i = record {
+abbrev pub pools_verdict : Images → Verdict
+pools_verdict i = record {
   outputs = sound_images i.plan i.triangles i.shots;
   refusal = full_image i (sequence.first_full i.plan i.triangles i.shots);
 }
 
-abbrev pub task_line : Task → Verdict
-task_line (Draw d) = pool_line d
-task_line (Sequence i) = image_line i
+abbrev pub task_verdict : Task → Verdict
+task_verdict (Draw d) = pool_verdict d
+task_verdict (Sequence i) = pools_verdict i
 
-abbrev pub last_line : Result Task Refusal → Verdict
-last_line (Err refusal) = refuse (refusal_status refusal) (refusal_text refusal)
-last_line (Ok t) = task_line t
+abbrev pub final_verdict : Result Task Refusal → Verdict
+final_verdict (Err refusal) = refuse (refusal_status refusal) (refusal_text refusal)
+final_verdict (Ok t) = task_verdict t
 
 abbrev pub verdict : List (List ℕ) → Option (List ℕ) → Option Holdings → Option Verdict
-verdict words scene shelf = option_map last_line (task words scene shelf)
+verdict words scene shelf = option_map final_verdict (task words scene shelf)

@@ -5,7 +5,7 @@ ghost use Rattle.abuf_io.specs.Memory.{steady_pairs};
 ghost use Rattle.abuf_scene.specs.Demo.{obj};
 ghost use Rattle.abuf_top.specs.Demonstration.{demo_shelf};
 ghost use Rattle.abuf_top.specs.Stopped.{HasReadCause};
-ghost use Rattle.abuf_top.specs.Verdict.{scene_line};
+ghost use Rattle.abuf_top.specs.Verdict.{scene_verdict};
 ghost use Rattle.abuf_top.specs.Prepared.{Loads};
 
 use crate::load::read_text;
@@ -29,7 +29,7 @@ fn library_shelf(alloc: Global, library: List<u8>) -> Result<SteadyShelf, NoMemo
 /// The demonstration scene of so many triangles.
 pub fn demonstrate(alloc: Global, number: u32) -> Result<Loaded, Stop>
     requires { (1 ≤ number) × (number ≤ 200000) }
-    ensures told { IfSome (scene_line (Some demo_shelf) (obj number)) (λ line. Loads line ⊥ result) }
+    ensures told { IfSome (scene_verdict (Some demo_shelf) (obj number)) (λ verdict. Loads verdict ⊥ result) }
     ensures cause { IfErr result (HasReadCause ⊥) }
     ensures scene { IfOk result (λ loaded. IsScene loaded.obj) }
 {

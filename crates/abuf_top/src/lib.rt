@@ -2,7 +2,7 @@
 //! pixel, or to the summary of a demonstration.
 //!
 //! [`run`] has the contract that the whole program rests on. What it answers is the verdict (`specs/Verdict.antt`), a chain of
-//! lines in the order of refusals; `specs/Table.antt` says what each status means for what was written, `specs/Output.antt`
+//! verdicts in the order of refusals; `specs/Table.antt` says what each status means for what was written, `specs/Output.antt`
 //! what is written, `specs/Image.antt` what the image is, sample by sample, and `specs/Fetches.antt` how often the shelf is
 //! asked.
 #![tactic(auto)]

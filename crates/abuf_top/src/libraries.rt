@@ -1,5 +1,7 @@
 // The libraries of a scene, from a shelf.
-ghost use Rattle.std.specs.Prelude.{◌≡◌, ◌≤◌, ◌<◌, ◌+◌, ◌++◌, ◌∷◌, ◌^◌, [], List as Items, ℕ, length, true, None, Some, IfSome, IfErr, IsOkAnd, MatchResult};
+ghost use Rattle.std.specs.Prelude.{◌≡◌, ◌≤◌, ◌<◌, ◌+◌, ◌++◌, ◌∷◌, ◌^◌, [], List as Items, ℕ, length, true};
+ghost use Rattle.std.specs.Prelude.{None, Some, IfSome, IfErr, IsOkAnd, MatchResult};
+ghost use Rattle.abuf_num.specs.declared.limits.TheConstants.{MAX_BYTES};
 ghost use Rattle.abuf_io.specs.Causes.{Rose};
 ghost use Rattle.abuf_mtl.specs.Fault.{library_fault};
 ghost use Rattle.abuf_mtl.specs.StandsFor.{StandsFor};
@@ -10,10 +12,8 @@ use crate::stop::{Refusal, Stop};
 use abuf_io::{Fetch, Shelf};
 use abuf_mtl::{Materials, MtlFault, read_mtl};
 use abuf_num::List;
+use abuf_num::limits::MAX_BYTES;
 use std::alloc::Global;
-
-/// The greatest number of bytes of a scene, and of a library.
-pub const MOST_BYTES: u64 = 67108864;
 
 // Reads the content of library `number`.
 fn read_content(
@@ -22,7 +22,7 @@ fn read_content(
     content: &[u8],
     materials: &mut Materials,
 ) -> Result<(), Stop>
-    requires { length content.now ≤ 67108864 }
+    requires { length content.now ≤ MAX_BYTES }
     ensures told { (before : Items (Items ℕ)) → StandsFor before materials.old → MatchResult result
         (λ _. (library_fault before content.now ≡ None) × StandsFor (before ++ content.now ∷ []) materials.new)
         (StoppedBy (line_refusal number (library_fault before content.now)) ⊥) }
@@ -46,7 +46,8 @@ fn read_library<H: Shelf>(
     materials: &mut Materials,
 ) -> Result<(), Stop>
     ensures told { H.tells shelf.old ≡ true → (before : Items (Items ℕ)) → StandsFor before materials.old → MatchResult result
-        (λ _. (library_refusal number before (H.holds shelf.old name.now) ≡ None) × IfSome (H.holds shelf.old name.now) (λ content. StandsFor (before ++ content ∷ []) materials.new))
+        (λ _. (library_refusal number before (H.holds shelf.old name.now) ≡ None)
+        × IfSome (H.holds shelf.old name.now) (λ content. StandsFor (before ++ content ∷ []) materials.new))
         (StoppedBy (library_refusal number before (H.holds shelf.old name.now)) (Rose (H.faults shelf.old) (H.faults shelf.new))) }
     ensures cause { IfErr result (HasReadCause (Rose (H.faults shelf.old) (H.faults shelf.new))) }
     ensures tells { H.tells shelf.new ≡ H.tells shelf.old }
@@ -54,7 +55,7 @@ fn read_library<H: Shelf>(
     ensures calls { H.calls shelf.new ≤ H.calls shelf.old + 1 }
     ensures later { H.faults shelf.old ≤ H.faults shelf.new }
 {
-    match shelf.fetch(alloc, name, MOST_BYTES) {
+    match shelf.fetch(alloc, name, MAX_BYTES) {
         Ok(content) => read_content(alloc, number, content.as_slice(), materials),
         Err(Fetch::Missing) => Err(Stop::Refused(Refusal::LibraryMissing(number))),
         Err(Fetch::TooLong) => Err(Stop::Refused(Refusal::LibraryTooLong(number))),
@@ -64,7 +65,7 @@ fn read_library<H: Shelf>(
 }
 
 /// Reads the libraries of these names in order, up to the first that is refused: one is read before the next is fetched,
-/// and none is fetched behind one that is refused.
+/// and none is fetched after one that is refused.
 pub fn read_libraries<H: Shelf>(
     alloc: Global,
     shelf: &mut H,

@@ -1,23 +1,27 @@
 // The work before the projection: the words, the scene, its libraries and their materials.
 ghost use Rattle.std.specs.Prelude.{◌≡◌, ◌⊎◌, ◌≤◌, ◌+◌, [], List as Items, ℕ, length, true, IfOk, IfErr, IfSome, None, OnOk, option_and_then};
+ghost use Rattle.abuf_num.specs.declared.limits.TheConstants.{MAX_BYTES};
 ghost use Rattle.abuf_io.specs.Causes.{Rose};
 ghost use Rattle.abuf_obj.specs.Sound.{IsScene};
 ghost use Rattle.abuf_obj.specs.Scene.{points, faces, names, libraries, obj_fault};
 ghost use Rattle.abuf_obj.specs.Faults.{TellsFirst};
 ghost use Rattle.abuf_cli.specs.Sound.{IsJob};
-ghost use Rattle.abuf_top.specs.Fetches.{fault_fetches, scene_fetches, load_fetches, most_for_libraries, most_for_load, CallsAtMost, LoadNeedsNoSource};
-ghost use Rattle.abuf_top.specs.Libraries.{asked, told_by};
+ghost use Rattle.abuf_top.specs.Fetches.{fault_fetches, scene_fetches, load_fetches, most_for_libraries, most_for_load, LoadNeedsNoSource};
+ghost use Rattle.abuf_top.specs.Libraries.{asked};
+ghost use Rattle.abuf_top.specs.Outside.{source_change, shelf_change};
+ghost use Rattle.abuf_top.specs.Reads.{AnswersAs, AnswersAsHeld, CallsShelf, CallsHeld, IsUncalled};
 ghost use Rattle.abuf_top.specs.Prepared.{Loads};
 ghost use Rattle.abuf_top.specs.Stopped.{HasReadCause};
-ghost use Rattle.abuf_top.specs.Verdict.{material_line, library_line, fault_line, scene_line, scene_of, loaded};
+ghost use Rattle.abuf_top.specs.Verdict.{material_verdict, library_verdict, fault_verdict, scene_verdict, scene_of, loaded};
 
 use crate::demonstration::demonstrate;
-use crate::libraries::{MOST_BYTES, read_libraries};
+use crate::libraries::read_libraries;
 use crate::loaded::Loaded;
 use crate::stop::{Refusal, Stop};
 use abuf_cli::{Job, What, WordFault};
 use abuf_io::{ReadEnd, Shelf, Source, read_all};
 use abuf_num::List;
+use abuf_num::limits::MAX_BYTES;
 use abuf_obj::{Obj, ObjFault, read_obj};
 use abuf_scene::SceneFault;
 use std::alloc::Global;
@@ -79,8 +83,8 @@ impl From<WordFault> for Stop {
 // A scene whose libraries are yet to be read.
 fn furnish<H: Shelf>(alloc: Global, obj: Obj, shelf: &mut H) -> Result<Loaded, Stop>
     requires { IsScene obj }
-    ensures told { H.tells shelf.old ≡ true → Loads (library_line obj (H.holds shelf.old)) (Rose (H.faults shelf.old) (H.faults shelf.new)) result }
-    ensures none { obj.libraries ≡ [] → Loads (material_line obj []) ⊥ result }
+    ensures told { H.tells shelf.old ≡ true → Loads (library_verdict obj (H.holds shelf.old)) (Rose (H.faults shelf.old) (H.faults shelf.new)) result }
+    ensures none { obj.libraries ≡ [] → Loads (material_verdict obj []) ⊥ result }
     ensures cause { IfErr result (HasReadCause (Rose (H.faults shelf.old) (H.faults shelf.new))) }
     ensures scene { IfOk result (λ loaded. IsScene loaded.obj) }
     ensures calls { H.tells shelf.old ≡ true → H.calls shelf.new ≤ H.calls shelf.old + asked (H.holds shelf.old) obj.libraries }
@@ -92,9 +96,9 @@ fn furnish<H: Shelf>(alloc: Global, obj: Obj, shelf: &mut H) -> Result<Loaded, S
     Ok(Loaded { obj, materials })
 }
 
-// The scene that these bytes define. They are let go once they are read.
+// The scene that these bytes define. They are freed once they are read.
 fn read_list(alloc: Global, bytes: List<u8>) -> Result<Obj, ObjFault>
-    requires { length bytes ≤ 67108864 }
+    requires { length bytes ≤ MAX_BYTES }
     ensures fault { IfErr result (TellsFirst (obj_fault bytes)) }
     ensures sound { OnOk result (obj_fault bytes ≡ None) }
     ensures points { IfOk result (λ obj. obj.points ≡ points bytes) }
@@ -108,11 +112,13 @@ fn read_list(alloc: Global, bytes: List<u8>) -> Result<Obj, ObjFault>
 
 // The scene that these bytes define, and its libraries.
 fn read_bytes<H: Shelf>(alloc: Global, bytes: List<u8>, shelf: &mut H) -> Result<Loaded, Stop>
-    requires { length bytes ≤ 67108864 }
-    ensures told { IfSome (fault_line (scene_of bytes) (told_by (H.tells shelf.old) (H.holds shelf.old)) (obj_fault bytes)) (λ line. Loads line (Rose (H.faults shelf.old) (H.faults shelf.new)) result) }
+    requires { length bytes ≤ MAX_BYTES }
+    ensures told { AnswersAsHeld (λ held. fault_verdict (scene_of bytes) held (obj_fault bytes)) (λ verdict rose. Loads verdict rose result)
+        (shelf_change H.tells H.holds H.calls H.faults shelf.old shelf.new) }
     ensures cause { IfErr result (HasReadCause (Rose (H.faults shelf.old) (H.faults shelf.new))) }
     ensures scene { IfOk result (λ loaded. IsScene loaded.obj) }
-    ensures calls { IfSome (fault_fetches (libraries bytes) (told_by (H.tells shelf.old) (H.holds shelf.old)) (obj_fault bytes)) (CallsAtMost (H.calls shelf.old) (H.calls shelf.new) (H.faults shelf.old) (H.faults shelf.new)) }
+    ensures calls { CallsHeld (λ held. fault_fetches (libraries bytes) held (obj_fault bytes))
+        (shelf_change H.tells H.holds H.calls H.faults shelf.old shelf.new) }
     ensures most { H.calls shelf.new ≤ H.calls shelf.old + length (libraries bytes) }
     ensures later { H.faults shelf.old ≤ H.faults shelf.new }
 {
@@ -122,11 +128,12 @@ fn read_bytes<H: Shelf>(alloc: Global, bytes: List<u8>, shelf: &mut H) -> Result
 
 /// The scene that these bytes define, unless they are too many, and its libraries.
 pub fn read_text<H: Shelf>(alloc: Global, bytes: List<u8>, shelf: &mut H) -> Result<Loaded, Stop>
-    ensures told { IfSome (scene_line (told_by (H.tells shelf.old) (H.holds shelf.old)) bytes) (λ line. Loads line (Rose (H.faults shelf.old) (H.faults shelf.new)) result) }
+    ensures told { AnswersAsHeld (λ held. scene_verdict held bytes) (λ verdict rose. Loads verdict rose result)
+        (shelf_change H.tells H.holds H.calls H.faults shelf.old shelf.new) }
     ensures cause { IfErr result (HasReadCause (Rose (H.faults shelf.old) (H.faults shelf.new))) }
     ensures scene { IfOk result (λ loaded. IsScene loaded.obj) }
 {
-    if bytes.as_slice().len() as u64 > MOST_BYTES {
+    if bytes.as_slice().len() as u64 > MAX_BYTES {
         return Err(Stop::Refused(Refusal::SceneTooLong));
     }
     read_bytes(alloc, bytes, shelf)
@@ -138,14 +145,16 @@ fn read_scene<S: Source, H: Shelf>(
     scene: &mut S,
     shelf: &mut H,
 ) -> Result<Loaded, Stop>
-    ensures told { IfSome (option_and_then (scene_line (told_by (H.tells shelf.old) (H.holds shelf.old))) (S.left scene.old)) (λ line. Loads line (Rose (S.faults scene.old) (S.faults scene.new) ⊎ Rose (H.faults shelf.old) (H.faults shelf.new)) result) }
+    ensures told { AnswersAs (λ left held. option_and_then (scene_verdict held) left) (λ verdict rose. Loads verdict rose result)
+        (source_change S.left S.faults scene.old scene.new) (shelf_change H.tells H.holds H.calls H.faults shelf.old shelf.new) }
     ensures cause { IfErr result (HasReadCause (Rose (S.faults scene.old) (S.faults scene.new) ⊎ Rose (H.faults shelf.old) (H.faults shelf.new))) }
     ensures scene { IfOk result (λ loaded. IsScene loaded.obj) }
     ensures later { H.faults shelf.old ≤ H.faults shelf.new }
-    ensures calls { IfSome (option_and_then (scene_fetches (told_by (H.tells shelf.old) (H.holds shelf.old))) (S.left scene.old)) (CallsAtMost (H.calls shelf.old) (H.calls shelf.new) (H.faults shelf.old) (H.faults shelf.new)) }
+    ensures calls { CallsShelf (λ left held. option_and_then (scene_fetches held) left)
+        (source_change S.left S.faults scene.old scene.new) (shelf_change H.tells H.holds H.calls H.faults shelf.old shelf.new) }
     ensures most { IfSome (most_for_libraries (S.left scene.old)) (λ n. H.calls shelf.new ≤ H.calls shelf.old + n) }
 {
-    let bytes = read_all(alloc, scene, MOST_BYTES)?;
+    let bytes = read_all(alloc, scene, MAX_BYTES)?;
     read_bytes(alloc, bytes, shelf)
 }
 
@@ -157,13 +166,15 @@ pub fn load<S: Source, H: Shelf>(
     shelf: &mut H,
 ) -> Result<Loaded, Stop>
     requires { IsJob job.now }
-    ensures told { IfSome (loaded job.now.what (S.left scene.old) (told_by (H.tells shelf.old) (H.holds shelf.old))) (λ line. Loads line (Rose (S.faults scene.old) (S.faults scene.new) ⊎ Rose (H.faults shelf.old) (H.faults shelf.new)) result) }
+    ensures told { AnswersAs (loaded job.now.what) (λ verdict rose. Loads verdict rose result)
+        (source_change S.left S.faults scene.old scene.new) (shelf_change H.tells H.holds H.calls H.faults shelf.old shelf.new) }
     ensures cause { IfErr result (HasReadCause (Rose (S.faults scene.old) (S.faults scene.new) ⊎ Rose (H.faults shelf.old) (H.faults shelf.new))) }
     ensures scene { IfOk result (λ loaded. IsScene loaded.obj) }
-    ensures calls { IfSome (load_fetches job.now.what (S.left scene.old) (told_by (H.tells shelf.old) (H.holds shelf.old))) (CallsAtMost (H.calls shelf.old) (H.calls shelf.new) (H.faults shelf.old) (H.faults shelf.new)) }
+    ensures calls { CallsShelf (load_fetches job.now.what)
+        (source_change S.left S.faults scene.old scene.new) (shelf_change H.tells H.holds H.calls H.faults shelf.old shelf.new) }
     ensures later { H.faults shelf.old ≤ H.faults shelf.new }
     ensures most { IfSome (most_for_load job.now.what (S.left scene.old)) (λ n. H.calls shelf.new ≤ H.calls shelf.old + n) }
-    ensures source { LoadNeedsNoSource job.now.what → (S.left scene.new ≡ S.left scene.old) × (S.faults scene.new ≡ S.faults scene.old) }
+    ensures source { LoadNeedsNoSource job.now.what → IsUncalled (source_change S.left S.faults scene.old scene.new) }
 {
     match job.what {
         What::Render | What::Pick { .. } | What::Sequence { .. } => {

@@ -17,15 +17,16 @@ pub struct Loaded {
 
 impl Loaded {
     ghost use Rattle.std.specs.Prelude.{◌≡◌, ◌≤◌, All, List as Items, ℕ, length, IfOk, IfErr};
+    ghost use Rattle.abuf_num.specs.declared.limits.TheConstants.{MAX_PRIMITIVES, MAX_TRIANGLES};
     ghost use Rattle.abuf_cli.specs.Sound.{IsJob};
     ghost use Rattle.abuf_obj.specs.Sound.{IsScene};
     ghost use Rattle.abuf_scene.specs.Triangles.{IsTriangleInRange};
     ghost use Rattle.abuf_mtl.specs.StandsFor.{StandsFor};
     ghost use Rattle.abuf_top.specs.Prepared.{Prepares, Assembles};
     ghost use Rattle.abuf_top.specs.Stopped.{HasReadCause};
-    ghost use Rattle.abuf_top.specs.Verdict.{material_line, drawing_line};
+    ghost use Rattle.abuf_top.specs.Verdict.{material_verdict, drawing_verdict};
 
-    /// The primitives of the scene, on the job's threads. What was read of the file is then let go.
+    /// The primitives of the scene, on the job's threads. What was read of the file is freed.
     pub fn project<R: Threads + Sync>(
         self,
         rt: &R,
@@ -34,10 +35,11 @@ impl Loaded {
     ) -> Result<Projected, Stop>
         requires job { IsJob job.now }
         requires scene { IsScene self.obj }
-        ensures told { (libraries : Items (Items ℕ)) → StandsFor libraries self.materials → Prepares (drawing_line job.now (material_line self.obj libraries)) ⊥ job.now result }
+        ensures told { (libraries : Items (Items ℕ)) → StandsFor libraries self.materials
+            → Prepares (drawing_verdict job.now (material_verdict self.obj libraries)) ⊥ job.now result }
         ensures cause { IfErr result (HasReadCause ⊥) }
         ensures one_length { IfOk result (λ p. length p.tris ≡ length p.paints) }
-        ensures few { IfOk result (λ p. length p.tris ≤ 2097152) }
+        ensures few { IfOk result (λ p. length p.tris ≤ MAX_PRIMITIVES) }
     {
         let shown = project_faces(
             rt,
@@ -50,13 +52,13 @@ impl Loaded {
         Ok(shown)
     }
 
-    /// The triangles of the scene, as they stand in it. What was read of the file is then let go.
+    /// The triangles of the scene, as they stand in it. What was read of the file is freed.
     pub fn assemble(self, alloc: Global) -> Result<Scene, Stop>
         requires scene { IsScene self.obj }
-        ensures told { (libraries : Items (Items ℕ)) → StandsFor libraries self.materials → Assembles (material_line self.obj libraries) ⊥ result }
+        ensures told { (libraries : Items (Items ℕ)) → StandsFor libraries self.materials → Assembles (material_verdict self.obj libraries) ⊥ result }
         ensures cause { IfErr result (HasReadCause ⊥) }
         ensures near { IfOk result (λ scene. All IsTriangleInRange scene.triangles) }
-        ensures few { IfOk result (λ scene. length scene.triangles ≤ 1048576) }
+        ensures few { IfOk result (λ scene. length scene.triangles ≤ MAX_TRIANGLES) }
     {
         let scene = assemble(alloc, &self.obj, &self.materials)?;
         Ok(scene)

@@ -38,7 +38,8 @@ impl Outcome<List<u8>> {
 
     /// What is written, where memory was enough, and the frame.
     pub fn of(bytes: Result<List<u8>, NoMemory>, closed: Option<Closed>) -> Outcome<List<u8>>
-        ensures bytes { MatchResult bytes (λ b. (result.result ≡ Ok b) × (result.closed ≡ closed)) (λ _. (result.result ≡ Err stop.Memory) × (result.closed ≡ None)) }
+        ensures bytes { MatchResult bytes (λ b. (result.result ≡ Ok b) × (result.closed ≡ closed))
+            (λ _. (result.result ≡ Err stop.Memory) × (result.closed ≡ None)) }
     {
         match bytes {
             Ok(bytes) => Outcome {

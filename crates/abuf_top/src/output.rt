@@ -1,11 +1,11 @@
 // What is written, by the command.
-ghost use Rattle.std.specs.Prelude.{◌≡◌, Some, IfSome, IfErr};
+ghost use Rattle.std.specs.Prelude.{◌≡◌, IfSome, IfErr};
 ghost use Rattle.abuf_top.specs.Drawn.{IsOutputOf};
 ghost use Rattle.abuf_top.specs.Ending.{IsFrameOf, Ends, WritesLast, HandsBack};
 ghost use Rattle.abuf_top.specs.Image.{has_one_frame};
 ghost use Rattle.abuf_top.specs.Outside.{sink_change};
 ghost use Rattle.abuf_top.specs.Stopped.{IsOfDrawing};
-ghost use Rattle.abuf_top.specs.Verdict.{pool_line};
+ghost use Rattle.abuf_top.specs.Verdict.{pool_verdict};
 
 use crate::commands::demo::summarize;
 use crate::commands::pick::pick;
@@ -45,7 +45,7 @@ pub fn write_output<R: Threads + Sync, O: Sink, G: Gate + Sync>(
     out: &mut O,
     gate: &G,
 ) -> Outcome<()>
-    ensures ends { Ends (Some (pool_line drawing.now)) ⊥ (sink_change O.taken O.faults out.old out.new) result.result }
+    ensures ends { Ends (pool_verdict drawing.now) ⊥ (sink_change O.taken O.faults out.old out.new) result.result }
     ensures last { WritesLast (sink_change O.taken O.faults out.old out.new) result.result }
     ensures stops { IfErr result.result IsOfDrawing }
     ensures closed { IfSome result.closed (IsFrameOf drawing.now) }

@@ -1,6 +1,7 @@
 // What is to be drawn: all that comes before the drawing.
 ghost use Rattle.std.specs.Prelude.{◌≡◌, ◌⊎◌, ◌≤◌, ◌+◌, length, map, option_map, IfOk, IfErr, IfSome, MatchOption, Ok};
 ghost use Rattle.std.specs.String.{string_bytes};
+ghost use Rattle.abuf_num.specs.declared.limits.TheConstants.{MAX_PRIMITIVES};
 ghost use Rattle.abuf_io.specs.Causes.{Rose};
 ghost use Rattle.abuf_cli.specs.Jobs.{job};
 ghost use Rattle.abuf_cli.specs.Sound.{IsJob};
@@ -8,8 +9,11 @@ ghost use Rattle.abuf_cli.specs.declared.job.What.TheVariants as what;
 ghost use Rattle.abuf_top.specs.Image.{DrawsOnce};
 ghost use Rattle.abuf_top.specs.Libraries.{told_by};
 ghost use Rattle.abuf_top.specs.Stopped.{HasReadCause, HasCause};
-ghost use Rattle.abuf_top.specs.Fetches.{load_fetches, command_fetches, fetches, most_for_load, most_for_command, most_fetches, CallsAtMost, LoadNeedsNoSource, CommandNeedsNoSource, NeedsNoSource};
-ghost use Rattle.abuf_top.specs.Verdict.{drawing_line, loaded, command_line, task};
+ghost use Rattle.abuf_top.specs.Fetches.{load_fetches, command_fetches, fetches, most_for_load, most_for_command, most_fetches};
+ghost use Rattle.abuf_top.specs.Fetches.{LoadNeedsNoSource, CommandNeedsNoSource, NeedsNoSource};
+ghost use Rattle.abuf_top.specs.Outside.{source_change, shelf_change, ReadFailed};
+ghost use Rattle.abuf_top.specs.Reads.{AnswersAs, CallsShelf, IsUncalled};
+ghost use Rattle.abuf_top.specs.Verdict.{drawing_verdict, loaded, command_verdict, task};
 ghost use Rattle.abuf_top.specs.Prepared.{Prepares, PreparesTask, IsTaskOf};
 
 use crate::commands::sequence::prepare_images;
@@ -32,13 +36,15 @@ fn primitives_of<R: Threads + Sync, S: Source, H: Shelf>(
     shelf: &mut H,
 ) -> Result<Projected, Stop>
     requires job { IsJob job.now }
-    ensures told { IfSome (option_map (drawing_line job.now) (loaded job.now.what (S.left scene.old) (told_by (H.tells shelf.old) (H.holds shelf.old)))) (λ line. Prepares line (Rose (S.faults scene.old) (S.faults scene.new) ⊎ Rose (H.faults shelf.old) (H.faults shelf.new)) job.now result) }
+    ensures told { AnswersAs (λ left held. option_map (drawing_verdict job.now) (loaded job.now.what left held)) (λ verdict rose. Prepares verdict rose job.now result)
+        (source_change S.left S.faults scene.old scene.new) (shelf_change H.tells H.holds H.calls H.faults shelf.old shelf.new) }
     ensures cause { IfErr result (HasReadCause (Rose (S.faults scene.old) (S.faults scene.new) ⊎ Rose (H.faults shelf.old) (H.faults shelf.new))) }
-    ensures calls { IfSome (load_fetches job.now.what (S.left scene.old) (told_by (H.tells shelf.old) (H.holds shelf.old))) (CallsAtMost (H.calls shelf.old) (H.calls shelf.new) (H.faults shelf.old) (H.faults shelf.new)) }
+    ensures calls { CallsShelf (load_fetches job.now.what)
+        (source_change S.left S.faults scene.old scene.new) (shelf_change H.tells H.holds H.calls H.faults shelf.old shelf.new) }
     ensures most { IfSome (most_for_load job.now.what (S.left scene.old)) (λ n. H.calls shelf.new ≤ H.calls shelf.old + n) }
-    ensures source { LoadNeedsNoSource job.now.what → (S.left scene.new ≡ S.left scene.old) × (S.faults scene.new ≡ S.faults scene.old) }
+    ensures source { LoadNeedsNoSource job.now.what → IsUncalled (source_change S.left S.faults scene.old scene.new) }
     ensures one_length { IfOk result (λ p. length p.tris ≡ length p.paints) }
-    ensures few { IfOk result (λ p. length p.tris ≤ 2097152) }
+    ensures few { IfOk result (λ p. length p.tris ≤ MAX_PRIMITIVES) }
 {
     let loaded = load(alloc, job, scene, shelf)?;
     loaded.project(rt, alloc, job)
@@ -63,11 +69,14 @@ fn task_of<R: Threads + Sync, S: Source, H: Shelf>(
     shelf: &mut H,
 ) -> Result<Task, Stop>
     requires { IsJob job }
-    ensures told { IfSome (command_line job.what job (S.left scene.old) (told_by (H.tells shelf.old) (H.holds shelf.old))) (λ line. PreparesTask line (Rose (S.faults scene.old) (S.faults scene.new) ⊎ Rose (H.faults shelf.old) (H.faults shelf.new)) result) }
+    ensures told { AnswersAs (command_verdict job.what job) (λ verdict rose. PreparesTask verdict rose result)
+        (source_change S.left S.faults scene.old scene.new) (shelf_change H.tells H.holds H.calls H.faults shelf.old shelf.new) }
     ensures cause { IfErr result (HasReadCause (Rose (S.faults scene.old) (S.faults scene.new) ⊎ Rose (H.faults shelf.old) (H.faults shelf.new))) }
-    ensures calls { IfSome (command_fetches job.what (S.left scene.old) (told_by (H.tells shelf.old) (H.holds shelf.old))) (CallsAtMost (H.calls shelf.old) (H.calls shelf.new) (H.faults shelf.old) (H.faults shelf.new)) }
+    ensures calls { CallsShelf (command_fetches job.what)
+        (source_change S.left S.faults scene.old scene.new) (shelf_change H.tells H.holds H.calls H.faults shelf.old shelf.new) }
     ensures most { IfSome (most_for_command job.what (S.left scene.old)) (λ n. H.calls shelf.new ≤ H.calls shelf.old + n) }
-    ensures source { CommandNeedsNoSource job.what (told_by (H.tells shelf.old) (H.holds shelf.old)) → (S.left scene.new ≡ S.left scene.old) × (S.faults scene.new ≡ S.faults scene.old) }
+    ensures source { CommandNeedsNoSource job.what (told_by (H.tells shelf.old) (H.holds shelf.old))
+        → IsUncalled (source_change S.left S.faults scene.old scene.new) }
     ensures job { IfOk result (IsTaskOf (Ok job)) }
 {
     if let Some(name) = path_of(&job) {
@@ -88,11 +97,15 @@ pub fn prepare<R: Threads + Sync, S: Source, H: Shelf>(
     scene: &mut S,
     shelf: &mut H,
 ) -> Result<Task, Stop>
-    ensures told { IfSome (task (map string_bytes words.now) (S.left scene.old) (told_by (H.tells shelf.old) (H.holds shelf.old))) (λ line. PreparesTask line (Rose (S.faults scene.old) (S.faults scene.new) ⊎ Rose (H.faults shelf.old) (H.faults shelf.new)) result) }
-    ensures cause { IfErr result (HasCause (job (map string_bytes words.now)) (Rose (S.faults scene.old) (S.faults scene.new) ⊎ Rose (H.faults shelf.old) (H.faults shelf.new))) }
-    ensures calls { IfSome (fetches (map string_bytes words.now) (S.left scene.old) (told_by (H.tells shelf.old) (H.holds shelf.old))) (CallsAtMost (H.calls shelf.old) (H.calls shelf.new) (H.faults shelf.old) (H.faults shelf.new)) }
+    ensures told { AnswersAs (task (map string_bytes words.now)) (λ verdict rose. PreparesTask verdict rose result)
+        (source_change S.left S.faults scene.old scene.new) (shelf_change H.tells H.holds H.calls H.faults shelf.old shelf.new) }
+    ensures cause { IfErr result (HasCause (job (map string_bytes words.now)) (ReadFailed
+        (source_change S.left S.faults scene.old scene.new) (shelf_change H.tells H.holds H.calls H.faults shelf.old shelf.new))) }
+    ensures calls { CallsShelf (fetches (map string_bytes words.now))
+        (source_change S.left S.faults scene.old scene.new) (shelf_change H.tells H.holds H.calls H.faults shelf.old shelf.new) }
     ensures most { IfSome (most_fetches (job (map string_bytes words.now)) (S.left scene.old)) (λ n. H.calls shelf.new ≤ H.calls shelf.old + n) }
-    ensures source { NeedsNoSource (job (map string_bytes words.now)) (told_by (H.tells shelf.old) (H.holds shelf.old)) → (S.left scene.new ≡ S.left scene.old) × (S.faults scene.new ≡ S.faults scene.old) }
+    ensures source { NeedsNoSource (job (map string_bytes words.now)) (told_by (H.tells shelf.old) (H.holds shelf.old))
+        → IsUncalled (source_change S.left S.faults scene.old scene.new) }
     ensures words { IfOk result (IsTaskOf (job (map string_bytes words.now))) }
 {
     let job = read_words(alloc, words)?;

@@ -1,6 +1,7 @@
 // The report of one pixel's fragments.
 ghost use Rattle.std.specs.Prelude.{◌≡◌, ℕ, ◌≤◌, ◌<◌, ◌+◌, ◌*◌, ◌^◌, ◌++◌, length, map, flat_map, All, IfOk, OnOk};
 ghost use Rattle.std.specs.String.{string_bytes};
+ghost use Rattle.abuf_num.specs.declared.limits.TheConstants.{MAX_PRIMITIVES};
 ghost use Rattle.abuf_raster.specs.Hits.{all_fragments};
 ghost use Rattle.abuf_raster.specs.Packing.{unpacked};
 ghost use Rattle.abuf_raster.specs.Region.{IsRegion};
@@ -8,7 +9,7 @@ ghost use Rattle.abuf_raster.specs.Samples.{offsets_of};
 ghost use Rattle.abuf_resolve.specs.Laws.{TellLayers};
 ghost use Rattle.abuf_resolve.specs.Words.{layer_of, AreWordsAt, IsFragmentAt};
 ghost use Rattle.abuf_top.specs.Image.{fragments};
-ghost use Rattle.abuf_top.specs.Report.{fragment_line, fragments_text, layer_text, sample_line, line_of, samples_text, pixel_report, report};
+ghost use Rattle.abuf_top.specs.Report.{fragment_line, fragments_text, layer_text, sample_line, line_of, all_samples_text, pixel_report, report};
 
 use crate::drawing::Drawing;
 use abuf_num::{List, NoMemory};
@@ -73,7 +74,7 @@ struct Sampled<'a> {
     words: &'a [u64],
     at: Pixel,
     pattern: Pattern,
-    ghost few: { length planes ≤ 2097152 },
+    ghost few: { length planes ≤ MAX_PRIMITIVES },
     ghost fit: { All (IsFragmentAt (offsets_of pattern) planes at.x at.y) words.now },
     ghost layers: { TellLayers (offsets_of pattern) planes at.x at.y words.now },
 }
@@ -82,7 +83,8 @@ impl<'a> Sampled<'a> {
     // The line of sample k.
     fn push_line(&self, text: &mut String, keys: &mut Vec<u64>, k: u32) -> Result<(), NoMemory>
         requires { k < length (offsets_of self.now.pattern) }
-        ensures { OnOk result (string_bytes text.new ≡ string_bytes text.old ++ line_of (offsets_of self.now.pattern) self.now.planes self.now.at.x self.now.at.y k) }
+        ensures { OnOk result (string_bytes text.new
+            ≡ string_bytes text.old ++ line_of (offsets_of self.now.pattern) self.now.planes self.now.at.x self.now.at.y k) }
     {
         self.planes
             .sample_words(keys, self.words, self.at, self.pattern, k)?;
@@ -92,7 +94,8 @@ impl<'a> Sampled<'a> {
 
     // The lines of all samples.
     fn push_samples(&self, alloc: Global, text: &mut String) -> Result<(), NoMemory>
-        ensures { OnOk result (string_bytes text.new ≡ string_bytes text.old ++ samples_text (offsets_of self.now.pattern) self.now.planes self.now.at.x self.now.at.y (length (offsets_of self.now.pattern))) }
+        ensures { OnOk result (string_bytes text.new
+            ≡ string_bytes text.old ++ all_samples_text (offsets_of self.now.pattern) self.now.planes self.now.at.x self.now.at.y) }
     {
         let mut keys = Vec::new(alloc);
         for k in 0..self.pattern.size() {
@@ -104,7 +107,8 @@ impl<'a> Sampled<'a> {
     // The whole text.
     fn text(&self, alloc: Global) -> Result<String, NoMemory>
         requires { All (λ word. word < 2 ^ 40) self.now.words.now }
-        ensures { IfOk result (λ text. string_bytes text ≡ fragments_text (map unpacked self.now.words.now) ++ samples_text (offsets_of self.now.pattern) self.now.planes self.now.at.x self.now.at.y (length (offsets_of self.now.pattern))) }
+        ensures { IfOk result (λ text. string_bytes text
+            ≡ fragments_text (map unpacked self.now.words.now) ++ all_samples_text (offsets_of self.now.pattern) self.now.planes self.now.at.x self.now.at.y) }
     {
         let mut text = fragments_text(alloc, self.words)?;
         self.push_samples(alloc, &mut text)?;
@@ -120,11 +124,11 @@ fn pixel_text(
     at: Pixel,
     pattern: Pattern,
 ) -> Result<String, NoMemory>
-    requires few { length triangles.now ≤ 2097152 }
+    requires few { length triangles.now ≤ MAX_PRIMITIVES }
     requires words { All (λ word. word < 2 ^ 40) words.now }
     requires fit { All (IsFragmentAt (offsets_of pattern) triangles.now at.x at.y) words.now }
     requires layers { TellLayers (offsets_of pattern) triangles.now at.x at.y words.now }
-    ensures { IfOk result (λ text. string_bytes text ≡ fragments_text (map unpacked words.now) ++ samples_text (offsets_of pattern) triangles.now at.x at.y (length (offsets_of pattern))) }
+    ensures { IfOk result (λ text. string_bytes text ≡ fragments_text (map unpacked words.now) ++ all_samples_text (offsets_of pattern) triangles.now at.x at.y) }
 {
     let pixel = Sampled {
         planes: Planes::new(alloc, triangles)?,
@@ -144,7 +148,7 @@ fn pixel_report(
     at: Pixel,
     words: Vec<u64>,
 ) -> Result<List<u8>, NoMemory>
-    requires few { length triangles.now ≤ 2097152 }
+    requires few { length triangles.now ≤ MAX_PRIMITIVES }
     requires region { IsRegion region }
     requires corner { (region.x0 ≡ 0) × (region.y0 ≡ 0) }
     requires pixel { (at.x < region.w) × (at.y < region.h) }

@@ -3,7 +3,7 @@ ghost use Rattle.std.specs.Prelude.{◌≡◌, ◌++◌, ◌∷◌, [], IfOk, co
 ghost use Rattle.std.specs.String.{string_bytes};
 ghost use Rattle.std.specs.Fmt.{decimal};
 ghost use Rattle.abuf_top.specs.declared.stop.FullPool.TheVariants as full;
-ghost use Rattle.abuf_top.specs.Refusals.{option_text, scene_cause, library_cause, path_cause, line_text, refusal_status, refusal_text, full_text};
+ghost use Rattle.abuf_top.specs.Refusals.{scene_cause, library_cause, path_cause, line_text, refusal_status, refusal_text, full_text};
 
 use crate::status::Status;
 use abuf_cli::Opt;
@@ -21,11 +21,11 @@ pub enum Refusal {
     Value(Opt),
     /// The shelf has no path of the sequence's name.
     PathMissing,
-    /// The path has more than 1048576 bytes.
+    /// The path has more than [`MAX_PATH_BYTES`](abuf_num::limits::MAX_PATH_BYTES) bytes.
     PathTooLong,
     /// The first line of the path that is at fault, from 1, and its cause.
     PathLine(u32, PathWhy),
-    /// The scene has more than 67108864 bytes.
+    /// The scene has more than [`MAX_BYTES`](abuf_num::limits::MAX_BYTES) bytes.
     SceneTooLong,
     /// The first line of the scene that is at fault, from 1, and its cause.
     SceneLine(u32, Why),
@@ -33,7 +33,7 @@ pub enum Refusal {
     UnknownMaterial(u32),
     /// The shelf has no library of this name: the library's number among the scene's names, from 1.
     LibraryMissing(usize),
-    /// The library of this number, from 1, has more than 67108864 bytes.
+    /// The library of this number, from 1, has more than [`MAX_BYTES`](abuf_num::limits::MAX_BYTES) bytes.
     LibraryTooLong(usize),
     /// The number of the library, from 1, its first line that is at fault, from 1, and the cause.
     LibraryLine(usize, u32, MtlWhy),
@@ -74,27 +74,6 @@ pub enum Stop {
     WriteFault,
     /// Memory ran out; this may come at any time before the last output is written.
     Memory,
-}
-
-fn option_text(option: Opt) -> &'static str
-    ensures { result.now ≡ option_text option }
-{
-    match option {
-        Opt::Size => "size",
-        Opt::Samples => "samples",
-        Opt::Threads => "threads",
-        Opt::Nodes => "nodes",
-        Opt::Turn => "turn",
-        Opt::Shift => "move",
-        Opt::Focal => "focal",
-        Opt::Near => "near",
-        Opt::Background => "background",
-        Opt::Maxval => "maxval",
-        Opt::Bands => "bands",
-        Opt::Path => "path",
-        Opt::At => "at",
-        Opt::Number => "number",
-    }
 }
 
 fn scene_cause(why: Why) -> &'static str
@@ -167,7 +146,8 @@ fn library_too_long(alloc: Global, k: usize) -> Result<String, AllocError>
 }
 
 fn at_library_line(alloc: Global, k: usize, line: u32, cause: &str) -> Result<String, AllocError>
-    ensures { IfOk result (λ text. string_bytes text ≡ codes "library " ++ decimal k ++ codes " line " ++ decimal line ++ codes ": " ++ cause.now ++ 10 ∷ []) }
+    ensures { IfOk result (λ text. string_bytes text
+        ≡ codes "library " ++ decimal k ++ codes " line " ++ decimal line ++ codes ": " ++ cause.now ++ 10 ∷ []) }
 {
     format!(in alloc; "library {k} line {line}: {cause}\n")
 }
@@ -239,7 +219,7 @@ impl Refusal {
     {
         match self {
             Refusal::Words => String::from_str(alloc, "words not understood\n"),
-            Refusal::Value(option) => bad_value(alloc, option_text(option)),
+            Refusal::Value(option) => bad_value(alloc, option.name()),
             Refusal::PathMissing => String::from_str(alloc, "path missing\n"),
             Refusal::PathTooLong => String::from_str(alloc, "path too long\n"),
             Refusal::PathLine(line, why) => at_path_line(alloc, line, path_cause(why)),

@@ -1,33 +1,33 @@
 // `sequence`: an image for each shot of a path.
 ghost use Rattle.std.specs.Prelude.{◌≡◌, ◌⊎◌, ◌≤◌, ◌+◌, All, List as Items, ℕ, length, true, option_map, IfOk, IfErr, IfSome, Some};
+ghost use Rattle.abuf_num.specs.declared.limits.TheConstants.{MAX_PATH_BYTES, MAX_IMAGES};
 ghost use Rattle.abuf_io.specs.Causes.{Rose};
 ghost use Rattle.abuf_sequence.specs.Paths.{path, IsShot};
 ghost use Rattle.abuf_sequence.specs.Sequences.{IsPlan};
 ghost use Rattle.abuf_cli.specs.Sound.{IsJob};
 ghost use Rattle.abuf_cli.specs.declared.job.What.TheVariants as what;
 ghost use Rattle.abuf_top.specs.Ending.{Ends};
-ghost use Rattle.abuf_top.specs.Fetches.{sequence_fetches, most_for_libraries, CallsAtMost, PathIsRefused};
+ghost use Rattle.abuf_top.specs.Fetches.{sequence_fetches, most_for_libraries, PathIsRefused};
 ghost use Rattle.abuf_top.specs.Images.{plan_of};
 ghost use Rattle.abuf_top.specs.Libraries.{told_by};
-ghost use Rattle.abuf_top.specs.Outside.{sink_change};
-ghost use Rattle.abuf_top.specs.Paths.{path_line, shots_by};
+ghost use Rattle.abuf_top.specs.Outside.{source_change, shelf_change, sink_change};
+ghost use Rattle.abuf_top.specs.Reads.{AnswersAs, CallsShelf, IsUncalled};
+ghost use Rattle.abuf_top.specs.Paths.{path_verdict, shots_by};
 ghost use Rattle.abuf_top.specs.Prepared.{LoadsPath, PreparesImages};
 ghost use Rattle.abuf_top.specs.Stopped.{HasReadCause, IsOfDrawing};
-ghost use Rattle.abuf_top.specs.Verdict.{sequence_line, image_line};
+ghost use Rattle.abuf_top.specs.Verdict.{sequence_verdict, pools_verdict};
 
 use crate::load::load;
 use crate::stop::{FullPool, Refusal, Stop};
 use abuf_cli::Job;
 use abuf_io::{Fetch, Shelf, Sink, Source};
 use abuf_num::List;
+use abuf_num::limits::MAX_PATH_BYTES;
 use abuf_scene::Scene;
 use abuf_sequence::{PathFault, Plan, SequenceFault, Shot, read_path, sequence};
 use std::alloc::Global;
 use std::marker::Model;
 use std::thread::Threads;
-
-/// The greatest number of bytes of a path.
-pub const MOST_PATH_BYTES: u64 = 1048576;
 
 /// The triangles of a scene, and how their images are drawn.
 #[derive(Drop)]
@@ -38,21 +38,18 @@ pub struct Images {
 }
 
 impl Model for Images {
-    ghost use Rattle.std.specs.Prelude.{◌≤◌, All, length};
-    ghost use Rattle.abuf_scene.specs.Triangles.{IsTriangleInRange};
-    ghost use Rattle.abuf_sequence.specs.Paths.{IsShot};
-    ghost use Rattle.abuf_sequence.specs.Sequences.{IsPlan};
-    ghost use Rattle.abuf_top.specs.Images.{Images};
+    ghost use Rattle.abuf_top.specs.Images.{Images, AreSound};
 
     ghost Value = { Images };
 
     ghost view = { λ i. record { plan = i.plan; triangles = i.scene.triangles; shots = i.shots } };
 
-    ghost invariant = { λ i. All IsTriangleInRange i.scene.triangles × (length i.scene.triangles ≤ 1048576) × All IsShot i.shots × (length i.shots ≤ 4096) × IsPlan i.plan };
+    ghost invariant = { λ i. AreSound i.plan i.scene.triangles i.shots };
 }
 
 impl Images {
     ghost use Rattle.std.specs.Prelude.{◌≡◌, ◌≤◌, All, length, Some};
+    ghost use Rattle.abuf_num.specs.declared.limits.TheConstants.{MAX_TRIANGLES, MAX_IMAGES};
     ghost use Rattle.abuf_scene.specs.Triangles.{IsTriangleInRange};
     ghost use Rattle.abuf_sequence.specs.Paths.{IsShot};
     ghost use Rattle.abuf_sequence.specs.Sequences.{IsPlan, IsSequenceAnswer};
@@ -61,9 +58,9 @@ impl Images {
     /// The images of these shots.
     fn new(scene: Scene, shots: List<Shot>, plan: Plan) -> Images
         requires near { All IsTriangleInRange scene.triangles }
-        requires few { length scene.triangles ≤ 1048576 }
+        requires few { length scene.triangles ≤ MAX_TRIANGLES }
         requires shots { All IsShot shots }
-        requires few_shots { length shots ≤ 4096 }
+        requires few_shots { length shots ≤ MAX_IMAGES }
         requires plan { IsPlan plan }
         ensures { result ≡ record { plan = plan; triangles = scene.triangles; shots = shots } }
     {
@@ -92,11 +89,11 @@ impl Images {
 
 // The shots of the bytes of a path.
 fn read_shots(alloc: Global, content: &[u8]) -> Result<List<Shot>, Stop>
-    requires { length content.now ≤ 1048576 }
+    requires { length content.now ≤ MAX_PATH_BYTES }
     ensures told { LoadsPath (shots_by (path content.now)) ⊥ result }
     ensures cause { IfErr result (HasReadCause ⊥) }
     ensures shots { IfOk result (All IsShot) }
-    ensures few { IfOk result (λ shots. length shots ≤ 4096) }
+    ensures few { IfOk result (λ shots. length shots ≤ MAX_IMAGES) }
 {
     match read_path(alloc, content) {
         Ok(shots) => Ok(shots),
@@ -107,16 +104,16 @@ fn read_shots(alloc: Global, content: &[u8]) -> Result<List<Shot>, Stop>
 
 // The shots of the path of this name.
 fn fetch_path<H: Shelf>(alloc: Global, shelf: &mut H, name: &[u8]) -> Result<List<Shot>, Stop>
-    ensures told { H.tells shelf.old ≡ true → LoadsPath (path_line (H.holds shelf.old name.now)) (Rose (H.faults shelf.old) (H.faults shelf.new)) result }
+    ensures told { H.tells shelf.old ≡ true → LoadsPath (path_verdict (H.holds shelf.old name.now)) (Rose (H.faults shelf.old) (H.faults shelf.new)) result }
     ensures cause { IfErr result (HasReadCause (Rose (H.faults shelf.old) (H.faults shelf.new))) }
     ensures shots { IfOk result (All IsShot) }
-    ensures few { IfOk result (λ shots. length shots ≤ 4096) }
+    ensures few { IfOk result (λ shots. length shots ≤ MAX_IMAGES) }
     ensures tells { H.tells shelf.new ≡ H.tells shelf.old }
     ensures holds { (other : Items ℕ) → H.holds shelf.new other ≡ H.holds shelf.old other }
     ensures calls { H.calls shelf.new ≤ H.calls shelf.old + 1 }
     ensures later { H.faults shelf.old ≤ H.faults shelf.new }
 {
-    match shelf.fetch(alloc, name, MOST_PATH_BYTES) {
+    match shelf.fetch(alloc, name, MAX_PATH_BYTES) {
         Ok(content) => read_shots(alloc, content.as_slice()),
         Err(Fetch::Missing) => Err(Stop::Refused(Refusal::PathMissing)),
         Err(Fetch::TooLong) => Err(Stop::Refused(Refusal::PathTooLong)),
@@ -156,11 +153,15 @@ pub fn prepare_images<S: Source, H: Shelf>(
 ) -> Result<Images, Stop>
     requires job { IsJob job.now }
     requires name { job.now.what ≡ what.Sequence name.now }
-    ensures told { IfSome (sequence_line job.now name.now (S.left scene.old) (told_by (H.tells shelf.old) (H.holds shelf.old))) (λ line. PreparesImages line (Rose (S.faults scene.old) (S.faults scene.new) ⊎ Rose (H.faults shelf.old) (H.faults shelf.new)) result) }
+    ensures told { AnswersAs (sequence_verdict job.now name.now) (λ verdict rose. PreparesImages verdict rose result)
+        (source_change S.left S.faults scene.old scene.new) (shelf_change H.tells H.holds H.calls H.faults shelf.old shelf.new) }
     ensures cause { IfErr result (HasReadCause (Rose (S.faults scene.old) (S.faults scene.new) ⊎ Rose (H.faults shelf.old) (H.faults shelf.new))) }
-    ensures calls { IfSome (sequence_fetches name.now (S.left scene.old) (told_by (H.tells shelf.old) (H.holds shelf.old))) (CallsAtMost (H.calls shelf.old) (H.calls shelf.new) (H.faults shelf.old) (H.faults shelf.new)) }
+    ensures calls { CallsShelf (sequence_fetches name.now)
+        (source_change S.left S.faults scene.old scene.new) (shelf_change H.tells H.holds H.calls H.faults shelf.old shelf.new) }
     ensures most { IfSome (option_map (λ n. 1 + n) (most_for_libraries (S.left scene.old))) (λ n. H.calls shelf.new ≤ H.calls shelf.old + n) }
-    ensures source { PathIsRefused name.now (told_by (H.tells shelf.old) (H.holds shelf.old)) → (S.left scene.new ≡ S.left scene.old) × (S.faults scene.new ≡ S.faults scene.old) }
+    ensures source { PathIsRefused name.now (told_by (H.tells shelf.old) (H.holds shelf.old))
+        → IsUncalled (source_change S.left S.faults scene.old scene.new) }
+    ensures plan { IfOk result (λ images. images.plan ≡ plan_of job.now) }
 {
     let shots = fetch_path(alloc, shelf, name)?;
     let loaded = load(alloc, job, scene, shelf)?;
@@ -175,7 +176,7 @@ pub fn write_images<R: Threads + Sync, O: Sink>(
     images: &Images,
     out: &mut O,
 ) -> Result<(), Stop>
-    ensures ends { Ends (Some (image_line images.now)) ⊥ (sink_change O.taken O.faults out.old out.new) result }
+    ensures ends { Ends (pools_verdict images.now) ⊥ (sink_change O.taken O.faults out.old out.new) result }
     ensures stops { IfErr result IsOfDrawing }
 {
     match images.write(rt, alloc, out) {

@@ -3,7 +3,7 @@ use Rattle.abuf_io.specs.Causes.{Rose}
 use Rattle.abuf_obj.specs.declared.scene.Obj.{Obj}
 use Rattle.abuf_top.specs.Libraries.{told_by}
 use Rattle.abuf_top.specs.Prepared.{Loads}
-use Rattle.abuf_top.specs.Verdict.{library_line, shelf_for, scene_of}
+use Rattle.abuf_top.specs.Verdict.{library_verdict, shelf_for, scene_of}
 use Rattle.abuf_top.proofs.Telling.{furnish_told, fetches_told}
 use Rattle.abuf_top.proofs.load.read_bytes.Goals as goal
 
@@ -16,7 +16,7 @@ returns-clause-told g c =
     let rose = Rose (g.H.Shelf.faults c.args.shelf.now) (g.H.Shelf.faults c.furnish.new.shelf) in
     let same : obj ≡ scene_of c.args.bytes = λ i. record { points = from.points i; faces = from.faces i; names = from.names i; libraries = from.libraries i } in
     let told = furnish_told obj tells held rose c.furnish.result c.furnish.ensures.told c.furnish.ensures.none in
-    rw from.sound (subst (λ (o : Obj). IfSome (option_map (library_line o) (shelf_for o.libraries (told_by tells held))) (λ line. Loads line rose c.furnish.result)) same told)
+    rw from.sound (subst (λ (o : Obj). IfSome (option_map (library_verdict o) (shelf_for o.libraries (told_by tells held))) (λ line. Loads line rose c.furnish.result)) same told)
 
 pub returns-clause-calls : goal.returns-clause-calls
 returns-clause-calls g c =

@@ -2,7 +2,7 @@ use Rattle.std.proofs.Common.{◌≡◌, ◌∙◌, ◌+◌, ◌*◌, List, ℕ,
 use Rattle.abuf_raster.specs.declared.region.Region.{Region}
 use Rattle.abuf_cli.specs.declared.job.Job.{Job}
 use Rattle.abuf_pam.specs.Image.{header, pixel_size}
-use Rattle.abuf_top.proofs.Behind.{behind}
+use Rattle.abuf_top.proofs.Afterwards.{after_front}
 use Rattle.abuf_top.proofs.summary.sum_of_values.Goals as goal
 
 pub returns : goal.returns
@@ -14,4 +14,4 @@ returns c =
     let same : pixel_size job.maxval * (job.camera.width * job.camera.height) ≡ rest =
     ap₂ (λ (a b : ℕ). a * b) (sym (c.pixel_size.ensures ∙ ap (λ (j : Job). pixel_size j.maxval) c.job.ensures.value)) (sym (ap (λ (r : Region). r.w * r.h) c.region-region.ensures.value)) in
     let size : length bytes ≡ front + rest = c.requires ∙ ap (λ (n : ℕ). front + n) same in
-    c.sum_of.ensures ∙ ap sum (behind bytes front rest size)
+    c.sum_of.ensures ∙ ap sum (after_front bytes front rest size)

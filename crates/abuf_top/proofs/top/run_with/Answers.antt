@@ -1,9 +1,9 @@
-use Rattle.std.proofs.Common.{Some, Result, IfErr, sym, subst}
+use Rattle.std.proofs.Common.{Result, IfErr, sym, subst}
 use Rattle.std.proofs.KnownBytes.{Keeps-refl}
 use Rattle.abuf_top.specs.Ending.{Ends, Concludes}
 use Rattle.abuf_top.specs.Outside.{sink_change}
 use Rattle.abuf_top.specs.Stopped.{IsOfDrawing}
-use Rattle.abuf_top.specs.Verdict.{image_line}
+use Rattle.abuf_top.specs.Verdict.{pools_verdict}
 use Rattle.abuf_top.specs.declared.stop.Stop.{Stop}
 use Rattle.abuf_top.proofs.Running.{run_drew, run_wrote, run_stopped}
 use Rattle.abuf_top.proofs.top.run_with.Goals as goal
@@ -19,7 +19,7 @@ pub returns-in-Ok-Sequence : goal.returns-in-Ok-Sequence
 returns-in-Ok-Sequence g c =
     let from = c.in-Ok-Sequence.ensures in
     let ended = c.without_frame in
-    let ends = subst (λ (r : Result (Unit {0}) Stop). Ends (Some (image_line c.in-Ok-Sequence.images)) ⊥ (sink_change g.O.Sink.taken g.O.Sink.faults c.args.out.now c.write_images-result.new.out) r)
+    let ends = subst (λ (r : Result (Unit {0}) Stop). Ends (pools_verdict c.in-Ok-Sequence.images) ⊥ (sink_change g.O.Sink.taken g.O.Sink.faults c.args.out.now c.write_images-result.new.out) r)
     (sym ended.ensures.result) c.write_images-result.ensures.ends in
     let stops = subst (λ (r : Result (Unit {0}) Stop). IfErr r IsOfDrawing) (sym ended.ensures.result) c.write_images-result.ensures.stops in
     run_wrote _ _ from.source from.calls from.most _ c.in-Ok-Sequence.images c.in-Ok-Sequence.field-0-is ended.result.result ended.result.closed c.conclude-in-Ok-Sequence.result from.told from.words
