@@ -63,7 +63,7 @@ pub fn read_all<S: Source>(alloc: Global, src: &mut S, limit: u64) -> Result<Lis
     Err(ReadEnd::TooLong)
 }
 
-// One read, of at most `rest + 1` bytes, which go behind those that are there.
+// One read, of at most `rest + 1` bytes, which go after those that are there.
 fn read_some<S: Source>(
     src: &mut S,
     bytes: &mut Vec<u8>,
@@ -74,7 +74,8 @@ fn read_some<S: Source>(
     requires buf { 0 < length buf.old }
     ensures count { IfOk result (λ n. vec_len bytes.new ≡ vec_len bytes.old + n) }
     ensures within { IfOk result (λ n. n ≤ rest + 1) }
-    ensures moved { OnOk result (StartsWith bytes.new.items bytes.old.items × Consumes (S.left src.old) (S.left src.new) (appended_bytes bytes.old.items bytes.new.items)) }
+    ensures kept { OnOk result (StartsWith bytes.new.items bytes.old.items) }
+    ensures moved { OnOk result (Consumes (S.left src.old) (S.left src.new) (appended_bytes bytes.old.items bytes.new.items)) }
     ensures end { result ≡ Ok 0 → (bytes.new.items ≡ bytes.old.items) × IsAtEnd (S.left src.new) }
     ensures taken { OnErr result (ReadsUpTo rest (S.left src.old) (S.left src.new) result) }
     ensures fault { result ≡ Err ReadEnd.ReadFault → Rose (S.faults src.old) (S.faults src.new) }

@@ -6,6 +6,10 @@ use Rattle.std.specs.Str.{bytes_eq}
 abbrev pub place_of : List ℕ → List (List ℕ) → Option ℕ
 place_of name names = position (bytes_eq name) names
 
+-- a search by name gives the place of each name
+abbrev pub FindsPlaces : (List ℕ → Option ℕ) → List (List ℕ) → Type 0
+FindsPlaces find names = (name : List ℕ) → find name ≡ place_of name names
+
 -- the names and one more, if it is new
 abbrev pub with_name : List (List ℕ) → List ℕ → List (List ℕ)
 with_name names name = if is_some (place_of name names) then names else names ++ name ∷ []

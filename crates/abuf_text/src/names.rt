@@ -17,17 +17,18 @@ pub struct Names {
 }
 
 impl Model for Names {
-    ghost use Rattle.std.specs.Prelude.{◌≡◌, ◌≤◌, ◌^◌, List as Items, ℕ, length};
+    ghost use Rattle.std.specs.Prelude.{◌≤◌, ◌^◌, List as Items, ℕ, length};
     ghost use Rattle.std.specs.BTreeMap.{get_by};
     ghost use Rattle.std.specs.Cmp.Lexicographic.{slice_cmp};
     ghost use Rattle.std.specs.Ordering.{nat_cmp};
-    ghost use Rattle.abuf_text.specs.Names.{place_of, IsEachOnce};
+    ghost use Rattle.abuf_text.specs.Names.{FindsPlaces, IsEachOnce};
 
     ghost Value = { Items (Items ℕ) };
 
     ghost view = { λ n. n.list.items };
 
-    ghost invariant = { λ n. ((name : Items ℕ) → get_by (λ k. slice_cmp nat_cmp name k.items) n.places ≡ place_of name n.list.items) × IsEachOnce n.list.items × (length n.list.items ≤ 2 ^ 32) };
+    ghost invariant = { λ n. FindsPlaces (λ name. get_by (λ k. slice_cmp nat_cmp name k.items) n.places) n.list.items
+        × IsEachOnce n.list.items × (length n.list.items ≤ 2 ^ 32) };
 }
 
 impl Names {

@@ -16,5 +16,5 @@ returns-in_err-read_some-clause-taken g c =
 
 pub reading-preserved : goal.reading-preserved
 reading-preserved g c =
-    let moved = c.in_ok-read_some.ensures.moved in
-    (omega arith, omega (arith, c.in_ok-read_some.ensures.within, c.in_ok-read_some.ensures.count, c.len-in-reading.ensures, c.reading-test.true), Consumes-grown _ _ _ c.reading.bytes.items c.read_some.new.bytes.items moved.0 c.reading.invariant.2 moved.1)
+    let read = c.in_ok-read_some.ensures in
+    (omega arith, omega (arith, c.in_ok-read_some.ensures.within, c.in_ok-read_some.ensures.count, c.len-in-reading.ensures, c.reading-test.true), Consumes-grown _ _ _ c.reading.bytes.items c.read_some.new.bytes.items read.kept c.reading.invariant.2 read.moved)
