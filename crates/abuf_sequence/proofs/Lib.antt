@@ -1,3 +1,4 @@
 mod Reading
 mod Drawing
 mod Joining
+mod Continuing

@@ -1,3 +1,4 @@
+pub mod Batches
 pub mod Paths
 pub mod Sequences
 pub mod Single

@@ -1,5 +1,6 @@
 -- The path of a sequence: a text with one image on each line that isn't blank.
 use Rattle.std.specs.Prelude.{◌≡◌, ℕ, ◌+◌, ℤ, nat_lt, List, [], ◌∷◌, ◌++◌, length, flat_map, option_to_list, Option, Some, None, Result, Ok, Err, if◌then◌else◌}
+use Rattle.abuf_num.specs.declared.limits.TheConstants.{MAX_IMAGES}
 use Rattle.abuf_num.specs.Texts.{scaled_number}
 use Rattle.abuf_text.specs.Lines.{lines}
 use Rattle.abuf_text.specs.Statement.{statement}
@@ -43,12 +44,17 @@ shots_on lines = flat_map (λ line. shots_by (said (statement line))) lines
 -- A path has at most 4096 shots, so a further one is refused.
 abbrev pub why_by : ℕ → Result (Option Shot) PathWhy → Option PathWhy
 why_by above (Ok None) = None
-why_by above (Ok (Some shot)) = if nat_lt above 4096 then None else Some why_.TooMany
+why_by above (Ok (Some shot)) = if nat_lt above MAX_IMAGES then None else Some why_.TooMany
 why_by above (Err why) = Some why
 
 -- Why a line is refused that has so many shots above it, if it is.
 abbrev pub why : ℕ → List ℕ → Option PathWhy
 why above line = why_by above (said (statement line))
+
+-- What reading a line answers that has so many shots above it.
+abbrev pub IsShotOn : ℕ → List ℕ → Result (Option Shot) PathWhy → Type 0
+IsShotOn above line (Ok shot) = (said (statement line) ≡ Ok shot) × (why above line ≡ None)
+IsShotOn above line (Err cause) = why above line ≡ Some cause
 
 abbrev pub fault_or : ℕ → Option PathWhy → Option (ℕ × PathWhy) → Option (ℕ × PathWhy)
 fault_or number None later = later

@@ -3,6 +3,7 @@ use Rattle.std.specs.Prelude.{◌≡◌, ◌⊎◌, ◌≤◌, ◌<◌, ◌-◌,
 use Rattle.std.specs.List.{concat, position_or_len}
 use Rattle.std.specs.Io.KnownBytes.{Appends}
 use Rattle.abuf_io.specs.Causes.{Rose}
+use Rattle.abuf_num.specs.declared.limits.TheConstants.{MAX_NODES, MAX_THREADS}
 use Rattle.abuf_num.specs.declared.plain.PixelSum.{PixelSum}
 use Rattle.abuf_raster.specs.Region.{whole_image}
 use Rattle.abuf_raster.specs.Samples.{offsets_of}
@@ -21,8 +22,8 @@ use Rattle.abuf_sequence.specs.declared.fault.SequenceFault.TheVariants as fault
 pub record IsPlan (plan : Plan) : Type 0 where
   pub size : IsSize plan.width plan.height
   pub lens : IsLens plan.focal plan.near
-  pub nodes : (1 ≤ plan.nodes) × (plan.nodes ≤ 8388608)
-  pub threads : (1 ≤ plan.threads) × (plan.threads ≤ 64)
+  pub nodes : (1 ≤ plan.nodes) × (plan.nodes ≤ MAX_NODES)
+  pub threads : (1 ≤ plan.threads) × (plan.threads ≤ MAX_THREADS)
   pub maxval : (plan.maxval ≡ 255) ⊎ (plan.maxval ≡ 65535)
 
 -- The camera of a shot: the plan's, turned and shifted.
@@ -74,6 +75,10 @@ pub record Taken : Type 0 where
   pub new : Option (List ℕ)
   pub faults_old : ℕ
   pub faults_new : ℕ
+
+-- What a call did to a sink, by what its trait tells of it.
+abbrev pub sink_change : {O : Type 0} → (O → Option (List ℕ)) → (O → ℕ) → O → O → Taken
+sink_change taken faults old new = record { old = taken old; new = taken new; faults_old = faults old; faults_new = faults new }
 
 module _ (plan : Plan) (triangles : List Triangle) (shots : List Shot) (out : Taken) where
   -- No image is full, and all were written.

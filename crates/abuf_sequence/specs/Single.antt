@@ -64,3 +64,16 @@ module _ (plan : Plan) (triangles : List Triangle) (shot : Shot) where
     IsWriteAnswer (Err (fault.Full fragments nodes)) = IsFull fragments nodes × Keeps out.old out.new
     IsWriteAnswer (Err fault.Write) = IsCutShort
     IsWriteAnswer (Err fault.Memory) = Keeps out.old out.new
+
+module _ (out : Taken) where
+  -- All bytes were written.
+  abbrev pub WritesBytes : {T : Type 0} → List ℕ → Result T ImageFault → Type 0
+  WritesBytes bytes (Ok _) = Appends out.old out.new bytes
+  WritesBytes bytes (Err (fault.Full fragments nodes)) = ⊥
+  WritesBytes bytes (Err fault.Write) = (count : ℕ) × Appends out.old out.new (take count bytes) × Rose out.faults_old out.faults_new
+  WritesBytes bytes (Err fault.Memory) = ⊥
+
+  -- What the writing of an image answers that was drawn, or of one that wasn't.
+  abbrev pub WritesDrawn : {T : Type 0} → Result (List ℕ) ImageFault → Result T ImageFault → Type 0
+  WritesDrawn (Ok bytes) result = WritesBytes bytes result
+  WritesDrawn (Err fault) result = (result ≡ Err fault) × Keeps out.old out.new

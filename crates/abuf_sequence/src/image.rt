@@ -1,6 +1,7 @@
 // One image of a sequence.
 ghost use Rattle.std.specs.Prelude.{◌≡◌, ◌≤◌, length, MatchOption};
 ghost use Rattle.std.specs.List.{All};
+ghost use Rattle.abuf_num.specs.declared.limits.TheConstants.{MAX_THREADS, MAX_TRIANGLES};
 ghost use Rattle.abuf_raster.specs.Region.{whole_image};
 ghost use Rattle.abuf_scene.specs.Triangles.{IsTriangleInRange};
 ghost use Rattle.abuf_sequence.specs.Paths.{IsShot};
@@ -39,9 +40,11 @@ fn camera_of(plan: &Plan, shot: Shot) -> Camera
     }
 }
 
-/// What the image of a plan is drawn into.
-fn target_of(plan: &Plan) -> Target
-    requires { IsPlan plan.now }
+/// What an image of a plan is drawn into, by so many threads.
+fn target_of(plan: &Plan, threads: u32) -> Target
+    requires plan { IsPlan plan.now }
+    requires threads { (1 ≤ threads) × (threads ≤ MAX_THREADS) }
+    ensures threads { result.threads ≡ threads }
     ensures region { result.region ≡ whole_image plan.now.width plan.now.height }
     ensures pattern { result.pattern ≡ plan.now.pattern }
     ensures background { result.background ≡ plan.now.background }
@@ -52,11 +55,11 @@ fn target_of(plan: &Plan) -> Target
         pattern: plan.pattern,
         background: plan.background,
         nodes: plan.nodes,
-        threads: plan.threads,
+        threads,
     }
 }
 
-/// The sums of the image's pixels. Its primitives and its frame are let go.
+/// The sums of the image's pixels, by so many threads. Its primitives and its frame are let go.
 #[tactic(auto, unfolding(crate::specs::Sequences::total_of, crate::specs::Sequences::sums_of))]
 fn sums_of<R: Threads + Sync>(
     rt: &R,
@@ -64,15 +67,17 @@ fn sums_of<R: Threads + Sync>(
     scene: &Scene,
     shot: Shot,
     plan: &Plan,
+    threads: u32,
 ) -> Result<List<PixelSum>, ImageFault>
     requires near { All IsTriangleInRange scene.now.triangles }
-    requires few { length scene.now.triangles ≤ 1048576 }
+    requires few { length scene.now.triangles ≤ MAX_TRIANGLES }
     requires plan { IsPlan plan.now }
     requires shot { IsShot shot }
+    requires threads { (1 ≤ threads) × (threads ≤ MAX_THREADS) }
     ensures { IsDrawAnswer plan.now scene.now.triangles shot (AreSums plan.now scene.now.triangles shot) result }
 {
     let camera = camera_of(plan, shot);
-    let target = target_of(plan);
+    let target = target_of(plan, threads);
     let shown = project(alloc, scene, &camera)?;
     let primitives = Primitives::of(&shown);
     let closed = draw(rt, alloc, &primitives, target, &OpenGate)?;
@@ -86,7 +91,7 @@ fn sums_of<R: Threads + Sync>(
     Ok(resolved.sums)
 }
 
-/// The bytes of the image.
+/// The bytes of the image, which so many threads draw.
 #[tactic(auto, unfolding(crate::specs::Sequences::image_of))]
 pub(crate) fn image_of<R: Threads + Sync>(
     rt: &R,
@@ -94,14 +99,16 @@ pub(crate) fn image_of<R: Threads + Sync>(
     scene: &Scene,
     shot: Shot,
     plan: &Plan,
+    threads: u32,
 ) -> Result<List<u8>, ImageFault>
     requires near { All IsTriangleInRange scene.now.triangles }
-    requires few { length scene.now.triangles ≤ 1048576 }
+    requires few { length scene.now.triangles ≤ MAX_TRIANGLES }
     requires plan { IsPlan plan.now }
     requires shot { IsShot shot }
+    requires threads { (1 ≤ threads) × (threads ≤ MAX_THREADS) }
     ensures { IsDrawAnswer plan.now scene.now.triangles shot (AreBytes plan.now scene.now.triangles shot) result }
 {
-    let sums = sums_of(rt, alloc, scene, shot, plan)?;
+    let sums = sums_of(rt, alloc, scene, shot, plan, threads)?;
     let bytes = image_bytes(
         alloc,
         plan.width,

@@ -1,8 +1,8 @@
 //! A sequence of images of one scene, one image for each shot of a path.
 //!
-//! [`read_path`] reads the shots, or names the first line that is refused (`specs/Paths.antt`). [`sequence`] draws the image of
-//! each shot and writes it before the next is begun, so that memory holds one image at a time; `specs/Sequences.antt` says what
-//! the images are, which of them are written, and what is answered.
+//! [`read_path`] reads the shots, or names the first line that is refused (`specs/Paths.antt`). [`sequence`] draws the images of
+//! the shots, as many at once as there are threads and memory for, and writes them in order; `specs/Sequences.antt` says what the
+//! images are, which of them are written, and what is answered.
 #![tactic(auto)]
 
 mod fault;

@@ -1,10 +1,12 @@
 // The shots of a path.
-ghost use Rattle.std.specs.Prelude.{◌≡◌, ◌<◌, ◌≤◌, ◌^◌, ◌-◌, ◌++◌, length, option_to_list, All, IfSome, IfOk, OnOk, MatchResult, Some, None, Ok};
+ghost use Rattle.std.specs.Prelude.{◌≡◌, ◌<◌, ◌≤◌, ◌^◌, ◌-◌, ◌++◌, length, option_to_list, All, IfSome, IfOk, OnOk, Some, None, Ok};
+ghost use Rattle.abuf_num.specs.declared.limits.TheConstants.{MAX_IMAGES};
 ghost use Rattle.abuf_num.specs.Texts.{scaled_number};
 ghost use Rattle.abuf_text.specs.Statement.{statement};
 ghost use Rattle.abuf_view.specs.Camera.{IsTurn, IsBounded, quaternion_of, point_of};
-ghost use Rattle.abuf_sequence.specs.Paths.{shift_from, shot_from, said, why, IsPath, IsShot};
+ghost use Rattle.abuf_sequence.specs.Paths.{shift_from, shot_from, said, IsPath, IsShot, IsShotOn};
 
+use abuf_num::limits::MAX_IMAGES;
 use abuf_num::{List, NoMemory, scaled_number};
 use abuf_text::{Lines, Statement};
 use abuf_view::turn_from;
@@ -104,12 +106,12 @@ fn said(line: &[u8]) -> Result<Option<Shot>, PathWhy>
 
 /// The shot of a line that has so many shots above it.
 fn shot_on(line: &[u8], above: usize) -> Result<Option<Shot>, PathWhy>
-    ensures value { MatchResult result (λ shot. (said (statement line.now) ≡ Ok shot) × (why above line.now ≡ None)) (λ cause. why above line.now ≡ Some cause) }
+    ensures value { IsShotOn above line.now result }
     ensures sound { IfOk result (λ shot. IfSome shot IsShot) }
-    ensures room { IfOk result (λ shot. IfSome shot (λ _. above < 4096)) }
+    ensures room { IfOk result (λ shot. IfSome shot (λ _. above < MAX_IMAGES)) }
 {
     match said(line)? {
-        Some(_) if above >= 4096 => Err(PathWhy::TooMany),
+        Some(_) if above >= MAX_IMAGES => Err(PathWhy::TooMany),
         shot => Ok(shot),
     }
 }
@@ -129,7 +131,7 @@ pub fn read_path(alloc: Global, bytes: &[u8]) -> Result<List<Shot>, PathFault>
     requires { length bytes.now < 2 ^ 32 - 1 }
     ensures answer { IsPath bytes.now result }
     ensures sound { IfOk result (All IsShot) }
-    ensures few { IfOk result (λ shots. length shots ≤ 4096) }
+    ensures few { IfOk result (λ shots. length shots ≤ MAX_IMAGES) }
 {
     let mut shots = List::new(alloc);
     let mut number: u32 = 1;

@@ -1,45 +1,105 @@
-// The images of a sequence, written one after another.
-ghost use Rattle.std.specs.Prelude.{◌≡◌, ◌≤◌, length};
+// The images of a sequence, several drawn at once, and written one after another.
+ghost use Rattle.std.specs.Prelude.{◌≡◌, ◌+◌, ◌<◌, ◌≤◌, length, IfOk};
 ghost use Rattle.std.specs.List.{All};
+ghost use Rattle.abuf_num.specs.declared.limits.TheConstants.{MAX_IMAGES, MAX_TRIANGLES};
 ghost use Rattle.abuf_scene.specs.Triangles.{IsTriangleInRange};
 ghost use Rattle.abuf_sequence.specs.Paths.{IsShot};
-ghost use Rattle.abuf_sequence.specs.Sequences.{IsPlan, IsSequenceAnswer, Taken};
-ghost use Rattle.abuf_sequence.specs.Single.{IsWriteAnswer};
+ghost use Rattle.abuf_sequence.specs.Sequences.{IsPlan, IsSequenceAnswer, sink_change};
+ghost use Rattle.abuf_sequence.specs.Single.{WritesDrawn};
+ghost use Rattle.abuf_sequence.specs.Batches.{AreDrawn, Continues, MayDraw};
+ghost use denote.Param.Send.{IsSync};
 
 use crate::fault::{ImageFault, SequenceFault};
 use crate::image::image_of;
 use crate::path::Shot;
 use crate::plan::Plan;
 use abuf_io::{Sink, write_all};
+use abuf_num::{List, NoMemory};
 use abuf_scene::Scene;
 use std::alloc::Global;
-use std::thread::Threads;
+use std::thread::{Threads, map_indices};
 
-/// Draws one image and writes it.
-fn write_image<R: Threads + Sync, O: Sink>(
+// What the images that are drawn at once may have together, so that the memory of a run stays below 2 GB. A frame takes 16 bytes a
+// node and 8 a pixel, twice while it is made, and an image 18 bytes a pixel: at most 1.2 GB for so many nodes and pixels. A
+// primitive takes about 130 bytes, and a triangle has at most two: at most 0.6 GB for so many triangles.
+const NODES_AND_PIXELS_AT_ONCE: u32 = 33554432;
+
+const TRIANGLES_AT_ONCE: usize = 2097152;
+
+/// How many images are drawn at once: one for each thread, as far as memory goes.
+fn images_at_once(plan: &Plan, triangles: usize) -> usize
+    requires { IsPlan plan.now }
+    ensures { (1 ≤ result) × (result ≤ plan.now.threads) }
+{
+    let frames = NODES_AND_PIXELS_AT_ONCE / (plan.nodes + plan.width * plan.height);
+    let lists = TRIANGLES_AT_ONCE / triangles.max(1);
+    (plan.threads.min(frames) as usize).min(lists).max(1)
+}
+
+/// The images of some shots, all drawn at once: each by a thread of its own, or by several where there are fewer images than
+/// threads.
+fn draw_batch<R: Threads + Sync>(
     rt: &R,
     alloc: Global,
     scene: &Scene,
-    shot: Shot,
+    shots: &[Shot],
     plan: &Plan,
-    out: &mut O,
-) -> Result<(), ImageFault>
+) -> Result<Vec<Result<List<u8>, ImageFault>>, NoMemory>
     requires near { All IsTriangleInRange scene.now.triangles }
-    requires few { length scene.now.triangles ≤ 1048576 }
+    requires few { length scene.now.triangles ≤ MAX_TRIANGLES }
+    requires shots { All IsShot shots.now }
+    requires some { (1 ≤ length shots.now) × (length shots.now ≤ plan.now.threads) }
     requires plan { IsPlan plan.now }
-    requires shot { IsShot shot }
-    ensures answer { IsWriteAnswer plan.now scene.now.triangles shot (record { old = O.taken out.old; new = O.taken out.new; faults_old = O.faults out.old; faults_new = O.faults out.new }) result }
+    ensures { IfOk result (λ drawn. AreDrawn plan.now scene.now.triangles shots.now drawn.items) }
+{
+    let threads = plan.threads / shots.len() as u32;
+    let drawn = map_indices(
+        rt,
+        alloc,
+        shots.len(),
+        &|k|
+            requires { IsSync R.row × MayDraw plan.now scene.now.triangles shots.now threads k }
+        { image_of(rt, alloc, scene, shots[k], plan, threads) },
+    )?;
+    Ok(drawn)
+}
+
+/// Writes an image that was drawn.
+fn write_image<O: Sink>(drawn: &Result<List<u8>, ImageFault>, out: &mut O) -> Result<(), ImageFault>
+    ensures answer { WritesDrawn (sink_change O.taken O.faults out.old out.new) drawn.now result }
     ensures later { O.faults out.old ≤ O.faults out.new }
 {
-    let bytes = image_of(rt, alloc, scene, shot, plan)?;
-    match write_all(out, bytes.as_slice()) {
-        Ok(()) => Ok(()),
-        Err(_) => Err(ImageFault::Write),
+    match drawn {
+        Ok(bytes) => match write_all(out, bytes.as_slice()) {
+            Ok(()) => Ok(()),
+            Err(_) => Err(ImageFault::Write),
+        },
+        Err(fault) => Err(*fault),
     }
 }
 
-/// Draws the image of each shot in turn, and writes it to `out` by one call before the next is begun. What an image used is let
-/// go before the next, so that memory holds one image at a time.
+/// Writes images that were drawn, one after another, up to the first that is full. So many of their sequence are written before.
+fn write_images<O: Sink>(
+    drawn: &[Result<List<u8>, ImageFault>],
+    before: u32,
+    out: &mut O,
+) -> Result<(), SequenceFault>
+    requires { before + length drawn.now ≤ MAX_IMAGES }
+    ensures answer { Continues before drawn.now (sink_change O.taken O.faults out.old out.new) result }
+    ensures later { O.faults out.old ≤ O.faults out.new }
+{
+    let mut images = before;
+    for image in drawn {
+        match write_image(image, out) {
+            Ok(()) => images += 1,
+            Err(fault) => return Err(fault.after(images)),
+        }
+    }
+    Ok(())
+}
+
+/// Draws the image of each shot, and writes it to `out` by one call, in order. As many images are drawn at once as there are threads,
+/// as far as memory goes; when they are written, what they used is let go before the next are begun.
 ///
 /// An image with more fragments than there are nodes ends the sequence, and so does a sink that fails, and memory that runs out;
 /// see [`SequenceFault`]. Without shots nothing is written.
@@ -52,18 +112,21 @@ pub fn sequence<R: Threads + Sync, O: Sink>(
     out: &mut O,
 ) -> Result<(), SequenceFault>
     requires near { All IsTriangleInRange scene.now.triangles }
-    requires few { length scene.now.triangles ≤ 1048576 }
-    requires shots { (length shots.now ≤ 4096) × All IsShot shots.now }
+    requires few { length scene.now.triangles ≤ MAX_TRIANGLES }
+    requires shots { (length shots.now ≤ MAX_IMAGES) × All IsShot shots.now }
     requires plan { IsPlan plan.now }
-    ensures answer { IsSequenceAnswer plan.now scene.now.triangles shots.now (record { old = O.taken out.old; new = O.taken out.new; faults_old = O.faults out.old; faults_new = O.faults out.new }) result }
+    ensures answer { IsSequenceAnswer plan.now scene.now.triangles shots.now (sink_change O.taken O.faults out.old out.new) result }
     ensures later { O.faults out.old ≤ O.faults out.new }
 {
+    let at_once = images_at_once(plan, scene.triangles.as_slice().len());
     let mut images = 0;
-    for shot in shots {
-        match write_image(rt, alloc, scene, *shot, plan, out) {
-            Ok(()) => images += 1,
-            Err(fault) => return Err(fault.after(images)),
+    while images < shots.len() {
+        let end = shots.len().min(images + at_once);
+        match draw_batch(rt, alloc, scene, &shots[images..end], plan) {
+            Ok(drawn) => write_images(&drawn, images as u32, out)?,
+            Err(fault) => return Err(ImageFault::from(fault).after(images as u32)),
         }
+        images = end;
     }
     Ok(())
 }

@@ -1,25 +1,39 @@
-use Rattle.std.proofs.Common.{◌<◌, length, arith}
-use Rattle.abuf_sequence.proofs.Joining.{fails, finished, one_more, written_more}
+use Rattle.std.proofs.Common.{ℕ, ◌≡◌, ◌+◌, ◌-◌, ◌≤◌, List, length, Result, subst, ap, ◌∙◌, arith}
+use Rattle.std.proofs.lemmas.Result.{err_from_is_err_and}
+use Rattle.abuf_sequence.specs.declared.fault.ImageFault.{ImageFault}
+use Rattle.abuf_sequence.specs.Batches.{AreDrawnFrom, HaveWritten}
+use Rattle.abuf_sequence.proofs.Continuing.{drawn_count, drawn_from}
 use Rattle.abuf_sequence.proofs.writing.sequence.Goals as goal
 
-pub returns-in-Err-clause-answer : goal.returns-in-Err-clause-answer
-returns-in-Err-clause-answer g c =
-    let l = c.loop-shot.invariant in
-    let below : c.loop-shot.shot-index < length c.args.shots.now = omega (arith, c.loop-shot-test.true) in
-    fails _ _ _ c.loop-shot.shot-index l.sound _ below (Unit {0}) _ _ _ _ _ _ l.written l.later c.in-Err.fault _ c.loop-shot.images c.after.ensures l.count c.in-Err.ensures.answer
+pub returns-in_err-write_images-in-Ok-clause-answer : goal.returns-in_err-write_images-in-Ok-clause-answer
+returns-in_err-write_images-in-Ok-clause-answer g c =
+    let plan = c.args.plan.now in
+    let triangles = c.args.scene.now.triangles in
+    let shots = c.args.shots.now in
+    let k : ℕ = c.loop-images.images in
+    let n : ℕ = c.min-end.result - k in
+    let within : k + n ≤ length shots = omega (arith, c.min-end.ensures, c.loop-images-test.true) in
+    let are : AreDrawnFrom plan triangles shots k c.in-Ok.drawn.items = drawn_from plan triangles shots k n within c.in-Ok.drawn.items c.in-Ok.ensures in
+    let p = err_from_is_err_and c.from_residual.result c.from_residual.ensures.1 in
+    rw (p.1, p.2) (c.in_err-write_images-in-Ok.ensures.answer plan triangles shots (g.O.Sink.taken c.args.out.now) (g.O.Sink.faults c.args.out.now) (rw c.deref.ensures.value are) c.loop-images.invariant.written)
 
-pub loop-shot-preserved : goal.loop-shot-preserved
-loop-shot-preserved g c =
-    let l = c.loop-shot.invariant in
-    let below : c.loop-shot.shot-index < length c.args.shots.now = omega (arith, c.loop-shot-test.true) in
+pub loop-images-preserved : goal.loop-images-preserved
+loop-images-preserved g c =
+    let plan = c.args.plan.now in
+    let triangles = c.args.scene.now.triangles in
+    let shots = c.args.shots.now in
+    let k : ℕ = c.loop-images.images in
+    let n : ℕ = c.min-end.result - k in
+    let within : k + n ≤ length shots = omega (arith, c.min-end.ensures, c.loop-images-test.true) in
+    let are : AreDrawnFrom plan triangles shots k c.in-Ok.drawn.items = drawn_from plan triangles shots k n within c.in-Ok.drawn.items c.in-Ok.ensures in
+    let drawn = c.deref.result.now in
+    let count : length drawn ≡ n = ap (λ (ds : List (Result (List ℕ) ImageFault)). length ds) c.deref.ensures.value ∙ drawn_count plan triangles shots k n within c.in-Ok.drawn.items c.in-Ok.ensures in
+    let all : k + length drawn ≡ c.min-end.result = omega (arith, count, c.min-end.ensures, c.loop-images-test.true) in
     record {
-      count = omega (arith, l.count);
-      sound = one_more _ _ _ c.loop-shot.shot-index l.sound _ below c.in-Ok.ensures.answer.fit;
-      written = written_more _ _ _ c.loop-shot.shot-index l.sound _ below _ _ _ l.written c.in-Ok.ensures.answer.written;
-      later = omega (arith, l.later, c.in-Ok.ensures.later);
+      within = omega (arith, c.min-end.ensures);
+      written =
+          subst
+          (λ (m : ℕ). HaveWritten plan triangles shots m
+          (record { old = g.O.Sink.taken c.args.out.now; new = g.O.Sink.taken c.write_images.new.out; faults_old = g.O.Sink.faults c.args.out.now; faults_new = g.O.Sink.faults c.write_images.new.out }))
+          all (c.in_ok-write_images-in-Ok.ensures.answer plan triangles shots (g.O.Sink.taken c.args.out.now) (g.O.Sink.faults c.args.out.now) (rw c.deref.ensures.value are) c.loop-images.invariant.written);
     }
-
-pub returns-clause-answer : goal.returns-clause-answer
-returns-clause-answer g c =
-    let l = c.loop-shot.invariant in
-    finished _ _ _ c.loop-shot.shot-index l.sound _ _ _ _ (omega arith) l.written

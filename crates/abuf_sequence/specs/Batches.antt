@@ -1,0 +1,50 @@
+-- Images of a sequence that are drawn at once, and then written after those before them.
+use Rattle.std.specs.Prelude.{◌≡◌, ◌≤◌, ◌<◌, ◌+◌, ℕ, List, take, length, slice_index_or, Option, Result, Ok, Err}
+use Rattle.std.specs.List.{All, concat}
+use Rattle.std.specs.Io.KnownBytes.{Appends}
+use Rattle.abuf_num.specs.declared.limits.TheConstants.{MAX_THREADS, MAX_TRIANGLES}
+use Rattle.abuf_scene.specs.Triangles.{IsTriangleInRange}
+use Rattle.abuf_scene.specs.declared.triangles.Triangle.{Triangle}
+use Rattle.abuf_sequence.specs.declared.fault.ImageFault.{ImageFault}
+use Rattle.abuf_sequence.specs.declared.fault.SequenceFault.{SequenceFault}
+use Rattle.abuf_sequence.specs.declared.path.Shot.{Shot}
+use Rattle.abuf_sequence.specs.declared.plan.Plan.{Plan}
+use Rattle.abuf_sequence.specs.Paths.{IsShot}
+use Rattle.abuf_sequence.specs.Sequences.{IsPlan, Taken, images, sound_count, IsSequenceAnswer}
+use Rattle.abuf_sequence.specs.Single.{AreBytes, IsDrawAnswer}
+
+module _ (plan : Plan) (triangles : List Triangle) (shots : List Shot) where
+  -- What the drawing of shot k by so many threads asks.
+  abbrev pub MayDraw : ℕ → ℕ → Type 0
+  MayDraw threads k = All IsTriangleInRange triangles × (length triangles ≤ MAX_TRIANGLES) × All IsShot shots × (k < length shots) × IsPlan plan
+      × (1 ≤ threads) × (threads ≤ MAX_THREADS)
+
+  -- What drawing gives for each of these shots, in their order.
+  pub record AreDrawn (drawn : List (Result (List ℕ) ImageFault)) : Type 0 where
+    pub count : length drawn ≡ length shots
+    pub each : (k : ℕ) (d : Shot) (e : Result (List ℕ) ImageFault) → k < length shots
+        → IsDrawAnswer plan triangles (slice_index_or shots k d) (AreBytes plan triangles (slice_index_or shots k d)) (slice_index_or drawn k e)
+
+  -- What drawing gives for the shots from this number on.
+  pub record AreDrawnFrom (before : ℕ) (drawn : List (Result (List ℕ) ImageFault)) : Type 0 where
+    pub within : before + length drawn ≤ length shots
+    pub each : (k : ℕ) (d : Shot) (e : Result (List ℕ) ImageFault) → k < length drawn
+        → IsDrawAnswer plan triangles (slice_index_or shots (before + k) d) (AreBytes plan triangles (slice_index_or shots (before + k) d)) (slice_index_or drawn k e)
+
+  -- So many images come before the first full one, and they alone were written.
+  pub record HaveWritten (count : ℕ) (out : Taken) : Type 0 where
+    pub sound : count ≤ sound_count plan triangles shots
+    pub written : Appends out.old out.new (concat (take count (images plan triangles shots)))
+    pub later : out.faults_old ≤ out.faults_new
+
+  -- So many were written, or the sequence has ended.
+  abbrev pub IsBatchAnswer : {T : Type 0} → ℕ → Taken → Result T SequenceFault → Type 0
+  IsBatchAnswer {T} count out (Ok _) = HaveWritten count out
+  IsBatchAnswer {T} count out (Err fault) = IsSequenceAnswer plan triangles shots out {T = T} (Err fault)
+
+-- For any sequence of which so many images were written, and then these were drawn: what it has written with them, or answers.
+abbrev pub Continues : {T : Type 0} → ℕ → List (Result (List ℕ) ImageFault) → Taken → Result T SequenceFault → Type 0
+Continues before drawn out result =
+    (plan : Plan) (triangles : List Triangle) (shots : List Shot) (old : Option (List ℕ)) (faults : ℕ) → AreDrawnFrom plan triangles shots before drawn
+    → HaveWritten plan triangles shots before (record { old = old; new = out.old; faults_old = faults; faults_new = out.faults_old })
+    → IsBatchAnswer plan triangles shots (before + length drawn) (record { old = old; new = out.new; faults_old = faults; faults_new = out.faults_new }) result
