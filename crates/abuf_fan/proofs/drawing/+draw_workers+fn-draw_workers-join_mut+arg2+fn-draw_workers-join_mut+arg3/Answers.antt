@@ -1,4 +1,4 @@
-use Rattle.std.proofs.Common.{rules, arith, ◌+◌, ◌*◌, ◌-◌, ◌/◌, ◌∙◌, ℕ, length}
+use Rattle.std.proofs.Common.{rules, arith, ◌+◌, ◌*◌, ◌∙◌, ℕ, length}
 use Rattle.abuf_raster.specs.Samples.{offsets_of}
 use Rattle.abuf_fan.specs.declared.desk.TheConstants.{MAX_PARTS}
 use Rattle.abuf_fan.specs.Parts.{parts_of}
