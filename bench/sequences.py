@@ -1,16 +1,20 @@
 #!/usr/bin/env python3
 """Times a sequence of images beside as many runs of render.
 
-    sequences.py [OPTIONS]      100 images of the lantern at 320x240, and 20 of a mesh, on 1 and on 4 threads
+    sequences.py [OPTIONS]      100 images of the lantern with 1 and with 8 samples, and 20 of a mesh, on 1 and on 4 threads
 
-The camera goes once round the scene. One run of `abuf sequence` draws all images, into one file; then `abuf render` is run once for
-each image, one after another, into a file each. A time is that of all runs, from the start of the first process to the end of the
-last; of several rounds the best counts, the two in turn. The images have to be the same bytes. With --pieces N the path is cut into
-N pieces besides, drawn by N processes at a time, each on one thread. README.md here has figures.
+An image has 320x240 pixels, and the camera goes once round the scene. One run of `abuf sequence` draws all images, into one file;
+then `abuf render` is run once for each image, one after another, into a file each. A time is that of all runs, from the start of
+the first process to the end of the last, and the processor time is that of all threads of all runs, in the program and in the
+kernel; of several rounds the best counts, the two in turn. The images have to be the same bytes. With --pieces N the path is cut
+into N pieces besides, drawn by N processes at a time, each on one thread. README.md here has figures.
 """
 
 import argparse
+import datetime
 import os
+import re
+import shlex
 import subprocess
 import sys
 import tempfile
@@ -42,20 +46,44 @@ def mesh(folder):
     return scenes.write(folder, "mesh.obj", scenes.write_mesh)
 
 
+LANTERN = "--size 320x240 --background 0.04,0.045,0.09 --focal 2.7"
 SEQUENCES = {
-    "lantern": Sequence(100, "--size 320x240 --samples 8 --background 0.04,0.045,0.09 --focal 2.7", (8, 1), ("0", "0.36", "-8.6"),
-                        lantern),
+    "lantern": Sequence(100, LANTERN, (8, 1), ("0", "0.36", "-8.6"), lantern),
+    "lantern8": Sequence(100, LANTERN + " --samples 8", (8, 1), ("0", "0.36", "-8.6"), lantern),
     "mesh": Sequence(20, "--size 320x240", (8, 1), ("0", "0", "-9"), mesh),
 }
 
 
+class Cost(NamedTuple):
+    """What the runs of a way took: seconds from the first start to the last end, and seconds of all processors."""
+
+    seconds: float
+    processor: float
+    peak: int
+
+
+def launched():
+    """The tunables of the C library with which ./abuf starts the program."""
+    with open(os.path.join(bench.TOP, "abuf")) as file:
+        return re.search(r'GLIBC_TUNABLES=([^}"]*)', file.read()).group(1)
+
+
+def environment(tunables):
+    """The variables of the programs, which have these tunables and no others."""
+    found = {name: value for name, value in os.environ.items() if name != "GLIBC_TUNABLES"}
+    if tunables:
+        found["GLIBC_TUNABLES"] = tunables
+    return found
+
+
 class Clock:
-    """Runs programs in a folder, over the scene that is there, and adds up their memory's peak."""
+    """Runs programs in a folder, over the scene that is there, and adds up their processor time and finds their memory's peak."""
 
     def __init__(self, folder, given):
         self.folder = folder
         self.program = os.path.abspath(given.program)
-        self.variables = bench.environment(given)
+        self.variables = environment(given.tunables)
+        self.processor = 0.0
         self.peak = 0
 
     def path(self, name):
@@ -71,12 +99,14 @@ class Clock:
         child.stderr.close()
         _, status, usage = os.wait4(child.pid, 0)
         child.returncode = os.waitstatus_to_exitcode(status)
+        self.processor += usage.ru_utime + usage.ru_stime
         self.peak = max(self.peak, usage.ru_maxrss)
         if child.returncode != 0:
             raise bench.Failed(f"{' '.join(child.args[1:])}: status {child.returncode}, {told.decode(errors='replace').strip()}")
 
     def time(self, runs, at_once=1):
-        """The seconds of runs, so many of which go on at once; each is the words, the scene and the file for the output."""
+        """What runs cost, so many of which go on at once; each is the words, the scene and the file for the output."""
+        self.processor, self.peak = 0.0, 0
         before = time.perf_counter()
         going = []
         for run in runs:
@@ -85,7 +115,7 @@ class Clock:
             going.append(self.start(*run))
         for child in going:
             self.end(child)
-        return time.perf_counter() - before
+        return Cost(time.perf_counter() - before, self.processor, self.peak)
 
     def joined(self, names):
         found = []
@@ -122,27 +152,36 @@ def ways(clock, name, scene, given, threads):
         yield f"{given.pieces} pieces at once", pieces, given.pieces
 
 
+def best_of(costs):
+    """The best of several rounds: each time for itself, since what disturbs a run makes it longer and never shorter."""
+    return Cost(*(min(each) for each in zip(*costs)))
+
+
 def measure(clock, name, given, table):
     scene = SEQUENCES[name].scene(clock.folder)
     images = SEQUENCES[name].images
     outputs = set()
     for threads in given.threads:
         runs = list(ways(clock, name, scene, given, threads))
-        best = {}
-        for _ in range(given.rounds):
-            for way, of_it, at_once in runs:
-                clock.peak = 0
-                seconds = clock.time(of_it, at_once)
-                best[way] = min(best.get(way, (seconds, clock.peak)), (seconds, clock.peak))
-        first = best["sequence"][0]
+        rounds = [[clock.time(of_it, at_once) for _, of_it, at_once in runs] for _ in range(given.rounds)]
+        best = {way: best_of(costs) for (way, _, _), costs in zip(runs, zip(*rounds))}
+        render = best["render"]
         for way, of_it, _ in runs:
-            seconds, peak = best[way]
+            cost = best[way]
             outputs.add(clock.joined([run[2] for run in of_it]))
             shown = "1" if way.endswith("at once") else str(threads)
-            table.row([name, str(images), way, shown, bench.milliseconds(seconds), bench.milliseconds(seconds / images),
-                       f"{seconds / first:.2f}", f"{peak / 1024:.0f} MiB"])
+            table.row([name, str(images), way, shown, bench.milliseconds(cost.seconds), bench.milliseconds(cost.seconds / images),
+                       f"{cost.seconds / render.seconds:.2f}", bench.milliseconds(cost.processor),
+                       f"{cost.processor / render.processor:.2f}", f"{cost.peak / 1024:.0f} MiB"])
     if len(outputs) > 1:
         raise bench.Failed("the images aren't the same")
+
+
+def told(given):
+    """The machine and the conditions, and in Markdown the command."""
+    command = f"`bench/sequences.py {shlex.join(sys.argv[1:])}`: " if given.table else ""
+    return (f"{command}{datetime.date.today()}, {bench.processor()}, {os.cpu_count()} processors, "
+            f"load {os.getloadavg()[0]:.1f} at the start; GLIBC_TUNABLES={given.tunables}; best of {given.rounds}")
 
 
 def read_words():
@@ -154,8 +193,8 @@ def read_words():
                      help="numbers of threads (1,4)")
     ask.add_argument("--pieces", metavar="N", type=int, default=0, help="and the path in N pieces at once")
     ask.add_argument("--rounds", type=int, default=3, help="rounds, of which the best counts (3)")
-    ask.add_argument("--pages", choices=["large", "usual"], default="large",
-                     help=f"large: the programs are started with GLIBC_TUNABLES={bench.LARGE_PAGES} (large)")
+    ask.add_argument("--tunables", metavar="TEXT", default=launched(),
+                     help="all programs are started with GLIBC_TUNABLES=TEXT (that of ./abuf)")
     ask.add_argument("--table", action="store_true", help="print Markdown")
     given = ask.parse_args()
     for name in given.only:
@@ -168,11 +207,12 @@ def read_words():
 
 def main():
     given = read_words()
-    print(bench.told(given).replace("bench.py", "sequences.py") + "\n", flush=True)
+    print(told(given) + "\n", flush=True)
     with tempfile.TemporaryDirectory() as folder:
         scenes.start(folder)
         clock = Clock(folder, given)
-        table = bench.Table(["scene", "images", "way", "threads", "time", "an image", "of sequence", "peak"], given.table)
+        head = ["scene", "images", "way", "threads", "time", "an image", "of render", "processor", "of render", "peak"]
+        table = bench.Table(head, given.table)
         failed = bench.each(given.only, lambda name: measure(clock, name, given, table))
     sys.exit(1 if failed else 0)
 
