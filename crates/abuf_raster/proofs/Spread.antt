@@ -1,13 +1,12 @@
 -- How far the depth value changes within a pixel.
-use Rattle.std.proofs.Common.{◌≡◌, ℕ, zero, suc, ◌+◌, ◌*◌, ◌/◌, ◌<◌, ◌≤◌, Bool, true, ◌&&◌, List, [], ◌∷◌, length, ℤ, pos, negsuc, ◌+ℤ◌, ◌-ℤ◌, ◌*ℤ◌, ◌<ℤ◌, ◌≤ℤ◌, unsigned_abs, ltb, get_or, arith, refl, ◌∙◌, subst}
+use Rattle.std.proofs.Common.{◌≡◌, ℕ, ◌+◌, ◌*◌, ◌/◌, ◌<◌, ◌≤◌, true, length, ℤ, pos, negsuc, ◌+ℤ◌, ◌-ℤ◌, ◌*ℤ◌, ◌<ℤ◌, ◌≤ℤ◌, unsigned_abs, get_or, arith, ◌∙◌, subst}
 use Rattle.std.proofs.lemmas.Int.{ints}
-use Rattle.std.proofs.lemmas.Bool.{and_parts, ltb-true}
+use Rattle.std.proofs.lemmas.Bool.{and_parts}
 use Rattle.std.proofs.lemmas.Nat.{le-div}
 use Rattle.std.proofs.Math.Nat.{div-mul-le_self}
 use Rattle.abuf_num.specs.Division.{floor_div}
 use Rattle.abuf_raster.specs.declared.point.Point.{Point}
 use Rattle.abuf_raster.specs.declared.pattern.Pattern.{Pattern}
-use Rattle.abuf_raster.specs.declared.pattern.Pattern.TheVariants.{One, Two, Four, Eight, Sixteen}
 use Rattle.abuf_raster.specs.Edge.{edge_function}
 use Rattle.abuf_raster.specs.Triangle.{Triangle, has_area, positive_order}
 use Rattle.abuf_raster.specs.Samples.{offsets_of, sample_place, pixel_centre}
@@ -18,34 +17,11 @@ use Rattle.abuf_raster.proofs.Bounds.{abs-add, abs-mul}
 use Rattle.abuf_raster.proofs.Ring.{mul_add, add_mul, neg_mul, mul_neg}
 use Rattle.abuf_raster.proofs.Linear.{E_sum}
 use Rattle.abuf_raster.proofs.Means.{key_between}
+use Rattle.abuf_raster.proofs.Changes.{offset_near, reach_small}
 
--- offsets are within half a pixel
-abbrev small : List (ℤ × ℤ) → Bool
-small [] = true
-small (o ∷ os) = (ltb (unsigned_abs o.0) 9 && ltb (unsigned_abs o.1) 9) && small os
-
--- Each of them is.
-small_at : (os : List (ℤ × ℤ)) (k : ℕ) (d : ℤ × ℤ) → small os ≡ true → k < length os → (unsigned_abs (get_or os k d).0 ≤ 8) × (unsigned_abs (get_or os k d).1 ≤ 8)
-small_at [] k d h l = absurd (omega arith)
-small_at (o ∷ os) zero d h l =
-    let both = (and_parts (ltb (unsigned_abs o.0) 9 && ltb (unsigned_abs o.1) 9) (small os) h).0 in
-    let parts = and_parts (ltb (unsigned_abs o.0) 9) (ltb (unsigned_abs o.1) 9) both in
-    let p = ltb-true (unsigned_abs o.0) 9 parts.0 in
-    let q = ltb-true (unsigned_abs o.1) 9 parts.1 in
-    (omega arith, omega arith)
-small_at (o ∷ os) (suc k) d h l = small_at os k d (and_parts (ltb (unsigned_abs o.0) 9 && ltb (unsigned_abs o.1) 9) (small os) h).1 (omega arith)
-
--- The offsets of every pattern are.
-all_small : (p : Pattern) → small (offsets_of p) ≡ true
-all_small One = refl
-all_small Two = refl
-all_small Four = refl
-all_small Eight = refl
-all_small Sixteen = refl
-
--- Each of a pattern.
+-- The offsets of a pattern are within half a pixel.
 pub offset_small : (p : Pattern) (k : ℕ) → k < length (offsets_of p) → (unsigned_abs (get_or (offsets_of p) k (pos 0, pos 0)).0 ≤ 8) × (unsigned_abs (get_or (offsets_of p) k (pos 0, pos 0)).1 ≤ 8)
-offset_small p k l = small_at (offsets_of p) k (pos 0, pos 0) (all_small p) l
+offset_small p k l = let n = offset_near p k l in (omega (arith, n.0, reach_small p), omega (arith, n.1, reach_small p))
 
 -- ---- how an edge function changes
 -- The terms of an edge function at one place and at another.
