@@ -1,5 +1,6 @@
 // The triangles, made ready for their depth keys.
 ghost use Rattle.std.specs.Prelude.{◌≡◌, ◌<◌, ◌≤◌, true, length, IfOk};
+ghost use Rattle.abuf_num.specs.declared.limits.TheConstants.{MAX_DEPTH};
 ghost use Rattle.abuf_raster.specs.Samples.{offsets_of};
 ghost use Rattle.abuf_raster.specs.Coverage.{covers};
 ghost use Rattle.abuf_raster.specs.Depth.{depth_key};
@@ -77,7 +78,7 @@ impl<'a> Planes<'a> {
         requires sample { k < length (offsets_of pattern) }
         requires covered { covers (triangle_at self.now prim) (offsets_of pattern) at.x at.y k ≡ true }
         ensures key { result ≡ depth_key (triangle_at self.now prim) (offsets_of pattern) at.x at.y k }
-        ensures small { result ≤ 16777215 }
+        ensures small { result ≤ MAX_DEPTH }
     {
         let plane = &self.planes()[prim as usize];
         plane.key(&self.triangles()[prim as usize], at.x, at.y, pattern, k)
@@ -87,7 +88,7 @@ impl<'a> Planes<'a> {
     pub(crate) fn bounds(&self, prim: u32, at: Pixel, pattern: Pattern) -> Bounds
         requires prim { prim < length self.now }
         ensures rising { result.low ≤ result.high }
-        ensures small { result.high ≤ 16777215 }
+        ensures small { result.high ≤ MAX_DEPTH }
         ensures low { NoKeyBelow (triangle_at self.now prim) (offsets_of pattern) at.x at.y result.low }
         ensures high { NoKeyAbove (triangle_at self.now prim) (offsets_of pattern) at.x at.y result.high }
     {

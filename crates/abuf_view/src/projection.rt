@@ -22,7 +22,7 @@ use std::alloc::Global;
 /// primitive's number.
 #[derive(Drop)]
 pub struct Projected {
-    /// EyeTriangle in 1/256 pixel, and depth values from 0 to 16777215, at the near plane.
+    /// Corners in 1/256 pixel, and depth values from 0 to 16777215, which is at the near plane.
     pub tris: List<ScreenTri>,
     pub paints: List<Paint>,
 }

@@ -137,7 +137,7 @@ fn wide_depth(near_plane: NearPlane, s: EyePoint) -> u32
     ensures value { result ≡ depth_value near_plane.w s }
     ensures small { result ≤ MAX_DEPTH }
 {
-    floor_div(product(16777215, near_plane.w), s.w as i128) as u32
+    floor_div(product(MAX_DEPTH as i64, near_plane.w), s.w as i128) as u32
 }
 
 /// The depth value of a point in front of the near plane. It takes a reciprocal of its w.
@@ -150,7 +150,7 @@ fn depth_value(near_plane: NearPlane, s: EyePoint, reciprocal: u64) -> u32
 {
     if near_plane.w.unsigned_abs() < SHORT_PLANE {
         quotient(
-            16777215 * near_plane.w.unsigned_abs(),
+            MAX_DEPTH as u64 * near_plane.w.unsigned_abs(),
             s.w.unsigned_abs(),
             reciprocal,
         ) as u32
