@@ -1,6 +1,7 @@
 // Paths, and sequences of a triangle that covers the upper left of an image, or seen from behind the upper right.
 ghost use Rattle.std.specs.Prelude.{◌≡◌, ◌≤◌, length, true, IfOk};
 ghost use Rattle.std.specs.List.{All};
+ghost use Rattle.abuf_num.specs.declared.limits.TheConstants.{MAX_NODES, MAX_THREADS, MAX_TRIANGLES};
 ghost use Rattle.abuf_io.specs.Plans.{IsPlan as IsSinkPlan};
 ghost use Rattle.abuf_scene.specs.Triangles.{IsTriangleInRange};
 ghost use Rattle.abuf_sequence.specs.Sequences.{IsPlan};
@@ -97,7 +98,7 @@ fn the_image_past_the_last_is_refused(rt: HostRuntime) -> Result<(), Fail> {
 // A white triangle over the upper left half of the screen.
 fn scene(alloc: Global) -> Result<Scene, NoMemory>
     ensures near { IfOk result (λ scene. All IsTriangleInRange scene.triangles) }
-    ensures few { IfOk result (λ scene. length scene.triangles ≤ 1048576) }
+    ensures few { IfOk result (λ scene. length scene.triangles ≤ MAX_TRIANGLES) }
 {
     let mut triangles = List::new(alloc);
     triangles.push(Triangle {
@@ -112,9 +113,10 @@ fn scene(alloc: Global) -> Result<Scene, NoMemory>
     Ok(Scene { triangles })
 }
 
-// Images of 4 by 4 pixels, with a pool for so many fragments.
-fn plan(nodes: u32) -> Plan
-    requires { (1 ≤ nodes) × (nodes ≤ 8388608) }
+// Images of 4 by 4 pixels, with a pool for so many fragments, by so many threads.
+fn plan(nodes: u32, threads: u32) -> Plan
+    requires nodes { (1 ≤ nodes) × (nodes ≤ MAX_NODES) }
+    requires threads { (1 ≤ threads) × (threads ≤ MAX_THREADS) }
     ensures { IsPlan result }
 {
     Plan {
@@ -125,7 +127,7 @@ fn plan(nodes: u32) -> Plan
         pattern: Pattern::One,
         background: [0; 3],
         nodes,
-        threads: 2,
+        threads,
         maxval: 255,
     }
 }
@@ -157,9 +159,11 @@ fn write_both<R: Threads + Sync>(
     rt: &R,
     alloc: Global,
     nodes: u32,
+    threads: u32,
     out: &mut MemSink,
 ) -> Result<(), SequenceFault>
-    requires { (1 ≤ nodes) × (nodes ≤ 8388608) }
+    requires nodes { (1 ≤ nodes) × (nodes ≤ MAX_NODES) }
+    requires threads { (1 ≤ threads) × (threads ≤ MAX_THREADS) }
 {
     let Ok(scene) = scene(alloc) else {
         return Err(SequenceFault::Memory { images: 0 });
@@ -167,19 +171,29 @@ fn write_both<R: Threads + Sync>(
     let Ok(shots) = read_path(alloc, b"1 0 0 0 0 0 -4\n0 0 1 0 0 0 -4\n") else {
         return Err(SequenceFault::Memory { images: 0 });
     };
-    sequence(rt, alloc, &scene, shots.as_slice(), &plan(nodes), out)
+    sequence(
+        rt,
+        alloc,
+        &scene,
+        shots.as_slice(),
+        &plan(nodes, threads),
+        out,
+    )
 }
 
 #[test]
 fn both_images_are_written(rt: HostRuntime) -> Result<(), Fail> {
     let alloc = rt.alloc();
-    let mut out = MemSink::new(alloc, 1000, List::new(alloc))?;
-    assert_eq!(rt; write_both(&rt, alloc, 10, &mut out), Ok(()));
     let mut images = Vec::new(alloc);
     push_image(&mut images, FRONT)?;
     push_image(&mut images, BACK)?;
     assert_eq!(rt; images.len(), 214);
-    assert!(rt; out.taken() == images.as_slice());
+    // One after the other, both at once, and both at once with a thread to spare.
+    for threads in 1..4 {
+        let mut out = MemSink::new(alloc, 1000, List::new(alloc))?;
+        assert_eq!(rt; write_both(&rt, alloc, 10, threads, &mut out), Ok(()));
+        assert!(rt; out.taken() == images.as_slice());
+    }
     Ok(())
 }
 
@@ -194,7 +208,7 @@ fn images_before_a_full_one_are_written(rt: HostRuntime) -> Result<(), Fail> {
         fragments: 10,
         nodes: 6,
     };
-    assert_eq!(rt; write_both(&rt, alloc, 6, &mut out), Err(full));
+    assert_eq!(rt; write_both(&rt, alloc, 6, 2, &mut out), Err(full));
     assert!(rt; out.taken() == images.as_slice());
     let mut out = MemSink::new(alloc, 1000, List::new(alloc))?;
     let full = SequenceFault::Full {
@@ -202,7 +216,7 @@ fn images_before_a_full_one_are_written(rt: HostRuntime) -> Result<(), Fail> {
         fragments: 6,
         nodes: 5,
     };
-    assert_eq!(rt; write_both(&rt, alloc, 5, &mut out), Err(full));
+    assert_eq!(rt; write_both(&rt, alloc, 5, 2, &mut out), Err(full));
     assert!(rt; out.taken().is_empty());
     Ok(())
 }
@@ -223,7 +237,7 @@ fn a_sink_that_fails_has_a_prefix(rt: HostRuntime) -> Result<(), Fail> {
     let alloc = rt.alloc();
     let mut out = MemSink::new(alloc, 1000, failing_plan(alloc)?)?;
     assert_eq!(rt;
-        write_both(&rt, alloc, 10, &mut out),
+        write_both(&rt, alloc, 10, 2, &mut out),
         Err(SequenceFault::Write)
     );
     let mut images = Vec::new(alloc);
@@ -238,7 +252,7 @@ fn without_shots_nothing_is_written(rt: HostRuntime) -> Result<(), Fail> {
     let alloc = rt.alloc();
     let scene = scene(alloc)?;
     let mut out = MemSink::new(alloc, 1000, List::new(alloc))?;
-    let done = sequence(&rt, alloc, &scene, &[], &plan(1), &mut out);
+    let done = sequence(&rt, alloc, &scene, &[], &plan(1, 2), &mut out);
     assert_eq!(rt; done, Ok(()));
     assert!(rt; out.taken().is_empty());
     Ok(())
