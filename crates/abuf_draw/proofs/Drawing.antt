@@ -16,6 +16,7 @@ pub record Midway (all rest : List (ℕ × ℕ)) (v w : View) : Type 0 where
   pub drawn : Draws out v w
   pub left : IsPermutation (out ++ rest) all
 
+-- Before the first item nothing is drawn and all are left.
 pub midway_starts : (all rest : List (ℕ × ℕ)) (v : View) → IsPermutation rest all → Midway all rest v v
 midway_starts all rest v p = record { out = []; drawn = draws_none v; left = p }
 
@@ -37,6 +38,7 @@ module _ (all : List (ℕ × ℕ)) (v w : View) where
     left = subst (λ (xs : List (ℕ × ℕ)). IsPermutation xs all) (sym (append_assoc m.out next rest)) m.left;
   }
 
+  -- When none is left, all are drawn.
   pub midway_ends : Midway all [] v w → Draws all v w
   midway_ends m = draws_permuted m.out all v w (subst (λ (xs : List (ℕ × ℕ)). IsPermutation xs all) (append-nil m.out) m.left) m.drawn
 
@@ -49,6 +51,7 @@ pub all_first : (P : Hit → Type 0) (xs ys : List Hit) → All P (xs ++ ys) →
 all_first P [] ys h = All-nil P
 all_first P (x ∷ xs) ys h = All-cons P x xs (h 0 x (omega arith)) (all_first P xs ys (All-tail P x (xs ++ ys) h))
 
+-- What holds of two lists of hits holds of the second.
 pub all_rest : (P : Hit → Type 0) (xs ys : List Hit) → All P (xs ++ ys) → All P ys
 all_rest P [] ys h = h
 all_rest P (x ∷ xs) ys h = all_rest P xs ys (All-tail P x (xs ++ ys) h)

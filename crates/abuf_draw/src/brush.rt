@@ -1,5 +1,6 @@
 // Triangles, put into the frame one after another.
 ghost use Rattle.std.specs.Prelude.{◌≡◌, ◌+◌, ◌*◌, ◌<◌, ◌≤◌, length, map, take, All};
+ghost use Rattle.abuf_num.specs.declared.limits.TheConstants.{MAX_PRIMITIVES};
 ghost use Rattle.abuf_raster.specs.Samples.{offsets_of};
 ghost use Rattle.abuf_raster.specs.Region.{IsRegion};
 ghost use Rattle.abuf_raster.specs.Hits.{IsHitIn, fragments, placed};
@@ -60,7 +61,7 @@ impl Brush {
     /// Draws the triangle as primitive number `prim`, as [`draw`] does.
     pub fn draw(&mut self, frame: &Frame, pass: &mut Pass, t: &ScreenTri, prim: u32)
         requires frame { pass.old.frame ≡ frame.now }
-        requires prim { prim < 2097152 }
+        requires prim { prim < MAX_PRIMITIVES }
         requires pixels { self.old.region.w * self.old.region.h ≤ frame.now.pixels }
         requires credit { self.old.region.w * self.old.region.h ≤ pass.old.view.credit }
         ensures brush { (self.new.region ≡ self.old.region) × (self.new.pattern ≡ self.old.pattern) }
@@ -91,7 +92,7 @@ pub fn draw(
 )
     requires frame { pass.old.frame ≡ frame.now }
     requires region { IsRegion region }
-    requires prim { prim < 2097152 }
+    requires prim { prim < MAX_PRIMITIVES }
     requires pixels { region.w * region.h ≤ frame.now.pixels }
     requires credit { region.w * region.h ≤ pass.old.view.credit }
     ensures frame { pass.new.frame ≡ pass.old.frame }

@@ -6,7 +6,7 @@ use Rattle.abuf_frame.specs.declared.view.Entry.{Entry}
 use Rattle.abuf_frame.specs.declared.view.View.{View}
 use Rattle.abuf_frame.specs.Stages.{is_linked, is_loose}
 use Rattle.abuf_frame.specs.Views.{endowment, linked_of, loose}
-use Rattle.abuf_frame.specs.Steps.{cut_left, cut_right, united}
+use Rattle.abuf_frame.specs.Steps.{split_left, split_right, united}
 use Rattle.abuf_frame.specs.Draws.{Adds, Draws}
 use Rattle.abuf_frame.proofs.Draws.{adds-append, draws_credit}
 use Rattle.abuf_frame.proofs.Counting.{total-append}
@@ -42,11 +42,11 @@ linked_some all (e ∷ es) h = go (is_linked e.stage) refl (linked_some all es (
 -- what was split off and drawn by two passes, joined again
 module _ (items left right : List (ℕ × ℕ)) (v v1 v2 o1 o2 w : View) (cut : items ≡ left ++ right) (parted : Parted v v1 o1) (g : Grows left v1 v2) (h : Grows right o1 o2) (ew : w ≡ united v2 o2) where
   -- What was left of the first view,
-  ev : v1 ≡ cut_left parted.moved v
+  ev : v1 ≡ split_left parted.moved v
   ev = parted.left_is
 
   -- and the view that was split off from it.
-  eo : o1 ≡ cut_right parted.moved v
+  eo : o1 ≡ split_right parted.moved v
   eo = parted.right_is
 
   -- The joined view has the entries of both.

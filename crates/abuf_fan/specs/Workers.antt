@@ -7,7 +7,7 @@ use Rattle.abuf_raster.specs.Triangle.{Triangle}
 use Rattle.abuf_frame.specs.declared.view.View.{View}
 use Rattle.abuf_frame.specs.Counting.{times}
 use Rattle.abuf_frame.specs.Pass.{PassState}
-use Rattle.abuf_frame.specs.Steps.{cut_left, cut_right}
+use Rattle.abuf_frame.specs.Steps.{split_left, split_right}
 use Rattle.abuf_fan.specs.declared.desk.TheConstants.{MAX_PARTS}
 use Rattle.abuf_fan.specs.declared.rule.Hand.{Hand}
 use Rattle.abuf_fan.specs.declared.work.Work.{Work}
@@ -31,8 +31,8 @@ pub record CanServe (work : Work) (workers : ℕ) (turn : TurnState) (pass : Pas
 pub record Parted (v left right : View) : Type 0 where
   pub moved : ℕ
   pub enough : moved ≤ v.credit
-  pub left_is : left ≡ cut_left moved v
-  pub right_is : right ≡ cut_right moved v
+  pub left_is : left ≡ split_left moved v
+  pub right_is : right ≡ split_right moved v
 
 -- From h to k a turn has drawn these numbers, one of them beyond the parts, and from v to w a pass has drawn the parts of
 -- the numbers.

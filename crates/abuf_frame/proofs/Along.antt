@@ -54,6 +54,7 @@ pub record Going (pixel nodes : ℕ) (v : View) (old out : List ℕ) (here count
   pub sees : SeesWhole v walk
   pub lists : SeesList v walk
 
+-- At the end of its list the count is that of the nodes passed, and all that were due were passed.
 pub reaches_end : (pixel nodes : ℕ) (v : View) (old out : List ℕ) (here count : ℕ) (me : Me (Unit {0}) View) → Going pixel nodes v old out here count me → here ≡ 0
     → (w : Walk) × (me ≡ (with_walk w v, [])) × Looked pixel v old out (All count) w
 reaches_end pixel nodes v old out here count me g ended = (g.walk, g.is, record { here = g.pixel_is; due = g.due_is; answer = (g.cursor_is ∙ ended, g.count_is, g.met ended); written = g.written; whole = g.sees })
@@ -81,37 +82,47 @@ full_list pixel nodes v old out here count me g away full whole settled = let l 
       ((let a = ap (λ (m : List ℕ). length m) l.3 in let b = length-append p l.1 in let c = ap (λ (m : List ℕ). length m) is in omega arith), ap (λ (m : List ℕ). take (length m) l.0) is ∙ (ap (take (length p)) l.3 ∙ (take-append_seam p l.1 ∙ sym is))),
     )
 
+-- A step that is allowed with one outcome is allowed with any that follows from it.
 weaken : (holds : State (Unit {0}) View → Type 0) (slots id : ℕ) (me : Me (Unit {0}) View) (i : ℕ) (f : ℕ → ℕ) (A B : ℕ → Me (Unit {0}) View → Type 0) → ((n : ℕ) (m : Me (Unit {0}) View) → A n m → B n m) → Allows holds slots id me i f A → Allows holds slots id me i f B
 weaken holds slots id me i f A B h a s r deep at small = let x = a s r deep at small in (x.0, x.1, x.2, x.3, h (slice_index s.words i) (x.0, _) x.4)
 
 module _ (pixel nodes : ℕ) (v : View) (old out : List ℕ) (here count : ℕ) (me : Me (Unit {0}) View) (g : Going pixel nodes v old out here count me) (away : here ≢ 0) where
+  -- The walk is the last of those of its view.
   last : me.0.walks ≡ v.walks ++ g.walk ∷ []
   last = ap (λ (m : Me (Unit {0}) View). m.0.walks) g.is
 
+  -- The pass holds nothing besides its view.
   bare : me.1 ≡ []
   bare = ap (λ (m : Me (Unit {0}) View). m.1) g.is
 
+  -- A load of the payload at the cursor, which is noted, is allowed.
   pub may_note : (k : Size) (slots id : ℕ) → Allows (Lawful k) slots id me (payload_word k.pixels (here - 1)) (λ n. n) (λ found now. (now ≡ (walked_on (noting found) me.0, [])) × Unit {0})
   may_note k slots id = subst (λ (i : ℕ). Allows (Lawful k) slots id me (payload_word k.pixels (i - 1)) (λ n. n) (λ found now. (now ≡ (walked_on (noting found) me.0, [])) × Unit {0})) g.cursor_is
       (looks_payload k slots id me bare v.walks g.walk last (λ e. away (sym g.cursor_is ∙ e)))
 
+  -- Where the slice is full at a further node, the look answers `More`.
   pub stops_full : count ≡ length out → (w : Walk) × (me ≡ (with_walk w v, [])) × Looked pixel v old out More w
   stops_full full = let b = g.written.0 in let c = g.count_is in
       (g.walk, g.is, record { here = g.pixel_is; due = g.due_is; answer = ((λ e. away (sym g.cursor_is ∙ e)), omega arith); written = g.written; whole = g.sees })
 
   module _ (y : ℕ) (m1 : Me (Unit {0}) View) (is1 : m1 ≡ (walked_on (noting y) me.0, [])) where
+    -- After the load of the payload the walk has noted it.
     noted_walk : m1 ≡ (with_walk (noting y g.walk) v, [])
     noted_walk = is1 ∙ (ap (λ (m : Me (Unit {0}) View). (walked_on (noting y) m.0, [])) g.is ∙ λ i. (record { credit = v.credit; entries = v.entries; told = v.told; seen = v.seen; walks = on_last-snoc (noting y) v.walks g.walk i }, []))
 
+    -- The pass then still holds nothing besides its view.
     bare1 : m1.1 ≡ []
     bare1 = ap (λ (m : Me (Unit {0}) View). m.1) is1
 
+    -- The walk that has noted it is the last of the view's.
     last1 : m1.0.walks ≡ v.walks ++ noting y g.walk ∷ []
     last1 = ap (λ (m : Me (Unit {0}) View). m.0.walks) noted_walk
 
+    -- So the last walk has noted a payload.
     pub has_noted : LastHasNoted m1.0.walks
     has_noted = subst LastHasNoted (sym last1) (last_has_noted v.walks (noting y g.walk) tt)
 
+    -- A load of the next of that node is allowed.
     pub may_go : (k : Size) (slots id : ℕ) → k.nodes < mark
         → Allows (Lawful k) slots id m1 (next_word k.pixels (here - 1)) (λ n. n) (λ found now. (now ≡ (walked_on (going found) m1.0, [])) × ((ws : List Walk) (w : Walk) → m1.0.walks ≡ ws ++ w ∷ [] → Shown k.nodes m1.0 w found))
     may_go k slots id few = subst (λ (i : ℕ). Allows (Lawful k) slots id m1 (next_word k.pixels (i - 1)) (λ n. n) (λ found now. (now ≡ (walked_on (going found) m1.0, [])) × ((ws : List Walk) (w : Walk) → m1.0.walks ≡ ws ++ w ∷ [] → Shown k.nodes m1.0 w found))) g.cursor_is

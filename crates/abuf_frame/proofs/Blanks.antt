@@ -9,6 +9,7 @@ module _ (ws row : List ℕ) (size : ℕ) (is : length ws ≡ size) where
   before : (i : ℕ) → i < size → slice_index (ws ++ row) i ≡ slice_index ws i
   before i l = get_or_append_left ws row 0 i (omega arith)
 
+  -- An element past the first list is one of the second.
   within : (i j : ℕ) → i ≡ size + j → slice_index (ws ++ row) i ≡ slice_index row j
   within i j e = let k : i - size ≡ j = omega arith in get_or-append_right ws row size i 0 is (omega arith) ∙ ap (λ n. slice_index row n) k
 

@@ -21,30 +21,38 @@ use Rattle.abuf_frame.specs.Stages.{Stores, is_loose, is_lost, next_of, stands}
 use Rattle.abuf_frame.specs.Pass.{AllInRange, InRange, Ties}
 use Rattle.abuf_frame.proofs.Counting.{total-append, total_set, total_le, total_both, times-append, below_more, below_no, below_from}
 
+-- The states of a frame's table.
 abbrev St : Type 0
 St = State (Unit {0}) View
 
+-- The stage of a number when it is claimed.
 abbrev pub first_stage : ℕ → ℕ → Stage
 first_stage nodes n = cond (ltb n nodes) Claimed Lost
 
+-- A number that has a node is Claimed at first.
 pub first_claimed : (nodes n : ℕ) → n < nodes → first_stage nodes n ≡ Claimed
 first_claimed nodes n h = grind (arith, nat_tests)
 
+-- One that has none is Lost.
 pub first_lost : (nodes n : ℕ) → nodes ≤ n → first_stage nodes n ≡ Lost
 first_lost nodes n h = grind (arith, nat_tests)
 
+-- Neither stands in a list.
 stands_first : (p : ℕ) (b : _) → stands p (cond b Claimed Lost) ≡ 0
 stands_first p true = refl
 stands_first p false = refl
 
+-- Neither asks anything of its payload's word.
 carries_first : (pixels w : ℕ) (b : _) → Stores pixels w (cond b Claimed Lost)
 carries_first pixels w true = tt
 carries_first pixels w false = tt
 
+-- What holds of the only view holds of each.
 one_view : (P : ℕ → View → Type 0) (v : View) → P 0 v → (j : ℕ) (u : View) → get_elem? (v ∷ []) j ≡ some u → P j u
 one_view P v h zero u e = subst (P 0) (some-injective v u e) h
 one_view P v h (suc j) u e = absurd (some-ne-none u (sym e))
 
+-- Blank words with one whole view are lawful.
 pub starts : (k : Size) (words : List ℕ) → length words ≡ 1 + k.pixels + 2 * k.nodes → ((i : ℕ) → i < 1 + k.pixels → slice_index words i ≡ 0)
     → ((n : ℕ) → n < k.nodes → slice_index words (next_word k.pixels n) ≡ mark) → Lawful k (opening words [] whole_view)
 starts k words wide zeros marks = record {
@@ -68,18 +76,22 @@ starts k words wide zeros marks = record {
   exact = λ p n h. sym (stands_first p (ltb n k.nodes));
 }
 
+-- Entries agree if those of two lists do.
 pub agree-append : (stage : ℕ → Stage) (l m : List Entry) → Agree stage l → Agree stage m → Agree stage (l ++ m)
 agree-append stage [] m a b = b
 agree-append stage (e ∷ es) m a b = (a.0, agree-append stage es m a.1 b)
 
+-- New entries agree where each number is at its first stage.
 agree_new : (stage : ℕ → Stage) (nodes first count : ℕ) → ((n : ℕ) → first ≤ n → stage n ≡ first_stage nodes n) → Agree stage (new_entries nodes first count)
 agree_new stage nodes first zero h = tt
 agree_new stage nodes first (suc count) h = (sym (h first (omega arith)), agree_new stage nodes (first + 1) count (λ n l. h n (omega arith)))
 
+-- There are as many new entries as numbers.
 pub length_new : (nodes first count : ℕ) → length (new_entries nodes first count) ≡ count
 length_new nodes first zero = refl
 length_new nodes first (suc count) = ap suc (length_new nodes (first + 1) count)
 
+-- The new entries have the numbers from the first on, each once.
 times_new : (nodes n first count : ℕ) → times n (map number_of (new_entries nodes first count)) + below n first ≡ below n (first + count)
 times_new nodes n first zero = let same : first ≡ first + 0 = omega arith in let e : below n first ≡ below n (first + 0) = ap (λ (x : ℕ). below n x) same in omega arith
 times_new nodes n first (suc count) = let r = times_new nodes n (first + 1) count in let m = below_more n first in
@@ -89,14 +101,17 @@ times_new nodes n first (suc count) = let r = times_new nodes n (first + 1) coun
 pub room : (k : Size) (s : St) → Lawful k s → (id : ℕ) (v : View) → get_elem? s.views id ≡ some v → v.credit + slice_index s.words 0 ≤ 2 ^ 60
 room k s r id v at = let b = total_both (λ (u : View). u.credit) (λ (u : View). length u.entries) s.views in let c = total_le (λ (u : View). u.credit) s.views id v at in let d = r.counted in let e = r.endowed in omega arith
 
+-- What holds of all views and of a new one holds after one was replaced by it.
 pub all_views : (P : View → Type 0) (vs : List View) (id : ℕ) (w : View) → P w → ((j : ℕ) (u : View) → get_elem? vs j ≡ some u → P u) → (j : ℕ) (u : View) → get_elem? (set vs id w) j ≡ some u → P u
 all_views P vs id w mine others j u e = ⊎_elim (λ (t : (j ≡ id) × (w ≡ u)). subst P t.1 mine) (λ (t : (j ≢ id) × (get_elem? vs j ≡ some u)). others j u t.1) (at_set vs id j w u e)
 
+-- After a claim a view has the numbers of before and those claimed.
 numbers_claimed : (nodes first count n : ℕ) (v : View) → times n (numbers (claimed nodes first count v)) + below n first ≡ times n (numbers v) + below n (first + count)
 numbers_claimed nodes first count n v = let e = map-append number_of v.entries (new_entries nodes first count) in
     let t = times-append n (map number_of v.entries) (map number_of (new_entries nodes first count)) in
     let u = times_new nodes n first count in let z = ap (times n) e in omega arith
 
+-- A claim keeps the state lawful.
 claim_state : (k : Size) (s : St) (r : Lawful k s) (id count c : ℕ) (v : View) → get_elem? s.views id ≡ some v → count ≤ v.credit → slice_index s.words 0 ≡ c
     → Lawful k record { words = set s.words 0 (c + count); homes = s.homes; views = set s.views id (claimed k.nodes c count v) }
 claim_state k s r id count c v at fits is = let w : View = claimed k.nodes c count v in let wide = r.wide in
@@ -124,13 +139,16 @@ claim_state k s r id count c v at fits is = let w : View = claimed k.nodes c cou
       exact = r.exact;
     }
 
+-- Entries whose numbers are all below a count are below it.
 below_entries : (c : ℕ) (es : List Entry) → ((n : ℕ) → 0 < times n (map number_of es) → n < c) → Below c es
 below_entries c [] h = tt
 below_entries c (e ∷ es) h = (h e.number (let t = ap (λ (b : Bool). cond {A = ℕ} b 1 0) (eq-eqb e.number e.number refl) in omega arith), below_entries c es (λ n l. h n (omega arith)))
 
+-- The entries of each view are below the counter.
 pub all_below : (k : Size) (s : St) → Lawful k s → (id : ℕ) (v : View) → get_elem? s.views id ≡ some v → Below (slice_index s.words 0) v.entries
 all_below k s r id v at = below_entries (slice_index s.words 0) v.entries (λ n l. let t = total_le (λ (u : View). times n (numbers u)) s.views id v at in let o = r.once n in below_from n (slice_index s.words 0) (omega arith))
 
+-- A pass with enough credit may claim.
 pub claims : (k : Size) (slots id count : ℕ) (me : Me (Unit {0}) View) → me.1 ≡ [] → count ≤ me.0.credit
     → Allows (Lawful k) slots id me 0 (λ n. (n + count) % 2 ^ 64) (λ found now. (now ≡ (claimed k.nodes found count me.0, [])) × ((found + count ≤ 2 ^ 60) × Below found me.0.entries))
 claims k slots id count me bare fits s r deep at small = let c : ℕ = slice_index s.words 0 in let m = room k s r id me.0 at in
@@ -142,28 +160,34 @@ claims k slots id count me bare fits s r deep at small = let c : ℕ = slice_ind
       ((λ i. (claimed k.nodes c count me.0, bare i)), (omega arith, all_below k s r id me.0 at)),
     )
 
+-- A condition counts for at most one.
 cond_le : (b : _) → cond b 1 0 ≤ 1
 cond_le true = omega arith
 cond_le false = omega arith
 
+-- At most all entries are loose.
 pub loose_le : (es : List Entry) → loose es ≤ length es
 loose_le [] = omega arith
 loose_le (e ∷ es) = let r = loose_le es in let b : cond (is_loose e.stage) 1 0 ≤ 1 = cond_le (is_loose e.stage) in omega arith
 
+-- As many new entries are loose as have nodes.
 loose_new : (nodes first count : ℕ) → loose (new_entries nodes first count) ≡ min count (nodes - first)
 loose_new nodes first zero = omega arith
 loose_new nodes first (suc count) = let r = loose_new nodes (first + 1) count in ⊎_elim
     (λ (h : first < nodes). let e : is_loose (first_stage nodes first) ≡ true = ap is_loose (first_claimed nodes first h) in let z = ap (λ (b : Bool). cond {A = ℕ} b 1 0) e in omega arith)
     (λ (h : nodes ≤ first). let e : is_loose (first_stage nodes first) ≡ false = ap is_loose (first_lost nodes first h) in let z = ap (λ (b : Bool). cond {A = ℕ} b 1 0) e in omega arith) (cases_lt first nodes)
 
+-- Entries are in range if those of two lists are.
 pub sound-append : (pixels nodes : ℕ) (l m : List Entry) → AllInRange pixels nodes l → AllInRange pixels nodes m → AllInRange pixels nodes (l ++ m)
 sound-append pixels nodes [] m a b = b
 sound-append pixels nodes (e ∷ es) m a b = (a.0, sound-append pixels nodes es m a.1 b)
 
+-- New entries are in range.
 sound_new : (pixels nodes first count : ℕ) → AllInRange pixels nodes (new_entries nodes first count)
 sound_new pixels nodes first zero = tt
 sound_new pixels nodes first (suc count) = (⊎_elim (λ (h : first < nodes). subst (InRange pixels nodes first) (sym (first_claimed nodes first h)) h) (λ (h : nodes ≤ first). subst (InRange pixels nodes first) (sym (first_lost nodes first h)) h) (cases_lt first nodes), sound_new pixels nodes (first + 1) count)
 
+-- What ties a pass to its view holds after a claim.
 pub ties_claimed : (pixels nodes : ℕ) (me now : Me (Unit {0}) View) (credit own ones first count : ℕ) → Ties pixels nodes me credit own ones → count ≤ credit → now ≡ (claimed nodes first count me.0, [])
     → Ties pixels nodes now (credit - count) (own + count) (ones + min count (nodes - first))
 ties_claimed pixels nodes me now credit own ones first count t fits is = subst (λ (m : Me (Unit {0}) View). Ties pixels nodes m (credit - count) (own + count) (ones + min count (nodes - first))) (sym is)

@@ -21,21 +21,25 @@ use Rattle.abuf_frame.proofs.Claims.{all_below}
 use Rattle.abuf_frame.proofs.Ends.{closed_list, count_mine, none_lost, settled_pairs, threaded, walk_chain}
 use Rattle.abuf_frame.specs.Draws.{pairs, payloads_at}
 
+-- An element that is found is the one read with a default.
 pub got : (l : List ℕ) (i a : ℕ) → get_elem? l i ≡ some a → a ≡ get_or l i 0
 got [] i a e = absurd (some-ne-none a (sym e))
 got (x ∷ xs) zero a e = sym (some-injective x a e)
 got (x ∷ xs) (suc i) a e = got xs i a e
 
+-- The list of a pixel among all lists is the walk from its head.
 pub lists_at : (words : List ℕ) (pixels nodes first count p : ℕ) → p < count → slice_index_or (lists_from words pixels nodes first count) p [] ≡ payloads_from words pixels nodes (slice_index words (head_word (first + p)))
 lists_at words pixels nodes first zero p h = absurd (omega arith)
 lists_at words pixels nodes first (suc count) zero h = let e : first ≡ first + 0 = omega arith in ap (λ (i : ℕ). payloads_from words pixels nodes (slice_index words (head_word i))) e
 lists_at words pixels nodes first (suc count) (suc p) h = let e : (first + 1) + p ≡ first + suc p = omega arith in
     lists_at words pixels nodes (first + 1) count p (omega arith) ∙ ap (λ (i : ℕ). payloads_from words pixels nodes (slice_index words (head_word i))) e
 
+-- There is a list for each pixel.
 pub lists_length : (words : List ℕ) (pixels nodes first count : ℕ) → length (lists_from words pixels nodes first count) ≡ count
 lists_length words pixels nodes first zero = refl
 lists_length words pixels nodes first (suc count) = ap suc (lists_length words pixels nodes (first + 1) count)
 
+-- The states of a frame's table.
 abbrev St : Type 0
 St = State (Unit {0}) View
 
@@ -49,17 +53,21 @@ Good k v ws = Kept ws k.pixels k.nodes × ((p : ℕ) → p < k.pixels → IsPerm
 module _ (k : Size) (id : ℕ) (v : View) (whole : IsWhole v) (settled : IsSettled v) (sized : Sized k.pixels k.nodes) (sound : AllInRange k.pixels k.nodes v.entries) where
   -- the words of the last state of a frame that a whole, settled pass closes
   module _ (s : St) (h : Seen (Lawful k) id v s) where
+    -- A pixel's list is the walk from its head.
     list_from : (p : ℕ) → p < k.pixels → slice_index_or (lists_from s.words k.pixels k.nodes 0 k.pixels) p [] ≡ payloads_from s.words k.pixels k.nodes (slice_index s.words (head_word p))
     list_from p on = let zero_is : 0 + p ≡ p = omega arith in
         lists_at s.words k.pixels k.nodes 0 k.pixels p on ∙ ap (λ (i : ℕ). payloads_from s.words k.pixels k.nodes (slice_index s.words (head_word i))) zero_is
 
+    -- That walk gives the payloads of the pixel's chain.
     walked : (p : ℕ) → p < k.pixels → slice_index_or (lists_from s.words k.pixels k.nodes 0 k.pixels) p [] ≡ map (λ n. payload_of (h.0.stage n)) (h.0.chain p)
     walked p on = list_from p on ∙ walk_chain k s h.0 id v h.1 whole settled p on
 
+    -- What finished walks have passed is the end of the list that is closed.
     seen : (ws : List Walk) → AreWalks h.0.stage h.0.chain k.pixels ws → AllSeen (lists_from s.words k.pixels k.nodes 0 k.pixels) ws
     seen [] a = tt
     seen (w ∷ ws) a = ((λ z. subst (IsSuffix (map payload_at w.passed)) (sym (walked w.pixel a.0.on)) (seen_end k s h.0 w a.0 z)), seen ws a.1)
 
+    -- A lawful state whose only pass is whole and settled is good to be closed.
     of_state : Good k v s.words
     of_state = (
       record { sized = sized; wide = h.0.wide; chain = h.0.chain; threaded = λ p on. threaded k s h.0 id v h.1 whole settled p on },
@@ -81,6 +89,7 @@ module _ (words : List ℕ) (pixels nodes : ℕ) where
     pub rest : List ℕ
     pub threaded : Threaded words pixels nodes (slice_index words (next_word pixels (here - 1))) rest
 
+  -- A walk that isn't at its end stands at a node, and goes on from there.
   pub goes : (here : ℕ) (ns : List ℕ) → Threaded words pixels nodes here ns → here ≢ 0 → Next here
   goes here [] t h = absurd (h t)
   goes here (n ∷ ns) t h = let e = t.0 in let is : n ≡ here - 1 = omega arith in record {
@@ -89,17 +98,20 @@ module _ (words : List ℕ) (pixels nodes : ℕ) where
     threaded = subst (λ (m : ℕ). Threaded words pixels nodes (slice_index words (next_word pixels m)) ns) is t.2;
   }
 
+  -- A walk of a node and more is its payload and the walk from its next.
   walk_cons : (fuel here : ℕ) → 0 < fuel → here ≢ 0 → payloads_from words pixels fuel here ≡ slice_index words (payload_word pixels (here - 1)) ∷ payloads_from words pixels (fuel - 1) (slice_index words (next_word pixels (here - 1)))
   walk_cons zero here l h = absurd (omega arith)
   walk_cons (suc fuel) here l h = let same : fuel ≡ suc fuel - 1 = omega arith in ap (λ (b : Bool). cond b [] (slice_index words (payload_word pixels (here - 1)) ∷ payloads_from words pixels fuel (slice_index words (next_word pixels (here - 1))))) (ne_eqb here 0 h)
       ∙ ap (λ (n : ℕ). slice_index words (payload_word pixels (here - 1)) ∷ payloads_from words pixels n (slice_index words (next_word pixels (here - 1)))) same
 
+  -- One step moves a payload from what is to come to what was passed.
   pub walk_more : (counter here x y : ℕ) (done all : List ℕ) → counter < nodes → here ≢ 0 → x ≡ slice_index words (payload_word pixels (here - 1)) → y ≡ slice_index words (next_word pixels (here - 1))
       → done ++ payloads_from words pixels (nodes - counter) here ≡ all → (done ++ x ∷ []) ++ payloads_from words pixels (nodes - (counter + 1)) y ≡ all
   walk_more counter here x y done all l h ex ey e = let same : nodes - (counter + 1) ≡ (nodes - counter) - 1 = omega arith in
       append_assoc done (x ∷ []) (payloads_from words pixels (nodes - (counter + 1)) y) ∙ (ap (λ (z : List ℕ). done ++ z)
       ((λ i. ex i ∷ payloads_from words pixels (same i) (ey i)) ∙ sym (walk_cons (nodes - counter) here (omega arith) h)) ∙ e)
 
+  -- At the end there is nothing to come.
   pub walk_end : (fuel here : ℕ) → (here ≡ 0) ⊎ (fuel ≡ 0) → payloads_from words pixels fuel here ≡ []
   walk_end fuel here (inl e) = none fuel
     where

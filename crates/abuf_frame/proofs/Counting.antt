@@ -8,11 +8,13 @@ use Rattle.std.proofs.lemmas.List.Sorted.{IsPermutation-refl, IsPermutation-sym,
 use Rattle.abuf_frame.specs.Counting.{below, times, total}
 
 module _ {A : Type 0} where
+  -- With one element replaced the total differs by that element.
   pub total_set : (f : A → ℕ) (l : List A) (i : ℕ) (v w : A) → get_elem? l i ≡ some v → total f (set l i w) + f v ≡ total f l + f w
   total_set f [] i v w e = absurd (some-ne-none v (sym e))
   total_set f (x ∷ xs) zero v w e = let is : f x ≡ f v = ap f (some-injective x v e) in omega arith
   total_set f (x ∷ xs) (suc i) v w e = let r = total_set f xs i v w e in omega arith
 
+  -- The value of an element is at most the total.
   pub total_le : (f : A → ℕ) (l : List A) (i : ℕ) (v : A) → get_elem? l i ≡ some v → f v ≤ total f l
   total_le f [] i v e = absurd (some-ne-none v (sym e))
   total_le f (x ∷ xs) zero v e = let is : f x ≡ f v = ap f (some-injective x v e) in omega arith
@@ -26,34 +28,43 @@ module _ {A : Type 0} where
   total_two f (x ∷ xs) (suc i) zero v w n e d = let is : f x ≡ f w = ap f (some-injective x w d) in let r = total_le f xs i v e in omega arith
   total_two f (x ∷ xs) (suc i) (suc j) v w n e d = let r = total_two f xs i j v w (λ h. n (ap suc h)) e d in omega arith
 
+  -- The total of sums is the sum of the totals.
   pub total_both : (f g : A → ℕ) (l : List A) → total (λ x. f x + g x) l ≡ total f l + total g l
   total_both f g [] = refl
   total_both f g (x ∷ xs) = let r = total_both f g xs in omega arith
 
+  -- The total of two lists is the sum of theirs.
   pub total-append : (f : A → ℕ) (l m : List A) → total f (l ++ m) ≡ total f l + total f m
   total-append f [] m = omega arith
   total-append f (x ∷ xs) m = let r = total-append f xs m in omega arith
 
+-- A number stands in two lists as often as in both together.
 pub times-append : (n : ℕ) (l m : List ℕ) → times n (l ++ m) ≡ times n l + times n m
 times-append n [] m = omega arith
 times-append n (x ∷ xs) m = let r = times-append n xs m in omega arith
 
+-- One more count is one more number below it.
 pub below_more : (n c : ℕ) → cond (eqb c n) 1 0 + below n c ≡ below n (c + 1)
 below_more n c = grind (arith, nat_tests)
 
+-- A number below the count counts as one,
 pub below_yes : (n c : ℕ) → n < c → below n c ≡ 1
 below_yes n c h = grind (arith, nat_tests)
 
+-- and any other as none.
 pub below_no : (n c : ℕ) → c ≤ n → below n c ≡ 0
 below_no n c h = grind (arith, nat_tests)
 
+-- It counts for at most one.
 pub below_le : (n c : ℕ) → below n c ≤ 1
 below_le n c = grind (arith, nat_tests)
 
+-- If it counts, it is below.
 pub below_from : (n c : ℕ) → 0 < below n c → n < c
 below_from n c h = grind (arith, nat_tests)
 
 module _ {A : Type 0} where
+  -- Where a total is 0, so is the total of what is 0 with its values.
   total_none : (f g : A → ℕ) → ((u : A) → g u ≡ 0 → f u ≡ 0) → (l : List A) → total g l ≡ 0 → total f l ≡ 0
   total_none f g h [] e = refl
   total_none f g h (x ∷ xs) e = let a = h x (omega arith) in let b = total_none f g h xs (omega arith) in omega arith
@@ -75,34 +86,41 @@ split_at n [] h = absurd (omega arith)
 split_at n (y ∷ ys) h = ⊎_elim (λ (e : y ≡ n). ([], ys, ap (λ (z : ℕ). z ∷ ys) e))
     (λ (e : y ≢ n). let t = ap (λ (b : Bool). cond {A = ℕ} b 1 0) (ne_eqb y n e) in let r = split_at n ys (omega arith) in (y ∷ r.0, r.1, ap (λ (l : List ℕ). y ∷ l) r.2)) (cases_eq y n)
 
+-- A list in which no number stands is empty.
 pub none_in : (ys : List ℕ) → ((n : ℕ) → times n ys ≡ 0) → ys ≡ []
 none_in [] h = refl
 none_in (y ∷ ys) h = let t = ap (λ (b : Bool). cond {A = ℕ} b 1 0) (eq-eqb y y refl) in let a = h y in absurd (omega arith)
 
+-- Two lists in which each number stands as often are permutations.
 pub same_times : (xs ys : List ℕ) → ((n : ℕ) → times n xs ≡ times n ys) → IsPermutation xs ys
 same_times [] ys h = subst (λ (l : List ℕ). IsPermutation [] l) (sym (none_in ys (λ n. sym (h n)))) (IsPermutation-refl [])
 same_times (x ∷ xs) ys h = let t = ap (λ (b : Bool). cond {A = ℕ} b 1 0) (eq-eqb x x refl) in let a = h x in let s = split_at x ys (omega arith) in
     let rest : IsPermutation xs (s.0 ++ s.1) = same_times xs (s.0 ++ s.1) (λ n. let b = h n in let c = ap (times n) s.2 in let d = times-append n s.0 (x ∷ s.1) in let e = times-append n s.0 s.1 in omega arith) in
     subst (λ (l : List ℕ). IsPermutation (x ∷ xs) l) (sym s.2) (IsPermutation-trans (x ∷ xs) (x ∷ (s.0 ++ s.1)) (s.0 ++ x ∷ s.1) (IsPermutation-cons x xs (s.0 ++ s.1) rest) (IsPermutation-sym (s.0 ++ x ∷ s.1) (x ∷ (s.0 ++ s.1)) (IsPermutation-middle s.0 x s.1)))
 
+-- All numbers are below this one.
 abbrev pub Under : ℕ → List ℕ → Type 0
 Under m [] = Unit {0}
 Under m (n ∷ ns) = (n < m) × Under m ns
 
+-- The numbers other than this one.
 abbrev without : ℕ → List ℕ → List ℕ
 without m [] = []
 without m (n ∷ ns) = cond (eqb n m) (without m ns) (n ∷ without m ns)
 
+-- A number that is taken out shortens a list by as often as it stood there.
 length_without : (m : ℕ) (ns : List ℕ) → length ns ≡ length (without m ns) + times m ns
 length_without m [] = refl
 length_without m (n ∷ ns) = let r = length_without m ns in ⊎_elim (λ (h : n ≡ m). let b = eq-eqb n m h in let t = ap (λ (b : Bool). cond {A = ℕ} b 1 0) b in let u = ap (λ (b : Bool). length (cond b (without m ns) (n ∷ without m ns))) b in omega arith)
     (λ (h : n ≢ m). let b = ne_eqb n m h in let t = ap (λ (b : Bool). cond {A = ℕ} b 1 0) b in let u = ap (λ (b : Bool). length (cond b (without m ns) (n ∷ without m ns))) b in omega arith) (cases_eq n m)
 
+-- No number stands more often without another.
 times_without : (k m : ℕ) (ns : List ℕ) → times k (without m ns) ≤ times k ns
 times_without k m [] = omega arith
 times_without k m (n ∷ ns) = let r = times_without k m ns in ⊎_elim (λ (h : n ≡ m). let b = eq-eqb n m h in let u = ap (λ (b : Bool). times k (cond b (without m ns) (n ∷ without m ns))) b in omega arith)
     (λ (h : n ≢ m). let b = ne_eqb n m h in let u = ap (λ (b : Bool). times k (cond b (without m ns) (n ∷ without m ns))) b in omega arith) (cases_eq n m)
 
+-- Numbers below the next of a number are below it without it.
 under_without : (m : ℕ) (ns : List ℕ) → Under (suc m) ns → Under m (without m ns)
 under_without m [] u = tt
 under_without m (n ∷ ns) u = let r = under_without m ns u.1 in let l = u.0 in ⊎_elim (λ (h : n ≡ m). subst (λ (b : Bool). Under m (cond b (without m ns) (n ∷ without m ns))) (sym (eq-eqb n m h)) r)

@@ -12,6 +12,7 @@ use Rattle.abuf_frame.specs.Draws.{Adds, CarriesItem, CarryInOrder, Draws, pairs
 use Rattle.abuf_frame.proofs.Counting.{total-append}
 use Rattle.abuf_frame.proofs.Runs.{carry_length}
 
+-- An entry that carries an item isn't loose.
 carried_settled : (p y : ℕ) (x : Stage) → CarriesItem p y x → cond {A = ℕ} (is_loose x) 1 0 ≡ 0
 carried_settled p y (Linked q z o) c = refl
 carried_settled p y Lost c = refl
@@ -19,12 +20,14 @@ carried_settled p y Claimed c = absurd c
 carried_settled p y (Filled q z) c = absurd c
 carried_settled p y (Swapped q z o) c = absurd c
 
+-- Nor is any of those that carry items in order.
 carry_settled : (first : ℕ) (xs : List (ℕ × ℕ)) (es : List Entry) → CarryInOrder first xs es → loose es ≡ 0
 carry_settled first [] [] c = refl
 carry_settled first [] (e ∷ es) c = absurd c
 carry_settled first (x ∷ xs) [] c = absurd c
 carry_settled first (x ∷ xs) (e ∷ es) c = let r = carry_settled (first + 1) xs es c.2 in let s = carried_settled x.0 x.1 e.stage c.1 in omega arith
 
+-- An entry that carries an item and isn't lost has the pair of it.
 carried_pair : (p y : ℕ) (x : Stage) (rest : List (ℕ × ℕ)) → CarriesItem p y x → cond {A = ℕ} (is_lost x) 1 0 ≡ 0 → with_pair x rest ≡ (p, y) ∷ rest
 carried_pair p y (Linked q z o) rest c l = λ i. (c.0 i, c.1 i) ∷ rest
 carried_pair p y Lost rest c l = absurd (omega arith)
@@ -32,12 +35,14 @@ carried_pair p y Claimed rest c l = absurd c
 carried_pair p y (Filled q z) rest c l = absurd c
 carried_pair p y (Swapped q z o) rest c l = absurd c
 
+-- Entries that carry items in order, none lost, have these as their pairs.
 carry_pairs : (first : ℕ) (xs : List (ℕ × ℕ)) (es : List Entry) → CarryInOrder first xs es → lost es ≡ 0 → pairs es ≡ xs
 carry_pairs first [] [] c l = refl
 carry_pairs first [] (e ∷ es) c l = absurd c
 carry_pairs first (x ∷ xs) [] c l = absurd c
 carry_pairs first (x ∷ xs) (e ∷ es) c l = carried_pair x.0 x.1 e.stage (pairs es) c.1 (omega arith) ∙ ap (λ (ys : List (ℕ × ℕ)). x ∷ ys) (carry_pairs (first + 1) xs es c.2 (omega arith))
 
+-- Entries that carry items in order add them.
 pub carry_adds : (first : ℕ) (xs : List (ℕ × ℕ)) (es : List Entry) → CarryInOrder first xs es → Adds xs es
 carry_adds first xs es c = record {
   count = carry_length first xs es c;
@@ -45,18 +50,23 @@ carry_adds first xs es c = record {
   carried = λ l. subst (λ (ys : List (ℕ × ℕ)). IsPermutation ys xs) (sym (carry_pairs first xs es c l)) (IsPermutation-refl xs);
 }
 
+-- A view that has grown by entries which carry the items has drawn them.
 pub draws_from : (items : List (ℕ × ℕ)) (v w : View) → length items ≤ v.credit → (first : ℕ) × (es : List Entry) × CarryInOrder first items es × (w ≡ grown es v) → Draws items v w
 draws_from items v w enough r = let l = carry_length r.0 items r.1 r.2 in record { added = r.1; adds = carry_adds r.0 items r.1 r.2; fits = omega arith; after = r.3 }
 
+-- The same for one item.
 pub draws_one : (p y : ℕ) (v w : View) → 1 ≤ v.credit → (e : Entry) × CarriesItem p y e.stage × (w ≡ grown (e ∷ []) v) → Draws ((p, y) ∷ []) v w
 draws_one p y v w enough r = draws_from ((p, y) ∷ []) v w enough (r.0.number, r.0 ∷ [], (refl, r.1, tt), r.2)
 
+-- As many of two lists are loose as in each together.
 loose-append : (es fs : List Entry) → loose (es ++ fs) ≡ loose es + loose fs
 loose-append es fs = total-append (λ (e : Entry). cond (is_loose e.stage) 1 0) es fs
 
+-- As many of two lists are lost as in each together.
 lost-append : (es fs : List Entry) → lost (es ++ fs) ≡ lost es + lost fs
 lost-append es fs = total-append (λ (e : Entry). cond (is_lost e.stage) 1 0) es fs
 
+-- The pair of a stage stands before any others.
 with_pair-append : (x : Stage) (ps qs : List (ℕ × ℕ)) → with_pair x (ps ++ qs) ≡ with_pair x ps ++ qs
 with_pair-append Claimed ps qs = refl
 with_pair-append (Filled p y) ps qs = refl
@@ -64,10 +74,12 @@ with_pair-append (Swapped p y o) ps qs = refl
 with_pair-append (Linked p y o) ps qs = refl
 with_pair-append Lost ps qs = refl
 
+-- The pairs of two lists are those of each together.
 pub pairs-append : (es fs : List Entry) → pairs (es ++ fs) ≡ pairs es ++ pairs fs
 pairs-append [] fs = refl
 pairs-append (e ∷ es) fs = ap (with_pair e.stage) (pairs-append es fs) ∙ with_pair-append e.stage (pairs es) (pairs fs)
 
+-- Entries of two lists add the items of both.
 pub adds-append : (xs ys : List (ℕ × ℕ)) (es fs : List Entry) → Adds xs es → Adds ys fs → Adds (xs ++ ys) (es ++ fs)
 adds-append xs ys es fs a b = let le = length-append es fs in let lx = length-append xs ys in let ca = a.count in let cb = b.count in let k = lost-append es fs in record {
   count = omega arith;
@@ -75,6 +87,7 @@ adds-append xs ys es fs a b = let le = length-append es fs in let lx = length-ap
   carried = λ l. subst (λ (ps : List (ℕ × ℕ)). IsPermutation ps (xs ++ ys)) (sym (pairs-append es fs)) (IsPermutation-append (pairs es) xs (pairs fs) ys (a.carried (omega arith)) (b.carried (omega arith)));
 }
 
+-- What adds items adds any permutation of them.
 pub adds_permuted : (xs ys : List (ℕ × ℕ)) (es : List Entry) → IsPermutation xs ys → Adds xs es → Adds ys es
 adds_permuted xs ys es p a = record {
   count = a.count ∙ sym (length_permutation xs ys p);
@@ -91,6 +104,7 @@ draws_none v = let c : v.credit ≡ v.credit - 0 = omega arith in record {
   after = λ i. record { credit = c i; entries = sym (append-nil v.entries) i; told = v.told; seen = v.seen; walks = v.walks };
 }
 
+-- Drawing some items and then others draws both.
 pub draws_then : (xs ys : List (ℕ × ℕ)) (v w u : View) → Draws xs v w → Draws ys w u → Draws (xs ++ ys) v u
 draws_then xs ys v w u a b = let l = length-append a.added b.added in let fa = a.fits in let fb = b.fits in let c = ap (λ (z : View). z.credit) a.after in
     let spent : v.credit - length a.added - length b.added ≡ v.credit - length (a.added ++ b.added) = omega arith in record {
@@ -100,16 +114,20 @@ draws_then xs ys v w u a b = let l = length-append a.added b.added in let fa = a
       after = b.after ∙ (ap (grown b.added) a.after ∙ λ i. record { credit = spent i; entries = append_assoc v.entries a.added b.added i; told = v.told; seen = v.seen; walks = v.walks });
     }
 
+-- Drawing items draws any permutation of them.
 pub draws_permuted : (xs ys : List (ℕ × ℕ)) (v w : View) → IsPermutation xs ys → Draws xs v w → Draws ys v w
 draws_permuted xs ys v w p a = record { added = a.added; adds = adds_permuted xs ys a.added p a.adds; fits = a.fits; after = a.after }
 
 module _ (items : List (ℕ × ℕ)) (v w : View) (a : Draws items v w) where
+  -- Drawing takes one of the credit for each item.
   pub draws_credit : w.credit + length items ≡ v.credit
   draws_credit = let c = ap (λ (z : View). z.credit) a.after in let f = a.fits in let n = a.adds.count in omega arith
 
+  -- It leaves the endowment as it was.
   pub draws_endowment : endowment w ≡ endowment v
   draws_endowment = let c = draws_credit in let e = ap (λ (z : View). length z.entries) a.after in let l = length-append v.entries a.added in let n = a.adds.count in omega arith
 
+  -- It leaves no entry loose that wasn't.
   pub draws_loose : loose w.entries ≡ loose v.entries
   draws_loose = let e = ap (λ (z : View). loose z.entries) a.after in let l = loose-append v.entries a.added in let s = a.adds.settled in omega arith
 

@@ -31,6 +31,7 @@ module _ {X : Type 0} (f : X → List ℕ) where
 
   -- In the lanes before k, R relates the words and lists from before to the present ones, and the other lanes are as they were.
   module _ (R : ℕ → ℕ → List ℕ → List ℕ → Type 0) (from : List ℕ) (before : List X) where
+    -- What a loop over lanes has done up to this one.
     abbrev pub AdvancedTo : List ℕ → List X → ℕ → Type 0
     AdvancedTo at xs k = (length at ≡ 8) × (length xs ≡ 8)
         × ((j : ℕ) → j < k → R (slice_index from j) (slice_index at j) (slice_index_or (map f before) j []) (slice_index_or (map f xs) j []))

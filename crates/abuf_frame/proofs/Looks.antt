@@ -31,16 +31,20 @@ use Rattle.abuf_frame.proofs.Shares.{looks, told-append, told_linked, walks-appe
 use Rattle.abuf_frame.proofs.Ends.{carries_after, next_after, stands_le, tight_at}
 use Rattle.abuf_frame.specs.Draws.{pairs, payloads_at}
 
+-- The states of a frame's table.
 abbrev St : Type 0
 St = State (Unit {0}) View
 
+-- What follows in a chain follows in each of its ends.
 follows_drop : (stage : ℕ → Stage) (p : ℕ) (xs ys : List ℕ) → Follows stage p (xs ++ ys) → Follows stage p ys
 follows_drop stage p [] ys f = f
 follows_drop stage p (x ∷ xs) ys f = follows_drop stage p xs ys f.1
 
+-- Numbers that are tested equal are equal.
 eqb_true : (m n : ℕ) → eqb m n ≡ true → m ≡ n
 eqb_true m n h = eqb-true m n h
 
+-- What a pass was told of at a pixel stands there.
 due_there : (stage : ℕ → Stage) (p n : ℕ) (es : List Entry) → Told stage es → 0 < times n (map number_of (at_pixel p es)) → stands p (stage n) ≡ 1
 due_there stage p n [] t h = absurd (omega arith)
 due_there stage p n (e ∷ es) t h = pick (eqb (stands p e.stage) 1) refl (due_there stage p n es t.1) h
@@ -50,6 +54,7 @@ due_there stage p n (e ∷ es) t h = pick (eqb (stands p e.stage) 1) refl (due_t
         (λ (g : e.number ≢ n). let z = ap (λ (b : Bool). cond {A = ℕ} b 1 0) (ne_eqb e.number n g) in more (omega arith)) (cases_eq e.number n)
     pick false is more h = more h
 
+-- The next of a node that isn't the mark is the head that it precedes.
 next_linked : (y : Stage) (p h f : ℕ) → Precedes y p h → next_of y ≡ f → f ≢ mark → f ≡ h
 next_linked (Linked q z o) p h f a e n = sym e ∙ a.1
 next_linked (Swapped q z o) p h f a e n = absurd (n (sym e))
@@ -57,6 +62,7 @@ next_linked Claimed p h f a e n = absurd a
 next_linked (Filled q z) p h f a e n = absurd a
 next_linked Lost p h f a e n = absurd a
 
+-- The last walk alone is changed.
 pub on_last-snoc : (f : Walk → Walk) (ws : List Walk) (w : Walk) → on_last f (ws ++ w ∷ []) ≡ ws ++ f w ∷ []
 on_last-snoc f [] w = refl
 on_last-snoc f (x ∷ []) w = refl
@@ -66,38 +72,47 @@ on_last-snoc f (x ∷ y ∷ ys) w = ap (λ (l : List Walk). x ∷ l) (on_last-sn
 going_is : (found y : ℕ) (w : Walk) → w.noted ≡ Some y → going found w ≡ passing found y w
 going_is found y w has = ap (λ (n : Option ℕ). elim n [ None ↦ w | Some payload ↦ passing found payload w ]) has
 
+-- The last walk has noted a payload if it is one that has.
 pub last_has_noted : (ws : List Walk) (w : Walk) → IsNoted w.noted → LastHasNoted (ws ++ w ∷ [])
 last_has_noted [] w h = h
 last_has_noted (x ∷ []) w h = h
 last_has_noted (x ∷ y ∷ ys) w h = last_has_noted (y ∷ ys) w h
 
+-- All walks are sound if those before the last are, and the last.
 all_front : (stage : ℕ → Stage) (chain : ℕ → List ℕ) (pixels : ℕ) (ws : List Walk) (w : Walk) → AreWalks stage chain pixels (ws ++ w ∷ []) → AreWalks stage chain pixels ws × IsWalk stage chain pixels w
 all_front stage chain pixels [] w a = (tt, a.0)
 all_front stage chain pixels (x ∷ xs) w a = let r = all_front stage chain pixels xs w a.1 in ((a.0, r.0), r.1)
 
+-- Payloads passed are right if those of two lists are.
 paid-append : (stage : ℕ → Stage) (xs ys : List Passed) → AllPaid stage xs → AllPaid stage ys → AllPaid stage (xs ++ ys)
 paid-append stage [] ys a b = b
 paid-append stage (x ∷ xs) ys a b = (a.0, paid-append stage xs ys a.1 b)
 
+-- The end of numbers below one is below it.
 under-append : (m : ℕ) (xs ys : List ℕ) → Under m (xs ++ ys) → Under m ys
 under-append m [] ys u = u
 under-append m (x ∷ xs) ys u = under-append m xs ys u.1
 
 module _ (k : Size) (s : St) (r : Lawful k s) where
+  -- A number that precedes a head has a node.
   node_in : (p n h : ℕ) → Precedes (r.stage n) p h → n < k.nodes
   node_in p n h a = ⊎_elim (λ (g : n < k.nodes). g) (λ (g : k.nodes ≤ n). absurd (subst (λ y. Precedes y p h) (r.lost n g) a)) (cases_lt n k.nodes)
 
+  -- So have all numbers of a chain.
   under_chain : (p : ℕ) (ns : List ℕ) → Follows r.stage p ns → Under k.nodes ns
   under_chain p [] f = tt
   under_chain p (n ∷ ns) f = (node_in p n (head_of ns) f.0, under_chain p ns f.1)
 
+  -- A chain is no longer than there are nodes.
   short : (p : ℕ) → p < k.pixels → length (r.chain p) ≤ k.nodes
   short p on = pigeons k.nodes (r.chain p) (under_chain p (r.chain p) (r.follows p on)) (λ n. let a = r.exact p n on in let b = stands_le p (r.stage n) in omega arith)
 
+  -- The head of a chain refers to a node, or to none.
   head_small : (p : ℕ) (ns : List ℕ) → Follows r.stage p ns → head_of ns ≤ k.nodes
   head_small p [] f = omega arith
   head_small p (n ∷ ns) f = let l = node_in p n (head_of ns) f.0 in omega arith
 
+  -- A walk that begins at the head of a pixel is sound.
   walks_new : (id p : ℕ) (v : View) → get_elem? s.views id ≡ some v → p < k.pixels → IsWalk r.stage r.chain k.pixels (new_walk p (slice_index s.words (head_word p)) v)
   walks_new id p v at on = record {
     on = on;
@@ -112,9 +127,11 @@ module _ (k : Size) (s : St) (r : Lawful k s) where
   }
 
   module _ (w : Walk) (o : IsWalk r.stage r.chain k.pixels w) where
+    -- What the walk hasn't passed follows in the chain.
     rest_follows : Follows r.stage w.pixel o.rest
     rest_follows = follows_drop r.stage w.pixel (map node_of w.passed) o.rest (follows_drop r.stage w.pixel o.before (map node_of w.passed ++ o.rest) (subst (Follows r.stage w.pixel) o.suffix (r.follows w.pixel o.on)))
 
+    -- A walk that has noted the payload at its cursor is sound.
     walks_noted : w.cursor ≢ 0 → IsWalk r.stage r.chain k.pixels (noting (slice_index s.words (payload_word k.pixels (w.cursor - 1))) w)
     walks_noted away = record {
       on = o.on;
@@ -163,6 +180,7 @@ module _ (k : Size) (s : St) (r : Lawful k s) where
               due = λ m h. subst (λ (l : List ℕ). 0 < times m l) (sym nodes) (due m h);
             }
 
+-- What stands at a pixel and isn't loose is linked.
 linked_tight : (p : ℕ) (y : Stage) → stands p y ≡ 1 → is_loose y ≡ false → is_linked y ≡ true
 linked_tight p (Linked q z o) a b = refl
 linked_tight p (Swapped q z o) a b = absurd (true≢false b)
@@ -170,6 +188,7 @@ linked_tight p Claimed a b = absurd (omega arith)
 linked_tight p (Filled q z) a b = absurd (omega arith)
 linked_tight p Lost a b = absurd (omega arith)
 
+-- What is at a pixel among some entries is so among more.
 at_pixel-append : (p n : ℕ) (es fs : List Entry) → 0 < times n (map number_of (at_pixel p es)) → 0 < times n (map number_of (at_pixel p (es ++ fs)))
 at_pixel-append p n [] fs h = absurd (omega arith)
 at_pixel-append p n (e ∷ es) fs h = pick (eqb (stands p e.stage) 1) (at_pixel-append p n es fs) h
@@ -178,6 +197,7 @@ at_pixel-append p n (e ∷ es) fs h = pick (eqb (stands p e.stage) 1) (at_pixel-
     pick true more h = ⊎_elim (λ (g : e.number ≡ n). let z = ap (λ (b : Bool). cond {A = ℕ} b 1 0) (eq-eqb e.number n g) in omega arith) (λ (g : e.number ≢ n). let z = ap (λ (b : Bool). cond {A = ℕ} b 1 0) (ne_eqb e.number n g) in let m = more (omega arith) in omega arith) (cases_eq e.number n)
     pick false more h = more h
 
+-- An entry of the pass that stands at a pixel and isn't loose is linked there.
 due_mine : (stage : ℕ → Stage) (p n : ℕ) (es : List Entry) → Agree stage es → stands p (stage n) ≡ 1 → is_loose (stage n) ≡ false → 0 < times n (map number_of es) → 0 < times n (map number_of (at_pixel p (linked_of es)))
 due_mine stage p n [] a one tight h = absurd (omega arith)
 due_mine stage p n (e ∷ es) a one tight h = ⊎_elim (λ (g : e.number ≡ n). let same = a.0 ∙ ap stage g in let l : is_linked e.stage ≡ true = ap is_linked same ∙ linked_tight p (stage n) one tight in let o : eqb (stands p e.stage) 1 ≡ true = eq-eqb (stands p e.stage) 1 (ap (stands p) same ∙ one) in
@@ -197,10 +217,12 @@ due_mine stage p n (e ∷ es) a one tight h = ⊎_elim (λ (g : e.number ≡ n).
         lift false h = h
     later false c h = h
 
+-- A list in which no number stands adds nothing.
 nil-append : (xs ys : List ℕ) → ((n : ℕ) → 0 < times n xs → ⊥) → xs ++ ys ≡ ys
 nil-append [] ys h = refl
 nil-append (x ∷ xs) ys h = absurd (h x (let t = ap (λ (b : Bool). cond {A = ℕ} b 1 0) (eq-eqb x x refl) in omega arith))
 
+-- Payloads passed are those by the stages of the nodes passed.
 paid_map : (stage : ℕ → Stage) (xs : List Passed) → AllPaid stage xs → map payload_at xs ≡ map (λ n. payload_of (stage n)) (map node_of xs)
 paid_map stage [] p = refl
 paid_map stage (x ∷ xs) p = let r = paid_map stage xs p.1 in λ i. p.0 i ∷ r i
@@ -218,10 +240,12 @@ module _ (k : Size) (s : St) (r : Lawful k s) (id : ℕ) (v : View) (at : get_el
           let d = at_pixel-append p n (linked_of v.entries) v.told (due_mine r.stage p n v.entries (r.agree id v at) one (tight_at k s r id v at whole settled n old) (omega arith)) in
           let g = o.due n (subst (λ (l : List Entry). 0 < times n (map number_of l)) (sym due) d) in omega arith
 
+  -- The payloads of the chain are those passed, and those of the rest.
   first_payloads : map (λ n. payload_of (r.stage n)) (r.chain w.pixel) ≡ map payload_at w.passed ++ map (λ n. payload_of (r.stage n)) o.rest
   first_payloads = let pay : ℕ → ℕ = λ n. payload_of (r.stage n) in let t : List ℕ = map node_of w.passed in
       ap (map pay) from_head ∙ (map-append pay t o.rest ∙ ap (λ (l : List ℕ). l ++ map pay o.rest) (sym (paid_map r.stage w.passed o.paid)))
 
+  -- A walk at its end has nothing left.
   nothing : w.cursor ≡ 0 → o.rest ≡ []
   nothing zero_is = ended o.rest (sym o.stands_at ∙ zero_is)
     where
@@ -229,6 +253,7 @@ module _ (k : Size) (s : St) (r : Lawful k s) (id : ℕ) (v : View) (at : get_el
       ended [] e = refl
       ended (n ∷ ns) e = absurd (omega arith)
 
+  -- One at a node has.
   something : w.cursor ≢ 0 → 0 < length o.rest
   something away = further o.rest o.stands_at
     where
@@ -249,6 +274,7 @@ sees_all k s r id v at w o due whole settled = let p : ℕ = w.pixel in let pay 
 abbrev pub SeesList : View → Walk → Type 0
 SeesList v w = IsWhole v → IsSettled v → (list : List ℕ) × (rest : List ℕ) × IsListAt w.pixel v.entries list × (list ≡ map payload_at w.passed ++ rest) × (w.cursor ≡ 0 → rest ≡ []) × (w.cursor ≢ 0 → 0 < length rest)
 
+-- Once the pass is whole and settled, a walk sees the list of its pixel.
 pub sees_list : (k : Size) (s : St) (r : Lawful k s) (id : ℕ) (v : View) → get_elem? s.views id ≡ some v → (w : Walk) → IsWalk r.stage r.chain k.pixels w → w.due ≡ due_of w.pixel v → SeesList v w
 sees_list k s r id v at w o due whole settled = let p : ℕ = w.pixel in let pay : ℕ → ℕ = λ n. payload_of (r.stage n) in (
   map pay (r.chain p),
@@ -273,6 +299,7 @@ all_met stage w paid (e ∷ es) t h = let one = ap (λ (b : Bool). cond {A = ℕ
   all_met stage w paid es t.1 (λ n l. h n (omega arith)),
 )
 
+-- What a pass was told of, it was told of at each pixel.
 told_at : (stage : ℕ → Stage) (p : ℕ) (es : List Entry) → Told stage es → Told stage (at_pixel p es)
 told_at stage p [] t = tt
 told_at stage p (e ∷ es) t = pick (eqb (stands p e.stage) 1) (told_at stage p es t.1)
@@ -297,6 +324,7 @@ seen_end k s r w o zero_is = let t : List ℕ = map node_of w.passed in let pay 
     nothing [] e = refl
     nothing (n ∷ ns) e = absurd (omega arith)
 
+-- A walk that goes on is still due to meet the same.
 going_due : (found : ℕ) (w : Walk) (v : View) → w.due ≡ due_of w.pixel v → (going found w).due ≡ due_of (going found w).pixel v
 going_due found w v e = noted w.noted
   where
@@ -324,6 +352,7 @@ pub record Shown (nodes : ℕ) (v : View) (w : Walk) (found : ℕ) : Type 0 wher
   pub lists : w.due ≡ due_of w.pixel v → SeesList v (going found w)
 
 module _ (k : Size) (slots id : ℕ) (me : Me (Unit {0}) View) (bare : me.1 ≡ []) where
+  -- A load of a head, which begins a walk, is allowed.
   pub looks_head : (p : ℕ) → p < k.pixels → Allows (Lawful k) slots id me (head_word p) (λ n. n) (λ found now. (now ≡ (with_walk (new_walk p found me.0) me.0, [])) × ((found ≤ k.nodes) × (found ≡ 0 → AllMet (new_walk p found me.0)) × SeesWhole me.0 (new_walk p found me.0) × SeesList me.0 (new_walk p found me.0)))
   looks_head p on s r deep at small = let found : ℕ = slice_index s.words (head_word p) in let w : Walk = new_walk p found me.0 in let v' : View = with_walk w me.0 in let o = walks_new k s r id p me.0 at on in (
     v',
@@ -346,13 +375,16 @@ module _ (k : Size) (slots id : ℕ) (me : Me (Unit {0}) View) (bare : me.1 ≡ 
       empty (m ∷ ms) e n h = absurd (omega arith)
 
   module _ (ws : List Walk) (w : Walk) (last : me.0.walks ≡ ws ++ w ∷ []) (away : w.cursor ≢ 0) where
+    -- The walks are sound after the last went on, if it is.
     replaced : (s : St) (r : Lawful k s) → get_elem? s.views id ≡ some me.0 → (f : Walk → Walk) → (IsWalk r.stage r.chain k.pixels w → IsWalk r.stage r.chain k.pixels (f w)) → AreWalks r.stage r.chain k.pixels (on_last f me.0.walks)
     replaced s r at f go = let a = all_front r.stage r.chain k.pixels ws w (subst (AreWalks r.stage r.chain k.pixels) last (r.walked id me.0 at)) in
         subst (AreWalks r.stage r.chain k.pixels) (sym (ap (on_last f) last ∙ on_last-snoc f ws w)) (walks-append r.stage r.chain k.pixels ws (f w ∷ []) a.0 (go a.1, tt))
 
+    -- The walk is sound.
     mine : (s : St) (r : Lawful k s) → get_elem? s.views id ≡ some me.0 → IsWalk r.stage r.chain k.pixels w
     mine s r at = (all_front r.stage r.chain k.pixels ws w (subst (AreWalks r.stage r.chain k.pixels) last (r.walked id me.0 at))).1
 
+    -- A load of the payload at the cursor, which is noted, is allowed.
     pub looks_payload : Allows (Lawful k) slots id me (payload_word k.pixels (w.cursor - 1)) (λ n. n) (λ found now. (now ≡ (walked_on (noting found) me.0, [])) × Unit {0})
     looks_payload s r deep at small = let found : ℕ = slice_index s.words (payload_word k.pixels (w.cursor - 1)) in let v' : View = walked_on (noting found) me.0 in (
       v',
@@ -362,6 +394,7 @@ module _ (k : Size) (slots id : ℕ) (me : Me (Unit {0}) View) (bare : me.1 ≡ 
       ((λ i. (v', bare i)), tt),
     )
 
+    -- A load of the next there, by which the walk goes on, is allowed once the payload is noted.
     pub looks_next : (y : ℕ) → w.noted ≡ Some y → k.nodes < mark → Allows (Lawful k) slots id me (next_word k.pixels (w.cursor - 1)) (λ n. n) (λ found now. (now ≡ (walked_on (going found) me.0, [])) × Shown k.nodes me.0 w found)
     looks_next y has few s r deep at small = let found : ℕ = slice_index s.words (next_word k.pixels (w.cursor - 1)) in let v' : View = walked_on (going found) me.0 in let o = mine s r at in (
       v',

@@ -21,15 +21,19 @@ use Rattle.abuf_frame.specs.Words.{head_word, next_word, payload_word}
 use Rattle.abuf_frame.specs.Steps.{moved, restage}
 use Rattle.abuf_frame.proofs.Counting.{times-append, total_set, total_two, total_le, below_le, below_from}
 
+-- The states of a frame's table.
 abbrev St : Type 0
 St = State (Unit {0}) View
 
+-- The stages with that of one number replaced.
 abbrev pub put : (ℕ → Stage) → ℕ → Stage → ℕ → Stage
 put stage n x m = cond (eqb m n) x (stage m)
 
+-- That number has the new stage,
 pub put_here : (stage : ℕ → Stage) (n : ℕ) (x : Stage) → put stage n x n ≡ x
 put_here stage n x = ap (λ (b : Bool). cond b x (stage n)) (eq-eqb n n refl)
 
+-- and each other its old one.
 pub put_else : (stage : ℕ → Stage) (n m : ℕ) (x : Stage) → m ≢ n → put stage n x m ≡ stage m
 put_else stage n m x h = ap (λ (b : Bool). cond b x (stage m)) (ne_eqb m n h)
 
@@ -41,18 +45,22 @@ put_same F stage n m x h = ⊎_elim (λ (e : m ≡ n). ap (λ (i : ℕ). F (put 
 pub put_all : (P : ℕ → Stage → Type 0) (stage : ℕ → Stage) (n : ℕ) (x : Stage) → P n x → ((m : ℕ) → m ≢ n → P m (stage m)) → (m : ℕ) → P m (put stage n x m)
 put_all P stage n x here there m = ⊎_elim (λ (e : m ≡ n). subst (λ (i : ℕ). P i (put stage n x i)) (sym e) (subst (P n) (sym (put_here stage n x)) here)) (λ (e : m ≢ n). subst (P m) (sym (put_else stage n m x e)) (there m e)) (cases_eq m n)
 
+-- A chain stays one if the new stage precedes what the old one did.
 follows_put : (stage : ℕ → Stage) (n : ℕ) (x : Stage) (p : ℕ) → ((h : ℕ) → Precedes (stage n) p h → Precedes x p h) → (ns : List ℕ) → Follows stage p ns → Follows (put stage n x) p ns
 follows_put stage n x p keep [] f = tt
 follows_put stage n x p keep (m ∷ ms) f = (put_all (λ i y. i ≡ m → Precedes y p (head_of ms)) stage n x (λ e. keep (head_of ms) (subst (λ (i : ℕ). Precedes (stage i) p (head_of ms)) (sym e) f.0)) (λ i _ e. subst (λ (j : ℕ). Precedes (stage j) p (head_of ms)) (sym e) f.0) m refl, follows_put stage n x p keep ms f.1)
 
+-- An entry that goes on keeps the numbers.
 numbers_restage : (n : ℕ) (f : Stage → Stage) (es : List Entry) → map number_of (restage n f es) ≡ map number_of es
 numbers_restage n f [] = refl
 numbers_restage n f (e ∷ es) = ap (λ (l : List ℕ). e.number ∷ l) (numbers_restage n f es)
 
+-- It keeps how many there are.
 pub length_restage : (n : ℕ) (f : Stage → Stage) (es : List Entry) → length (restage n f es) ≡ length es
 length_restage n f [] = refl
 length_restage n f (e ∷ es) = ap suc (length_restage n f es)
 
+-- Entries agree with the stages after one went on in both.
 agree_restage : (stage : ℕ → Stage) (n : ℕ) (f : Stage → Stage) (es : List Entry) → Agree stage es → Agree (put stage n (f (stage n))) (restage n f es)
 agree_restage stage n f [] a = tt
 agree_restage stage n f (e ∷ es) a = (
@@ -61,32 +69,39 @@ agree_restage stage n f (e ∷ es) a = (
   agree_restage stage n f es a.1,
 )
 
+-- A number whose entry is found stands among the entries.
 one_at_least : (n : ℕ) (es : List Entry) (y : Stage) → stage_of n es ≡ Some y → 0 < times n (map number_of es)
 one_at_least n [] y f = absurd (cc)
 one_at_least n (e ∷ es) y f = ⊎_elim (λ (h : e.number ≡ n). let t = eq-eqb e.number n h in let z = ap (λ (b : Bool). cond {A = ℕ} b 1 0) t in omega arith)
     (λ (h : e.number ≢ n). let t = ne_eqb e.number n h in let r = one_at_least n es y (subst (λ (b : Bool). cond b (Some e.stage) (stage_of n es) ≡ Some y) t f) in omega arith) (cases_eq e.number n)
 
+-- The stage that is found is that of the number.
 agree_find : (stage : ℕ → Stage) (n : ℕ) (es : List Entry) (y : Stage) → Agree stage es → stage_of n es ≡ Some y → stage n ≡ y
 agree_find stage n [] y a f = absurd (cc)
 agree_find stage n (e ∷ es) y a f = ⊎_elim (λ (h : e.number ≡ n). let t = eq-eqb e.number n h in let g : Some e.stage ≡ Some y = subst (λ (b : Bool). cond b (Some e.stage) (stage_of n es) ≡ Some y) t f in let same : e.stage ≡ y = cc in ap stage (sym h) ∙ (sym a.0 ∙ same))
     (λ (h : e.number ≢ n). let t = ne_eqb e.number n h in agree_find stage n es y a.1 (subst (λ (b : Bool). cond b (Some e.stage) (stage_of n es) ≡ Some y) t f)) (cases_eq e.number n)
 
+-- Entries without the number agree whatever its stage is.
 agree_other : (stage : ℕ → Stage) (n : ℕ) (x : Stage) (es : List Entry) → times n (map number_of es) ≡ 0 → Agree stage es → Agree (put stage n x) es
 agree_other stage n x [] t a = tt
 agree_other stage n x (e ∷ es) t a = ⊎_elim (λ (h : e.number ≡ n). let z = ap (λ (b : Bool). cond {A = ℕ} b 1 0) (eq-eqb e.number n h) in absurd (omega arith))
     (λ (h : e.number ≢ n). (a.0 ∙ sym (put_else stage n e.number x h), agree_other stage n x es (omega arith) a.1)) (cases_eq e.number n)
 
+-- What was told of isn't the number that goes on, since it is linked.
 told_put : (stage : ℕ → Stage) (n : ℕ) (x : Stage) (es : List Entry) → is_linked (stage n) ≡ false → Told stage es → Told (put stage n x) es
 told_put stage n x [] f t = tt
 told_put stage n x (e ∷ es) f t = let other : e.number ≢ n = λ h. true≢false (sym t.0.1 ∙ (ap is_linked (t.0.0 ∙ ap stage h) ∙ f)) in ((t.0.0 ∙ sym (put_else stage n e.number x other), t.0.1), told_put stage n x es f t.1)
 
+-- What holds of a new view and of all others holds after one was replaced.
 pub views_set : (P : ℕ → View → Type 0) (vs : List View) (id : ℕ) (w : View) → P id w → ((j : ℕ) (u : View) → j ≢ id → get_elem? vs j ≡ some u → P j u) → (j : ℕ) (u : View) → get_elem? (set vs id w) j ≡ some u → P j u
 views_set P vs id w mine others j u e = ⊎_elim (λ (t : (j ≡ id) × (w ≡ u)). subst (λ (z : ℕ × View). P z.0 z.1) (λ i. (sym t.0 i, t.1 i)) mine) (λ (t : (j ≢ id) × (get_elem? vs j ≡ some u)). others j u t.0 t.1) (at_set vs id j w u e)
 
+-- Payloads that were passed stay right where no stage changes its payload.
 paid_put : (stage stage' : ℕ → Stage) (xs : List Passed) → ((m : ℕ) → 0 < times m (map node_of xs) → payload_of (stage' m) ≡ payload_of (stage m)) → AllPaid stage xs → AllPaid stage' xs
 paid_put stage stage' [] h p = tt
 paid_put stage stage' (x ∷ xs) h p = (p.0 ∙ sym (h x.node (let t = ap (λ (b : Bool). cond {A = ℕ} b 1 0) (eq-eqb x.node x.node refl) in omega arith)), paid_put stage stage' xs (λ m l. h m (omega arith)) p.1)
 
+-- So does the payload that is noted.
 noted_put : (stage stage' : ℕ → Stage) (o : Option ℕ) (ns : List ℕ) → ((m : ℕ) → 0 < times m ns → payload_of (stage' m) ≡ payload_of (stage m)) → Noted stage o ns → Noted stage' o ns
 noted_put stage stage' None ns h p = tt
 noted_put stage stage' (Some y) [] h p = p
@@ -112,15 +127,19 @@ walks_put stage stage' chain chain' pixels grow keep (w ∷ ws) a = let o = a.0 
 )
 
 module _ (k : Size) (s : St) (r : Lawful k s) (id n : ℕ) (v : View) (at : get_elem? s.views id ≡ some v) (y : Stage) (has : stage_of n v.entries ≡ Some y) (there : is_lost y ≡ false) (under_way : is_linked y ≡ false) where
+  -- The number has the stage that was found.
   is_here : r.stage n ≡ y
   is_here = agree_find r.stage n v.entries y (r.agree id v at) has
 
+  -- It was claimed.
   inside : n < slice_index s.words 0
   inside = let a = one_at_least n v.entries y has in let b = total_le (λ (u : View). times n (numbers u)) s.views id v at in let c = r.once n in below_from n (slice_index s.words 0) (omega arith)
 
+  -- It has a node.
   a_node : n < k.nodes
   a_node = ⊎_elim (λ (h : n < k.nodes). h) (λ (h : k.nodes ≤ n). absurd (true≢false (ap is_lost (sym (r.lost n h) ∙ is_here) ∙ there))) (cases_lt n k.nodes)
 
+  -- It stands once among the entries of its view.
   one_here : times n (numbers v) ≡ 1
   one_here = let a = one_at_least n v.entries y has in let b = total_le (λ (u : View). times n (numbers u)) s.views id v at in let c = r.once n in let d = below_le n (slice_index s.words 0) in omega arith
 
@@ -128,6 +147,7 @@ module _ (k : Size) (s : St) (r : Lawful k s) (id n : ℕ) (v : View) (at : get_
   elsewhere : (j : ℕ) (u : View) → j ≢ id → get_elem? s.views j ≡ some u → times n (numbers u) ≡ 0
   elsewhere j u other e = let a = one_at_least n v.entries y has in let b = total_two (λ (w : View). times n (numbers w)) s.views j id u v other e at in let c = r.once n in let d = below_le n (slice_index s.words 0) in omega arith
 
+  -- A state stays lawful when a number goes on and the words and chains with it.
   moves : (f : Stage → Stage) (x : Stage) → f y ≡ x → is_lost x ≡ false → (words' : List ℕ) (chain' : ℕ → List ℕ) → length words' ≡ length s.words → slice_index words' 0 ≡ slice_index s.words 0
       → ((m : ℕ) → Stores k.pixels (slice_index words' (payload_word k.pixels m)) (put r.stage n x m))
       → ((m : ℕ) → m < k.nodes → slice_index words' (next_word k.pixels m) ≡ next_of (put r.stage n x m))
@@ -157,6 +177,7 @@ module _ (k : Size) (s : St) (r : Lawful k s) (id n : ℕ) (v : View) (at : get_
     exact = ex;
   }
 
+  -- A fill keeps the state lawful.
   fill_state : (p z : ℕ) → y ≡ Claimed → p < k.pixels → Lawful k record { words = set s.words (payload_word k.pixels n) z; homes = s.homes; views = set s.views id (moved n (filled p z) v) }
   fill_state p z was on = let i : ℕ = payload_word k.pixels n in let now = is_here ∙ was in let a = a_node in let wide = r.wide in
       let other : (j : ℕ) → j ≢ i → get_or (set s.words i z) j 0 ≡ get_or s.words j 0 = λ j e. get_or-set_other s.words i j z 0 e in
@@ -169,6 +190,7 @@ module _ (k : Size) (s : St) (r : Lawful k s) (id n : ℕ) (v : View) (at : get_
       (λ q m l. r.exact q m l ∙ sym (put_same (stands q) r.stage n m (Filled p z) (sym (ap (stands q) now))))
       (λ q l. ([], refl)) (λ q m l h. ⊎_elim (λ (e : m ≡ n). let a = r.exact q m l in let b = ap (λ (i : ℕ). stands q (r.stage i)) e in let c = ap (stands q) now in absurd (omega arith)) (λ (e : m ≢ n). ap payload_of (put_else r.stage n m (Filled p z) e)) (cases_eq m n))
 
+  -- A swap keeps the state lawful.
   swap_state : (p z old : ℕ) → y ≡ Filled p z → p < k.pixels → slice_index s.words (head_word p) ≡ old → Lawful k record { words = set s.words (head_word p) (n + 1); homes = s.homes; views = set s.views id (moved n (swapped old) v) }
   swap_state p z old was on is = let i : ℕ = head_word p in let now = is_here ∙ was in let a = a_node in let wide = r.wide in let x' : Stage = Swapped p z old in
       let chain' : ℕ → List ℕ = λ q. cond (eqb q p) (n ∷ r.chain p) (r.chain q) in
@@ -194,6 +216,7 @@ module _ (k : Size) (s : St) (r : Lawful k s) (id n : ℕ) (v : View) (at : get_
       (λ q l. ⊎_elim (λ (e : q ≡ p). (n ∷ [], chain_here q e ∙ ap (λ (j : ℕ). n ∷ r.chain j) (sym e))) (λ (e : q ≢ p). ([], chain_else q e)) (cases_eq q p))
       (λ q m l h. put_same payload_of r.stage n m x' (sym (ap payload_of now)))
 
+  -- A link keeps the state lawful.
   link_state : (p z old : ℕ) → y ≡ Swapped p z old → Lawful k record { words = set s.words (next_word k.pixels n) old; homes = s.homes; views = set s.views id (moved n linked v) }
   link_state p z old was = let i : ℕ = next_word k.pixels n in let now = is_here ∙ was in let a = a_node in let wide = r.wide in let x' : Stage = Linked p z old in
       let other : (j : ℕ) → j ≢ i → get_or (set s.words i old) j 0 ≡ get_or s.words j 0 = λ j e. get_or-set_other s.words i j old 0 e in
@@ -209,14 +232,17 @@ module _ (k : Size) (s : St) (r : Lawful k s) (id n : ℕ) (v : View) (at : get_
       (λ q l. ([], refl)) (λ q m l h. put_same payload_of r.stage n m x' (sym (ap payload_of now)))
 
 module _ (k : Size) (slots id n : ℕ) (me : Me (Unit {0}) View) (bare : me.1 ≡ []) where
+  -- A pass may fill a number that it has claimed.
   pub fills : (p z : ℕ) → stage_of n me.0.entries ≡ Some Claimed → p < k.pixels
       → Allows (Lawful k) slots id me (payload_word k.pixels n) (λ _. z) (λ _ now. (now ≡ (moved n (filled p z) me.0, [])) × Unit {0})
   fills p z has on s r deep at small = (moved n (filled p z) me.0, keeps, tt, fill_state k s r id n me.0 at Claimed has refl refl p z refl on, ((λ i. (moved n (filled p z) me.0, bare i)), tt))
 
+  -- A pass may swap one that it has filled.
   pub swaps : (p z : ℕ) → stage_of n me.0.entries ≡ Some (Filled p z) → p < k.pixels
       → Allows (Lawful k) slots id me (head_word p) (λ _. n + 1) (λ found now. (now ≡ (moved n (swapped found) me.0, [])) × Unit {0})
   swaps p z has on s r deep at small = let old : ℕ = slice_index s.words (head_word p) in (moved n (swapped old) me.0, keeps, tt, swap_state k s r id n me.0 at (Filled p z) has refl refl p z old refl on refl, ((λ i. (moved n (swapped old) me.0, bare i)), tt))
 
+  -- A pass may link one that it has swapped.
   pub links : (p z old : ℕ) → stage_of n me.0.entries ≡ Some (Swapped p z old)
       → Allows (Lawful k) slots id me (next_word k.pixels n) (λ _. old) (λ _ now. (now ≡ (moved n linked me.0, [])) × (times n (numbers me.0) ≡ 1))
   links p z old has s r deep at small = (moved n linked me.0, keeps, tt, link_state k s r id n me.0 at (Swapped p z old) has refl refl p z old refl, ((λ i. (moved n linked me.0, bare i)), one_here k s r id n me.0 at (Swapped p z old) has refl refl))

@@ -16,24 +16,28 @@ use Rattle.abuf_frame.specs.Counting.{times, total}
 use Rattle.abuf_frame.specs.Views.{Below, endowment, linked_of, number_of, numbers, spent_view}
 use Rattle.abuf_frame.specs.Lawful.{Agree, AreWalks, Lawful, Told}
 use Rattle.abuf_frame.specs.Stages.{is_linked, is_loose}
-use Rattle.abuf_frame.specs.Steps.{cut_left, cut_right, having_seen, united}
+use Rattle.abuf_frame.specs.Steps.{split_left, split_right, having_seen, united}
 use Rattle.abuf_frame.specs.Walks.{with_walk}
 use Rattle.abuf_frame.specs.Pass.{Ties}
 use Rattle.abuf_frame.proofs.Counting.{total-append, total_set, total_le, times-append}
 use Rattle.abuf_frame.proofs.Claims.{agree-append, sound-append, all_below, all_views}
 use Rattle.abuf_frame.proofs.Ends.{count_mine}
 
+-- The states of a frame's table.
 abbrev St : Type 0
 St = State (Unit {0}) View
 
+-- What was told of in two lists was told of.
 pub told-append : (stage : ℕ → Stage) (l m : List Entry) → Told stage l → Told stage m → Told stage (l ++ m)
 told-append stage [] m a b = b
 told-append stage (e ∷ es) m a b = (a.0, told-append stage es m a.1 b)
 
+-- The walks are sound if those of two lists are.
 pub walks-append : (stage : ℕ → Stage) (chain : ℕ → List ℕ) (pixels : ℕ) (l m : List Walk) → AreWalks stage chain pixels l → AreWalks stage chain pixels m → AreWalks stage chain pixels (l ++ m)
 walks-append stage chain pixels [] m a b = b
 walks-append stage chain pixels (w ∷ ws) m a b = (a.0, walks-append stage chain pixels ws m a.1 b)
 
+-- Linked entries may be told of.
 pub told_linked : (stage : ℕ → Stage) (es : List Entry) → Agree stage es → Told stage (linked_of es)
 told_linked stage [] a = tt
 told_linked stage (e ∷ es) a = pick (is_linked e.stage) refl (told_linked stage es a.1)
@@ -44,6 +48,7 @@ told_linked stage (e ∷ es) a = pick (is_linked e.stage) refl (told_linked stag
 
 -- the same words, and other views
 module _ (k : Size) (s : St) (r : Lawful k s) where
+  -- A state stays lawful with other views of the same numbers, entries and endowment.
   other_views : (vs : List View) → ((n : ℕ) → total (λ v. times n (numbers v)) vs ≡ total (λ v. times n (numbers v)) s.views) → total (λ v. length v.entries) vs ≡ total (λ v. length v.entries) s.views
       → total endowment vs ≡ total endowment s.views → ((j : ℕ) (v : View) → get_elem? vs j ≡ some v → Agree r.stage v.entries × Told r.stage v.told × (v.seen ≤ slice_index s.words 0) × AreWalks r.stage r.chain k.pixels v.walks)
       → Lawful k record { words = s.words; homes = s.homes; views = vs }
@@ -68,14 +73,17 @@ module _ (k : Size) (s : St) (r : Lawful k s) where
     exact = r.exact;
   }
 
+  -- What the state asks of each view.
   abbrev Fits : View → Type 0
   Fits v = Agree r.stage v.entries × Told r.stage v.told × (v.seen ≤ slice_index s.words 0) × AreWalks r.stage r.chain k.pixels v.walks
 
+  -- Each view has that.
   fits : (j : ℕ) (v : View) → get_elem? s.views j ≡ some v → Fits v
   fits j v at = (r.agree j v at, r.told j v at, r.seen j v at, r.walked j v at)
 
-pub splits : (k : Size) (id credit : ℕ) (v : View) → credit ≤ v.credit → Splits (Lawful k) id v (cut_left credit v) (cut_right credit v)
-splits k id credit v enough s r at = let l : View = cut_left credit v in let w : View = cut_right credit v in let vs : List View = set s.views id l in let mine = fits k s r id v at in
+-- A view may be split.
+pub splits : (k : Size) (id credit : ℕ) (v : View) → credit ≤ v.credit → Splits (Lawful k) id v (split_left credit v) (split_right credit v)
+splits k id credit v enough s r at = let l : View = split_left credit v in let w : View = split_right credit v in let vs : List View = set s.views id l in let mine = fits k s r id v at in
     other_views k s r (vs ++ w ∷ [])
     (λ n. let a = total-append (λ (u : View). times n (numbers u)) vs (w ∷ []) in let b = total_set (λ (u : View). times n (numbers u)) s.views id v l at in omega arith)
     (let a = total-append (λ (u : View). length u.entries) vs (w ∷ []) in let b = total_set (λ (u : View). length u.entries) s.views id v l at in omega arith)
@@ -83,6 +91,7 @@ splits k id credit v enough s r at = let l : View = cut_left credit v in let w :
     (λ j u e. ⊎_elim (λ (h : get_elem? vs j ≡ some u). all_views (Fits k s r) s.views id l mine (fits k s r) j u h)
     (λ (h : w ≡ u). subst (Fits k s r) h (tt, told-append r.stage (linked_of v.entries) v.told (told_linked r.stage v.entries mine.0) mine.1, mine.2, tt)) (at_snoc vs w u j e))
 
+-- Two views may be joined.
 pub joins : (k : Size) (id other : ℕ) (v w : View) → Joins (Lawful k) id v other w (united v w) spent_view
 joins k id other v w s r at apart at' = let b : View = united v w in let vs : List View = set s.views id b in
     let was : get_elem? s.views other ≡ some w = ⊎_elim (λ (x : (other ≡ id) × (b ≡ w)). absurd (apart x.0)) (λ (x : (other ≢ id) × (get_elem? s.views other ≡ some w)). x.1) (at_set s.views id other b w at') in
@@ -95,6 +104,7 @@ joins k id other v w s r at apart at' = let b : View = united v w in let vs : Li
     (all_views (Fits k s r) vs other spent_view (tt, tt, omega arith, tt)
     (all_views (Fits k s r) s.views id b (agree-append r.stage v.entries w.entries mine.0 theirs.0, told-append r.stage v.told w.told mine.1 theirs.1, (let x = mine.2 in let y = theirs.2 in omega arith), walks-append r.stage r.chain k.pixels v.walks w.walks mine.3 theirs.3) (fits k s r)))
 
+-- What was told of is below the counter.
 told_below : (k : Size) (s : St) (r : Lawful k s) (es : List Entry) → Told r.stage es → Below (slice_index s.words 0) es
 told_below k s r [] t = tt
 told_below k s r (e ∷ es) t = (
@@ -115,6 +125,7 @@ looks k s r id i me w at credit entries told seen walked = let v = me.0 in let m
     (let p = total_set endowment s.views id v w at in omega arith)
     (all_views (Fits k s r) s.views id w (subst (Agree r.stage) (sym entries) mine.0, subst (Told r.stage) (sym told) mine.1, seen, walked) (fits k s r)))
 
+-- A load of the counter is allowed, and shows what is below it.
 pub counts : (k : Size) (slots id : ℕ) (me : Me (Unit {0}) View) → me.1 ≡ []
     → Allows (Lawful k) slots id me 0 (λ n. n) (λ found now. (now ≡ (having_seen found me.0, [])) × ((me.0.seen ≤ found) × Below found me.0.entries × Below found me.0.told × (endowment me.0 ≡ 2 ^ 60 → found ≡ length me.0.entries)))
 counts k slots id me bare s r deep at small = let c : ℕ = slice_index s.words 0 in (
@@ -136,6 +147,7 @@ weighs k slots id me bare s r deep at small = (
   ((λ i. (me.0, bare i)), let t = total_le endowment s.views id me.0 at in let e = r.endowed in omega arith),
 )
 
+-- What ties a pass to its view holds after a join.
 pub ties_united : (pixels nodes : ℕ) (me other now : Me (Unit {0}) View) (credit own ones credit' own' ones' : ℕ) → Ties pixels nodes me credit own ones → Ties pixels nodes other credit' own' ones'
     → now ≡ (united me.0 other.0, []) → endowment (united me.0 other.0) ≤ 2 ^ 60 → Ties pixels nodes now (credit + credit') (own + own') (ones + ones')
 ties_united pixels nodes me other now credit own ones credit' own' ones' t u is fit = subst (λ (m : Me (Unit {0}) View). Ties pixels nodes m (credit + credit') (own + own') (ones + ones')) (sym is)
@@ -149,6 +161,7 @@ ties_united pixels nodes me other now credit own ones credit' own' ones' t u is 
       sound = sound-append pixels nodes me.0.entries other.0.entries t.sound u.sound;
     })
 
+-- It holds after a look.
 pub ties_walk : (pixels nodes : ℕ) (me now : Me (Unit {0}) View) (credit own ones : ℕ) (w : Walk) → Ties pixels nodes me credit own ones → now ≡ (with_walk w me.0, []) → Ties pixels nodes now credit own ones
 ties_walk pixels nodes me now credit own ones w t is = subst (λ (m : Me (Unit {0}) View). Ties pixels nodes m credit own ones) (sym is)
     record { bare = refl; credit_is = t.credit_is; own_is = t.own_is; loose_is = t.loose_is; small = t.small; sound = t.sound }

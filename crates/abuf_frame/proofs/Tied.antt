@@ -13,11 +13,13 @@ use Rattle.abuf_frame.specs.Steps.{moved, restage}
 use Rattle.abuf_frame.specs.Pass.{AllInRange, InRange, Ties}
 use Rattle.abuf_frame.proofs.Moves.{length_restage}
 
+-- A stage that is found is in range.
 pub sound_find : (pixels nodes n : ℕ) (es : List Entry) (y : Stage) → AllInRange pixels nodes es → stage_of n es ≡ Some y → InRange pixels nodes n y
 sound_find pixels nodes n [] y a f = absurd (cc)
 sound_find pixels nodes n (e ∷ es) y a f = ⊎_elim (λ (h : e.number ≡ n). let t = eq-eqb e.number n h in let g : Some e.stage ≡ Some y = subst (λ (b : Bool). cond b (Some e.stage) (stage_of n es) ≡ Some y) t f in let same : e.stage ≡ y = cc in subst (λ (z : ℕ × Stage). InRange pixels nodes z.0 z.1) (λ i. (h i, same i)) a.0)
     (λ (h : e.number ≢ n). let t = ne_eqb e.number n h in sound_find pixels nodes n es y a.1 (subst (λ (b : Bool). cond b (Some e.stage) (stage_of n es) ≡ Some y) t f)) (cases_eq e.number n)
 
+-- Entries stay in range after one went on in range.
 sound_restage : (pixels nodes n : ℕ) (f : Stage → Stage) → ((y : Stage) → InRange pixels nodes n y → InRange pixels nodes n (f y)) → (es : List Entry) → AllInRange pixels nodes es → AllInRange pixels nodes (restage n f es)
 sound_restage pixels nodes n f keep [] a = tt
 sound_restage pixels nodes n f keep (e ∷ es) a = (
@@ -26,17 +28,20 @@ sound_restage pixels nodes n f keep (e ∷ es) a = (
   sound_restage pixels nodes n f keep es a.1,
 )
 
+-- As many are loose after one went on that stays as loose as it was.
 loose_restage : (n : ℕ) (f : Stage → Stage) → ((y : Stage) → is_loose (f y) ≡ is_loose y) → (es : List Entry) → loose (restage n f es) ≡ loose es
 loose_restage n f keep [] = refl
 loose_restage n f keep (e ∷ es) = let r = loose_restage n f keep es in
     let same : is_loose (cond (eqb e.number n) (f e.stage) e.stage) ≡ is_loose e.stage = elim (eqb e.number n) as (λ b. is_loose (cond b (f e.stage) e.stage) ≡ is_loose e.stage) [ true ↦ keep e.stage | false ↦ refl ] in
     let z = ap (λ (b : Bool). cond {A = ℕ} b 1 0) same in omega arith
 
+-- Nothing changes where the number has no entry.
 pub restage_other : (n : ℕ) (f : Stage → Stage) (es : List Entry) → times n (map number_of es) ≡ 0 → restage n f es ≡ es
 restage_other n f [] t = refl
 restage_other n f (e ∷ es) t = ⊎_elim (λ (h : e.number ≡ n). let z = ap (λ (b : Bool). cond {A = ℕ} b 1 0) (eq-eqb e.number n h) in absurd (omega arith))
     (λ (h : e.number ≢ n). let b = ne_eqb e.number n h in let r = restage_other n f es (omega arith) in λ i. record { number = e.number; stage = cond (b i) (f e.stage) e.stage } ∷ r i) (cases_eq e.number n)
 
+-- One fewer is loose after a link.
 loose_linked : (n p y o : ℕ) (es : List Entry) → stage_of n es ≡ Some (Swapped p y o) → times n (map number_of es) ≡ 1 → loose (restage n linked es) + 1 ≡ loose es
 loose_linked n p y o [] f t = absurd (cc)
 loose_linked n p y o (e ∷ es) f t = ⊎_elim (λ (h : e.number ≡ n). let b = eq-eqb e.number n h in let g : Some e.stage ≡ Some (Swapped p y o) = subst (λ (b : Bool). cond b (Some e.stage) (stage_of n es) ≡ Some (Swapped p y o)) b f in let same : e.stage ≡ Swapped p y o = cc in
@@ -46,6 +51,7 @@ loose_linked n p y o (e ∷ es) f t = ⊎_elim (λ (h : e.number ≡ n). let b =
     (λ (h : e.number ≢ n). let b = ne_eqb e.number n h in let u = ap (λ (b : Bool). cond {A = ℕ} b 1 0) b in let r = loose_linked n p y o es (subst (λ (b : Bool). cond b (Some e.stage) (stage_of n es) ≡ Some (Swapped p y o)) b f) (omega arith) in
     let same : is_loose (cond (eqb e.number n) (linked e.stage) e.stage) ≡ is_loose e.stage = ap (λ (c : Bool). is_loose (cond c (linked e.stage) e.stage)) b in let v = ap (λ (b : Bool). cond {A = ℕ} b 1 0) same in omega arith) (cases_eq e.number n)
 
+-- A fill leaves it loose,
 loose_filled : (p z : ℕ) (y : Stage) → is_loose (filled p z y) ≡ is_loose y
 loose_filled p z Claimed = refl
 loose_filled p z (Filled q x) = refl
@@ -53,6 +59,7 @@ loose_filled p z (Swapped q x o) = refl
 loose_filled p z (Linked q x o) = refl
 loose_filled p z Lost = refl
 
+-- and so does a swap.
 loose_swapped : (old : ℕ) (y : Stage) → is_loose (swapped old y) ≡ is_loose y
 loose_swapped old Claimed = refl
 loose_swapped old (Filled q x) = refl
@@ -61,6 +68,7 @@ loose_swapped old (Linked q x o) = refl
 loose_swapped old Lost = refl
 
 module _ (pixels nodes n : ℕ) where
+  -- A fill keeps a stage in range.
   right_filled : (p z : ℕ) → p < pixels → (y : Stage) → InRange pixels nodes n y → InRange pixels nodes n (filled p z y)
   right_filled p z on Claimed a = (a, on)
   right_filled p z on (Filled q x) a = a
@@ -68,6 +76,7 @@ module _ (pixels nodes n : ℕ) where
   right_filled p z on (Linked q x o) a = a
   right_filled p z on Lost a = a
 
+  -- So does a swap.
   right_swapped : (old : ℕ) (y : Stage) → InRange pixels nodes n y → InRange pixels nodes n (swapped old y)
   right_swapped old Claimed a = a
   right_swapped old (Filled q x) a = a
@@ -75,6 +84,7 @@ module _ (pixels nodes n : ℕ) where
   right_swapped old (Linked q x o) a = a
   right_swapped old Lost a = a
 
+  -- So does a link.
   right_linked : (y : Stage) → InRange pixels nodes n y → InRange pixels nodes n (linked y)
   right_linked Claimed a = a
   right_linked (Filled q x) a = a
@@ -82,6 +92,7 @@ module _ (pixels nodes n : ℕ) where
   right_linked (Linked q x o) a = a
   right_linked Lost a = a
 
+  -- What ties a pass to its view holds after an entry went on.
   ties_moved : (f : Stage → Stage) (me now : Me (Unit {0}) View) (credit own ones ones' : ℕ) → Ties pixels nodes me credit own ones → now ≡ (moved n f me.0, [])
       → ((y : Stage) → InRange pixels nodes n y → InRange pixels nodes n (f y)) → ones' ≡ loose (restage n f me.0.entries) → Ties pixels nodes now credit own ones'
   ties_moved f me now credit own ones ones' t is right less = subst (λ (m : Me (Unit {0}) View). Ties pixels nodes m credit own ones') (sym is)
@@ -95,18 +106,23 @@ module _ (pixels nodes n : ℕ) where
       })
 
   module _ (me now : Me (Unit {0}) View) (credit own ones : ℕ) (t : Ties pixels nodes me credit own ones) where
+    -- It holds after a fill.
     pub ties_filled : (p z : ℕ) → p < pixels → now ≡ (moved n (filled p z) me.0, []) → Ties pixels nodes now credit own ones
     ties_filled p z on is = ties_moved (filled p z) me now credit own ones ones t is (right_filled p z on) (t.loose_is ∙ sym (loose_restage n (filled p z) (loose_filled p z) me.0.entries))
 
+    -- It holds after a swap.
     pub ties_swapped : (old : ℕ) → now ≡ (moved n (swapped old) me.0, []) → Ties pixels nodes now credit own ones
     ties_swapped old is = ties_moved (swapped old) me now credit own ones ones t is (right_swapped old) (t.loose_is ∙ sym (loose_restage n (swapped old) (loose_swapped old) me.0.entries))
 
+    -- Before a link an entry is loose.
     pub some_loose : (p y o : ℕ) → stage_of n me.0.entries ≡ Some (Swapped p y o) → times n (map number_of me.0.entries) ≡ 1 → 1 ≤ ones
     some_loose p y o f one = let l = loose_linked n p y o me.0.entries f one in let u = t.loose_is in omega arith
 
+    -- It holds after a link, with one loose entry fewer.
     pub ties_linked : (p y o : ℕ) → stage_of n me.0.entries ≡ Some (Swapped p y o) → times n (map number_of me.0.entries) ≡ 1 → now ≡ (moved n linked me.0, []) → Ties pixels nodes now credit own (ones - 1)
     ties_linked p y o f one is = let l = loose_linked n p y o me.0.entries f one in let u = t.loose_is in ties_moved linked me now credit own ones (ones - 1) t is right_linked (omega arith)
 
+-- What is filled has a payload.
 pub filled_is : (p : ℕ) (o : Option Stage) → IsFilled p o → (y : ℕ) × (o ≡ Some (Filled p y))
 filled_is p None h = absurd h
 filled_is p (Some (Filled q y)) h = (y, ap (λ (i : ℕ). Some (Filled i y)) h)
@@ -115,6 +131,7 @@ filled_is p (Some (Swapped q y o)) h = absurd h
 filled_is p (Some (Linked q y o)) h = absurd h
 filled_is p (Some Lost) h = absurd h
 
+-- What is swapped has a pixel, a payload and the old head.
 pub swapped_is : (old : ℕ) (o : Option Stage) → IsSwapped old o → (q : ℕ) × (y : ℕ) × (o ≡ Some (Swapped q y old))
 swapped_is old None h = absurd h
 swapped_is old (Some (Swapped q y o)) h = (q, y, ap (λ (i : ℕ). Some (Swapped q y i)) h)

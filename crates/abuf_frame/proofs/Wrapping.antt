@@ -26,9 +26,11 @@ use Rattle.atomic_table.specs.contracts.owned.Closed as Closed
 use Rattle.atomic_table.proofs.owned.Closed.TheLaws as closed
 use Rattle.abuf_frame.specs.contracts.still.SyncTable as Sync
 
+-- The type of the table.
 abbrev pub Table : RattleType
 Table = Closed.the_row unit Global ghosts
 
+-- The type of the struct around it.
 abbrev pub Wrapped : RattleType
 Wrapped = Sync.the_row
 
@@ -36,6 +38,7 @@ Wrapped = Sync.the_row
 unit_laws : Laws unit
 unit_laws = of_field unit-field unit-laws refl (copy_shared unit-field unit-copy)
 
+-- The laws of the table's type.
 pub table_laws : Laws Table
 table_laws = closed.the_row_laws unit Global ghosts unit_laws heap.the_row_laws
 
@@ -43,6 +46,7 @@ table_laws = closed.the_row_laws unit Global ghosts unit_laws heap.the_row_laws
 pub table_shared : Sharable (Closed.the_field unit Global ghosts)
 table_shared = closed.the_field_shared unit Global ghosts unit_laws heap.the_row_laws
 
+-- What is asked of a table that is wrapped.
 abbrev pub Good : Ty → Val → Type 0
 Good τ v = T (has_ty τ v) × WT v
 
@@ -52,6 +56,7 @@ one τ [] t = absurd t
 one τ (v ∷ []) t = (v, refl, t.0)
 one τ (v ∷ u ∷ vs) t = absurd t.1
 
+-- A table's value as that of the struct.
 abbrev pub wrap : Val → Val
 wrap v = vstruct (vcons v vnil)
 

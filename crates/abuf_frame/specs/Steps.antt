@@ -33,12 +33,12 @@ abbrev pub moved : ℕ → (Stage → Stage) → View → View
 moved n f v = record { credit = v.credit; entries = restage n f v.entries; told = v.told; seen = v.seen; walks = v.walks }
 
 -- after a split, the pass itself: it has lost the credit and nothing else
-abbrev pub cut_left : ℕ → View → View
-cut_left credit v = record { credit = v.credit - credit; entries = v.entries; told = v.told; seen = v.seen; walks = v.walks }
+abbrev pub split_left : ℕ → View → View
+split_left credit v = record { credit = v.credit - credit; entries = v.entries; told = v.told; seen = v.seen; walks = v.walks }
 
 -- after a split, the new pass: it has the credit, and was told of the Linked and told entries of the other
-abbrev pub cut_right : ℕ → View → View
-cut_right credit v = record { credit = credit; entries = []; told = linked_of v.entries ++ v.told; seen = v.seen; walks = [] }
+abbrev pub split_right : ℕ → View → View
+split_right credit v = record { credit = credit; entries = []; told = linked_of v.entries ++ v.told; seen = v.seen; walks = [] }
 
 -- after a join, the pass itself: credits and entries are added, what was told is united, and the greater count is kept
 abbrev pub united : View → View → View

@@ -2,6 +2,7 @@
 -- were claimed, a head for each pixel, and a payload and a next for each node. Node n is the claimed number n. A head or a
 -- next is 0 at the end of a list, and n + 1 where it refers to node n.
 use Rattle.std.specs.Prelude.{◌≡◌, ℕ, ◌+◌, ◌*◌, ◌<◌, ◌≤◌, List, length, slice_index}
+use Rattle.abuf_num.specs.declared.limits.TheConstants.{MAX_NODES, MAX_PIXELS}
 
 -- the next of a node that is not linked yet, 2 ^ 64 - 1, which refers to no node
 abbrev pub mark : ℕ
@@ -19,7 +20,7 @@ next_word pixels node = 2 + pixels + 2 * node
 
 -- the sizes that a frame may have
 abbrev pub Sized : ℕ → ℕ → Type 0
-Sized pixels nodes = (1 ≤ pixels) × (pixels ≤ 4194304) × (1 ≤ nodes) × (nodes ≤ 8388608)
+Sized pixels nodes = (1 ≤ pixels) × (pixels ≤ MAX_PIXELS) × (1 ≤ nodes) × (nodes ≤ MAX_NODES)
 
 -- the words at the start: nothing is claimed, every list is empty, no node is linked, and the payloads are 0
 abbrev pub IsBlank : ℕ → ℕ → List ℕ → Type 0

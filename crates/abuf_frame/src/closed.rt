@@ -1,5 +1,6 @@
 // A frame that is drawn.
 ghost use Rattle.std.specs.Prelude.{◌≡◌, ℕ, ◌+◌, ◌*◌, ◌<◌, ◌≤◌, ◌^◌, IfOk, IfSome, IfNone, IsPermutation, List, length, slice_index, slice_index_or, []};
+ghost use Rattle.abuf_num.specs.declared.limits.TheConstants.{MAX_NODES};
 ghost use Rattle.abuf_frame.specs.Chains.{IsListAt};
 ghost use Rattle.abuf_frame.specs.Closing.{AllSeen, list_at};
 ghost use Rattle.abuf_frame.specs.Draws.{pairs, payloads_at};
@@ -64,7 +65,7 @@ impl Frame {
             nodes,
         } = self;
         let Pass {
-            place,
+            seat,
             credit: _,
             own: fragments,
             loose: _,
@@ -72,7 +73,7 @@ impl Frame {
             nodes: _,
         } = pass;
         Closed {
-            words: Still::new(table.close_with(place)),
+            words: Still::new(table.close_with(seat)),
             pixels,
             table_nodes: nodes,
             nodes,
@@ -116,7 +117,7 @@ impl Closed {
     /// list, so a frame needn't be made with more nodes than can be claimed.
     pub fn in_larger_pool(self, nodes: u32) -> Closed
         requires not_full { self.fragments ≤ self.nodes }
-        requires more { (self.nodes ≤ nodes) × (nodes ≤ 8388608) }
+        requires more { (self.nodes ≤ nodes) × (nodes ≤ MAX_NODES) }
         ensures same { (result.lists ≡ self.lists) × (result.pixels ≡ self.pixels) × (result.fragments ≡ self.fragments) }
         ensures nodes { result.nodes ≡ nodes }
     {

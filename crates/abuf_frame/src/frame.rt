@@ -70,14 +70,14 @@ impl Frame {
     {
         let words = blank_words(alloc, pixels, nodes)?;
         let size = Size { pixels, nodes };
-        let (table, place) = Table::of_words(alloc, words.as_slice(), &size)?;
+        let (table, seat) = Table::of_words(alloc, words.as_slice(), &size)?;
         let frame = Frame {
             table,
             pixels,
             nodes,
         };
         let pass = Pass {
-            place,
+            seat,
             credit: WHOLE,
             own: 0,
             loose: 0,

@@ -7,7 +7,7 @@ ghost use Rattle.abuf_frame.specs.Words.{Sized, mark};
 ghost use Rattle.abuf_frame.specs.declared.look.Look.TheVariants.{Unlinked};
 ghost use Rattle.abuf_frame.specs.declared.view.Walk.{Walk};
 
-use crate::steps::{Place, Words, look_head_at, look_next_at, look_payload_at};
+use crate::steps::{FrameSeat, Words, look_head_at, look_next_at, look_payload_at};
 use std::marker::Brand;
 
 /// What a look found.
@@ -24,27 +24,27 @@ pub enum Look {
 
 pub(crate) fn look_along(
     words: &Words,
-    place: &mut Place,
+    seat: &mut FrameSeat,
     pixels: u32,
     nodes: u32,
     pixel: u32,
     out: &mut [u64],
 ) -> Look
-    requires table { (place.old.table_id ≡ words.now.table_id) × (words.now.table_id.words ≡ 1 + pixels + 2 * nodes) × (place.old.me.1 ≡ []) }
+    requires table { (seat.old.table_id ≡ words.now.table_id) × (words.now.table_id.words ≡ 1 + pixels + 2 * nodes) × (seat.old.me.1 ≡ []) }
     requires key { (words.now.key ≡ record { pixels = pixels; nodes = nodes }) × Sized pixels nodes × (pixel < pixels) }
-    ensures place { (place.new.table_id ≡ place.old.table_id) × (place.new.id ≡ place.old.id) }
-    ensures walk { (w : Walk) × (place.new.me ≡ (with_walk w place.old.me.0, [])) × Looked pixel place.old.me.0 out.old out.new result w }
-    ensures linked { IsWhole place.old.me.0 → IsSettled place.old.me.0 → (n : ℕ) → result ≢ Unlinked n }
-    ensures list { FindsList pixel place.old.me.0 result out.new }
+    ensures seat { (seat.new.table_id ≡ seat.old.table_id) × (seat.new.id ≡ seat.old.id) }
+    ensures walk { (w : Walk) × (seat.new.me ≡ (with_walk w seat.old.me.0, [])) × Looked pixel seat.old.me.0 out.old out.new result w }
+    ensures linked { IsWhole seat.old.me.0 → IsSettled seat.old.me.0 → (n : ℕ) → result ≢ Unlinked n }
+    ensures list { FindsList pixel seat.old.me.0 result out.new }
 {
-    let mut at = look_head_at::<Brand>(words, place, pixel);
+    let mut at = look_head_at::<Brand>(words, seat, pixel);
     let mut count = 0;
     while at != 0 {
         if count == out.len() {
             return Look::More;
         }
-        let payload = look_payload_at::<Brand>(words, place, pixels, at);
-        let next = look_next_at::<Brand>(words, place, pixels, at);
+        let payload = look_payload_at::<Brand>(words, seat, pixels, at);
+        let next = look_next_at::<Brand>(words, seat, pixels, at);
         if next == u64::MAX {
             return Look::Unlinked {
                 node: (at - 1) as u32,

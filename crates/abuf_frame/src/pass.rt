@@ -3,7 +3,7 @@ ghost use Rattle.std.specs.Prelude.{◌≡◌, ℕ, ◌+◌, ◌*◌, ◌<◌, �
 ghost use Rattle.abuf_frame.specs.Draws.{CarryInOrder, Draws};
 ghost use Rattle.abuf_frame.specs.Look.{FindsList, Looked};
 ghost use Rattle.abuf_frame.specs.Stages.{IsFilled, IsSwapped, filled, linked, linked_in, swapped};
-ghost use Rattle.abuf_frame.specs.Steps.{claimed, cut_left, cut_right, grown, having_seen, moved, united};
+ghost use Rattle.abuf_frame.specs.Steps.{claimed, split_left, split_right, grown, having_seen, moved, united};
 ghost use Rattle.abuf_frame.specs.Views.{Below, IsSettled, IsWhole, endowment, loose, stage_of};
 ghost use Rattle.abuf_frame.specs.Walks.{with_walk};
 ghost use Rattle.abuf_frame.specs.declared.look.Look.TheVariants.{Unlinked};
@@ -13,14 +13,14 @@ ghost use Rattle.abuf_frame.specs.declared.view.Walk.{Walk};
 
 use crate::frame::{Frame, WHOLE};
 use crate::look::{Look, look_along};
-use crate::steps::{Place, Union, claim_at, count_at, fill_at, link_at, split_at, swap_at};
+use crate::steps::{FrameSeat, Union, claim_at, count_at, fill_at, link_at, split_at, swap_at};
 use std::marker::{Brand, Model};
 
 /// The token of one drawer. It belongs to one frame, may be moved to another thread, and can't be dropped: it ends by being
 /// joined into another pass or by `Frame::close`. Every call takes the frame that it belongs to, and none waits for another
 /// thread or takes memory.
 pub struct Pass {
-    pub(crate) place: Place,
+    pub(crate) seat: FrameSeat,
     pub(crate) credit: u64,
     // The number of its entries, and how many of them are neither Linked nor Lost.
     pub(crate) own: u64,
@@ -34,9 +34,9 @@ impl Model for Pass {
 
     ghost Value = { PassState };
 
-    ghost view = { λ p. record { frame = record { table = p.place.table_id; pixels = p.pixels; nodes = p.nodes }; view = p.place.me.0 } };
+    ghost view = { λ p. record { frame = record { table = p.seat.table_id; pixels = p.pixels; nodes = p.nodes }; view = p.seat.me.0 } };
 
-    ghost invariant = { λ p. Ties p.pixels p.nodes p.place.me p.credit p.own p.loose };
+    ghost invariant = { λ p. Ties p.pixels p.nodes p.seat.me p.credit p.own p.loose };
 }
 
 // How many of the numbers have a node.
@@ -62,7 +62,7 @@ impl Pass {
         ensures above { Below result self.old.view.entries }
     {
         let words = &frame.table.shared;
-        let first = claim_at::<Brand>(words, &mut self.place, count);
+        let first = claim_at::<Brand>(words, &mut self.seat, count);
         self.credit -= count as u64;
         self.own += count as u64;
         self.loose += found_nodes(first, count as u64, self.nodes as u64);
@@ -78,7 +78,7 @@ impl Pass {
         ensures view { self.new.view ≡ moved number (filled pixel payload) self.old.view }
     {
         let words = &frame.table.shared;
-        fill_at::<Brand>(words, &mut self.place, frame.pixels, number, pixel, payload);
+        fill_at::<Brand>(words, &mut self.seat, frame.pixels, number, pixel, payload);
     }
 
     /// Exchanges the head of the pixel for a Filled entry, and answers the old head: 0 where the list was empty, and else
@@ -90,7 +90,7 @@ impl Pass {
         ensures view { self.new.view ≡ moved number (swapped result) self.old.view }
     {
         let words = &frame.table.shared;
-        swap_at::<Brand>(words, &mut self.place, number, pixel)
+        swap_at::<Brand>(words, &mut self.seat, number, pixel)
     }
 
     /// Stores the next of a Swapped entry, which is the old head that `swap_head` answered. The entry is Linked then.
@@ -101,7 +101,7 @@ impl Pass {
         ensures view { self.new.view ≡ moved number linked self.old.view }
     {
         let words = &frame.table.shared;
-        link_at::<Brand>(words, &mut self.place, frame.pixels, number, old);
+        link_at::<Brand>(words, &mut self.seat, frame.pixels, number, old);
         self.loose -= 1;
     }
 
@@ -164,14 +164,14 @@ impl Pass {
     pub fn split(&mut self, frame: &Frame, credit: u64) -> Pass
         requires frame { self.old.frame ≡ frame.now }
         requires credit { credit ≤ self.old.view.credit }
-        ensures left { (self.new.frame ≡ self.old.frame) × (self.new.view ≡ cut_left credit self.old.view) }
-        ensures right { (result.frame ≡ self.old.frame) × (result.view ≡ cut_right credit self.old.view) }
+        ensures left { (self.new.frame ≡ self.old.frame) × (self.new.view ≡ split_left credit self.old.view) }
+        ensures right { (result.frame ≡ self.old.frame) × (result.view ≡ split_right credit self.old.view) }
         ensures endowment { endowment self.new.view + endowment result.view ≡ endowment self.old.view }
     {
-        let place = split_at::<Brand>(&frame.table.shared, &mut self.place, credit);
+        let seat = split_at::<Brand>(&frame.table.shared, &mut self.seat, credit);
         self.credit -= credit;
         Pass {
-            place,
+            seat,
             credit,
             own: 0,
             loose: 0,
@@ -191,7 +191,7 @@ impl Pass {
         ensures loose { loose self.new.view.entries ≡ loose self.old.view.entries + loose other.view.entries }
     {
         let Pass {
-            place,
+            seat,
             credit,
             own,
             loose,
@@ -199,9 +199,9 @@ impl Pass {
             nodes: _,
         } = other;
         let words = &frame.table.shared;
-        words.join_seat::<Union>(&mut self.place, place);
+        words.join_seat::<Union>(&mut self.seat, seat);
         // One more load tells that the endowment is at most the whole.
-        count_at::<Brand>(words, &mut self.place);
+        count_at::<Brand>(words, &mut self.seat);
         self.credit += credit;
         self.own += own;
         self.loose += loose;
@@ -217,7 +217,7 @@ impl Pass {
         ensures known { Below result self.old.view.entries × Below result self.old.view.told }
         ensures whole { IsWhole self.old.view → result ≡ length self.old.view.entries }
     {
-        count_at::<Brand>(&frame.table.shared, &mut self.place)
+        count_at::<Brand>(&frame.table.shared, &mut self.seat)
     }
 
     /// How many numbers the pass may still claim.
@@ -256,7 +256,7 @@ impl Pass {
     {
         look_along(
             &frame.table.shared,
-            &mut self.place,
+            &mut self.seat,
             frame.pixels,
             frame.nodes,
             pixel,

@@ -1,7 +1,8 @@
 //! The kinds of step. Each is one operation on one word.
 ghost use Rattle.std.specs.Prelude.{◌≡◌, ℕ, ◌+◌, ◌%◌, ◌^◌, ◌<◌, ◌≤◌, ◌*◌, ◌-◌, []};
+ghost use Rattle.abuf_num.specs.declared.limits.TheConstants.{MAX_NODES, MAX_PIXELS};
 ghost use Rattle.abuf_frame.specs.Seats.{HasStepped, HasView, MaySplit, MayStep, MayStore};
-ghost use Rattle.abuf_frame.specs.Steps.{cut_left, cut_right};
+ghost use Rattle.abuf_frame.specs.Steps.{split_left, split_right};
 ghost use Rattle.abuf_frame.specs.Walks.{LastHasNoted};
 ghost use Rattle.abuf_frame.specs.Words.{head_word, next_word, payload_word};
 
@@ -12,7 +13,7 @@ use std::marker::{Brand, PhantomData};
 
 pub type Words = Shared<(), View, Size, Lists>;
 
-pub type Place = Seat<(), View>;
+pub type FrameSeat = Seat<(), View>;
 
 /// What a step leads to: the view after it, and what it shows of the number that it finds.
 pub trait Aim {
@@ -43,45 +44,51 @@ impl<N: Aim> Play<(), View> for Aimed<N> {
 }
 
 /// A claim: an addition to the counter.
-pub(crate) fn claim_at<N: Aim>(words: &Words, place: &mut Place, count: u32) -> u64
-    requires { MayStep words.now.key words.now.table_id place.old 0 (λ n. (n + count) % 2 ^ 64) N.after N.shows }
-    ensures { HasStepped place.old place.new (N.after result) (N.shows result) }
+pub(crate) fn claim_at<N: Aim>(words: &Words, seat: &mut FrameSeat, count: u32) -> u64
+    requires { MayStep words.now.key words.now.table_id seat.old 0 (λ n. (n + count) % 2 ^ 64) N.after N.shows }
+    ensures { HasStepped seat.old seat.new (N.after result) (N.shows result) }
 {
-    words.fetch_add::<Aimed<N>>(place, 0, count as u64)
+    words.fetch_add::<Aimed<N>>(seat, 0, count as u64)
 }
 
 /// A fill: a store of the payload of a node.
 pub(crate) fn fill_at<N: Aim>(
     words: &Words,
-    place: &mut Place,
+    seat: &mut FrameSeat,
     pixels: u32,
     number: u64,
     _pixel: u32,
     payload: u64,
 )
-    requires sized { (number < 8388608) × (pixels ≤ 4194304) }
-    requires step { MayStore words.now.key words.now.table_id place.old (payload_word pixels number) payload (N.after payload) (N.shows payload) }
-    ensures { HasStepped place.old place.new (N.after payload) (N.shows payload) }
+    requires sized { (number < MAX_NODES) × (pixels ≤ MAX_PIXELS) }
+    requires step { MayStore words.now.key words.now.table_id seat.old (payload_word pixels number) payload (N.after payload) (N.shows payload) }
+    ensures { HasStepped seat.old seat.new (N.after payload) (N.shows payload) }
 {
-    words.store::<Aimed<N>>(place, 1 + pixels as usize + 2 * number as usize, payload)
+    words.store::<Aimed<N>>(seat, 1 + pixels as usize + 2 * number as usize, payload)
 }
 
 /// A swap: an exchange of the head of a pixel.
-pub(crate) fn swap_at<N: Aim>(words: &Words, place: &mut Place, number: u64, pixel: u32) -> u64
-    requires sized { number < 8388608 }
-    requires step { MayStep words.now.key words.now.table_id place.old (head_word pixel) (λ _. number + 1) N.after N.shows }
-    ensures { HasStepped place.old place.new (N.after result) (N.shows result) }
+pub(crate) fn swap_at<N: Aim>(words: &Words, seat: &mut FrameSeat, number: u64, pixel: u32) -> u64
+    requires sized { number < MAX_NODES }
+    requires step { MayStep words.now.key words.now.table_id seat.old (head_word pixel) (λ _. number + 1) N.after N.shows }
+    ensures { HasStepped seat.old seat.new (N.after result) (N.shows result) }
 {
-    words.swap::<Aimed<N>>(place, 1 + pixel as usize, number + 1)
+    words.swap::<Aimed<N>>(seat, 1 + pixel as usize, number + 1)
 }
 
 /// A link: a store of the next of a node.
-pub(crate) fn link_at<N: Aim>(words: &Words, place: &mut Place, pixels: u32, number: u64, old: u64)
-    requires sized { (number < 8388608) × (pixels ≤ 4194304) }
-    requires step { MayStore words.now.key words.now.table_id place.old (next_word pixels number) old (N.after old) (N.shows old) }
-    ensures { HasStepped place.old place.new (N.after old) (N.shows old) }
+pub(crate) fn link_at<N: Aim>(
+    words: &Words,
+    seat: &mut FrameSeat,
+    pixels: u32,
+    number: u64,
+    old: u64,
+)
+    requires sized { (number < MAX_NODES) × (pixels ≤ MAX_PIXELS) }
+    requires step { MayStore words.now.key words.now.table_id seat.old (next_word pixels number) old (N.after old) (N.shows old) }
+    ensures { HasStepped seat.old seat.new (N.after old) (N.shows old) }
 {
-    words.store::<Aimed<N>>(place, 2 + pixels as usize + 2 * number as usize, old)
+    words.store::<Aimed<N>>(seat, 2 + pixels as usize + 2 * number as usize, old)
 }
 
 /// How much credit a split moves.
@@ -95,16 +102,16 @@ impl Part for Brand {
     ghost credit = { 0 };
 }
 
-pub struct Cut<N> {
+pub struct SplitOff<N> {
     part: PhantomData<N>,
 }
 
-impl<N: Part> Split<View> for Cut<N> {
-    ghost use Rattle.abuf_frame.specs.Steps.{cut_left, cut_right};
+impl<N: Part> Split<View> for SplitOff<N> {
+    ghost use Rattle.abuf_frame.specs.Steps.{split_left, split_right};
 
-    ghost left = { λ v. cut_left N.credit v };
+    ghost left = { λ v. split_left N.credit v };
 
-    ghost right = { λ v. cut_right N.credit v };
+    ghost right = { λ v. split_right N.credit v };
 }
 
 pub struct Union;
@@ -119,45 +126,50 @@ impl Join<View> for Union {
 }
 
 /// A split: a load of the counter.
-pub(crate) fn split_at<N: Part>(words: &Words, place: &mut Place, _credit: u64) -> Place
-    requires { MaySplit words.now.key words.now.table_id place.old (cut_left N.credit place.old.me.0) (cut_right N.credit place.old.me.0) }
-    ensures left { HasView place.old place.new (cut_left N.credit place.old.me.0) }
-    ensures right { (result.table_id ≡ place.old.table_id) × (result.me ≡ (cut_right N.credit place.old.me.0, [])) }
+pub(crate) fn split_at<N: Part>(words: &Words, seat: &mut FrameSeat, _credit: u64) -> FrameSeat
+    requires { MaySplit words.now.key words.now.table_id seat.old (split_left N.credit seat.old.me.0) (split_right N.credit seat.old.me.0) }
+    ensures left { HasView seat.old seat.new (split_left N.credit seat.old.me.0) }
+    ensures right { (result.table_id ≡ seat.old.table_id) × (result.me ≡ (split_right N.credit seat.old.me.0, [])) }
 {
-    words.split_seat::<Cut<N>>(place)
+    words.split_seat::<SplitOff<N>>(seat)
 }
 
 /// A load of the counter.
-pub(crate) fn count_at<N: Aim>(words: &Words, place: &mut Place) -> u64
-    requires { MayStep words.now.key words.now.table_id place.old 0 (λ n. n) N.after N.shows }
-    ensures { HasStepped place.old place.new (N.after result) (N.shows result) }
+pub(crate) fn count_at<N: Aim>(words: &Words, seat: &mut FrameSeat) -> u64
+    requires { MayStep words.now.key words.now.table_id seat.old 0 (λ n. n) N.after N.shows }
+    ensures { HasStepped seat.old seat.new (N.after result) (N.shows result) }
 {
-    words.load::<Aimed<N>>(place, 0)
+    words.load::<Aimed<N>>(seat, 0)
 }
 
 /// A look at a head: a load.
-pub(crate) fn look_head_at<N: Aim>(words: &Words, place: &mut Place, pixel: u32) -> u64
-    requires { MayStep words.now.key words.now.table_id place.old (head_word pixel) (λ n. n) N.after N.shows }
-    ensures { HasStepped place.old place.new (N.after result) (N.shows result) }
+pub(crate) fn look_head_at<N: Aim>(words: &Words, seat: &mut FrameSeat, pixel: u32) -> u64
+    requires { MayStep words.now.key words.now.table_id seat.old (head_word pixel) (λ n. n) N.after N.shows }
+    ensures { HasStepped seat.old seat.new (N.after result) (N.shows result) }
 {
-    words.load::<Aimed<N>>(place, 1 + pixel as usize)
+    words.load::<Aimed<N>>(seat, 1 + pixel as usize)
 }
 
 /// A look at the payload of the node to which the word `at` refers: a load.
-pub(crate) fn look_payload_at<N: Aim>(words: &Words, place: &mut Place, pixels: u32, at: u64) -> u64
-    requires sized { (1 ≤ at) × (at ≤ 8388608) × (pixels ≤ 4194304) }
-    requires step { MayStep words.now.key words.now.table_id place.old (payload_word pixels (at - 1)) (λ n. n) N.after N.shows }
-    ensures { HasStepped place.old place.new (N.after result) (N.shows result) }
+pub(crate) fn look_payload_at<N: Aim>(
+    words: &Words,
+    seat: &mut FrameSeat,
+    pixels: u32,
+    at: u64,
+) -> u64
+    requires sized { (1 ≤ at) × (at ≤ MAX_NODES) × (pixels ≤ MAX_PIXELS) }
+    requires step { MayStep words.now.key words.now.table_id seat.old (payload_word pixels (at - 1)) (λ n. n) N.after N.shows }
+    ensures { HasStepped seat.old seat.new (N.after result) (N.shows result) }
 {
-    words.load::<Aimed<N>>(place, 1 + pixels as usize + 2 * (at - 1) as usize)
+    words.load::<Aimed<N>>(seat, 1 + pixels as usize + 2 * (at - 1) as usize)
 }
 
 /// A look at the next of that node: a load, which is made only once the payload there is noted.
-pub(crate) fn look_next_at<N: Aim>(words: &Words, place: &mut Place, pixels: u32, at: u64) -> u64
-    requires noted { LastHasNoted place.old.me.0.walks }
-    requires sized { (1 ≤ at) × (at ≤ 8388608) × (pixels ≤ 4194304) }
-    requires step { MayStep words.now.key words.now.table_id place.old (next_word pixels (at - 1)) (λ n. n) N.after N.shows }
-    ensures { HasStepped place.old place.new (N.after result) (N.shows result) }
+pub(crate) fn look_next_at<N: Aim>(words: &Words, seat: &mut FrameSeat, pixels: u32, at: u64) -> u64
+    requires noted { LastHasNoted seat.old.me.0.walks }
+    requires sized { (1 ≤ at) × (at ≤ MAX_NODES) × (pixels ≤ MAX_PIXELS) }
+    requires step { MayStep words.now.key words.now.table_id seat.old (next_word pixels (at - 1)) (λ n. n) N.after N.shows }
+    ensures { HasStepped seat.old seat.new (N.after result) (N.shows result) }
 {
-    words.load::<Aimed<N>>(place, 2 + pixels as usize + 2 * (at - 1) as usize)
+    words.load::<Aimed<N>>(seat, 2 + pixels as usize + 2 * (at - 1) as usize)
 }

@@ -9,6 +9,7 @@ ghost use Rattle.abuf_view.specs.Screen.{shown, depth_value, on_screen, signed_b
 use crate::eye::EyePoint;
 use crate::near_plane::{EyeTriangle, NearPlane};
 use crate::quotient::{quotient, reciprocal};
+use abuf_num::limits::MAX_DEPTH;
 use abuf_num::{floor_div, product, round_div};
 use abuf_raster::{Point, ScreenTri};
 

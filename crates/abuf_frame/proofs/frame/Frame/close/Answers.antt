@@ -14,8 +14,8 @@ use Rattle.abuf_frame.proofs.Closes.{Good, closes, lists_length}
 use Rattle.abuf_frame.proofs.frame.Frame.close.Goals as goal
 
 -- what the words of the closed table are good for
-good : (c : goal.After-new) → Good (record { pixels = c.self.inside.pixels; nodes = c.self.inside.nodes }) c.pass.inside.place.me.0 c.new.result
-good c = let k : Size = record { pixels = c.self.inside.pixels; nodes = c.self.inside.nodes } in let id = c.pass.inside.place.id in let v = c.pass.inside.place.me.0 in
+good : (c : goal.After-new) → Good (record { pixels = c.self.inside.pixels; nodes = c.self.inside.nodes }) c.pass.inside.seat.me.0 c.new.result
+good c = let k : Size = record { pixels = c.self.inside.pixels; nodes = c.self.inside.nodes } in let id = c.pass.inside.seat.id in let v = c.pass.inside.seat.me.0 in
     let whole : IsWhole v = search rules in let settled : IsSettled v = search rules in let sound : AllInRange c.self.inside.pixels c.self.inside.nodes v.entries = search rules in
     let table = c.close_with.result in let words : List ℕ = slots_items table.words in let slots : List (Unit {0}) = slots_items table.slots in
     let final = subst (λ (z : Size). Final (Seen (Lawful z) id v) words slots) c.self.invariant.key_is c.close_with.ensures.values.2 in

@@ -5,6 +5,6 @@ use Rattle.abuf_frame.proofs.pass.Pass.count.Given as goal
 
 abbrev pub ghosts-count_at : goal.ghosts-count_at
 ghosts-count_at a = record {
-  after = λ found. having_seen found a.place.now.me.0;
-  shows = λ found. (a.place.now.me.0.seen ≤ found) × Below found a.place.now.me.0.entries × Below found a.place.now.me.0.told × (endowment a.place.now.me.0 ≡ 2 ^ 60 → found ≡ length a.place.now.me.0.entries);
+  after = λ found. having_seen found a.seat.now.me.0;
+  shows = λ found. (a.seat.now.me.0.seen ≤ found) × Below found a.seat.now.me.0.entries × Below found a.seat.now.me.0.told × (endowment a.seat.now.me.0 ≡ 2 ^ 60 → found ≡ length a.seat.now.me.0.entries);
 }

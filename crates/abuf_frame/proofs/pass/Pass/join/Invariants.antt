@@ -3,4 +3,4 @@ use Rattle.abuf_frame.specs.Views.{endowment}
 use Rattle.abuf_frame.proofs.pass.Pass.join.Given as goal
 
 abbrev pub ghosts-count_at : goal.ghosts-count_at
-ghosts-count_at a = record { after = λ _. a.place.now.me.0; shows = λ _. endowment a.place.now.me.0 ≤ 2 ^ 60 }
+ghosts-count_at a = record { after = λ _. a.seat.now.me.0; shows = λ _. endowment a.seat.now.me.0 ≤ 2 ^ 60 }

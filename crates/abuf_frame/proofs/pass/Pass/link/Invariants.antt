@@ -6,4 +6,4 @@ use Rattle.abuf_frame.specs.Views.{numbers}
 use Rattle.abuf_frame.proofs.pass.Pass.link.Given as goal
 
 abbrev pub ghosts-link_at : goal.ghosts-link_at
-ghosts-link_at a = record { after = λ found. moved a.number linked a.place.now.me.0; shows = λ _. times a.number (numbers a.place.now.me.0) ≡ 1 }
+ghosts-link_at a = record { after = λ found. moved a.number linked a.seat.now.me.0; shows = λ _. times a.number (numbers a.seat.now.me.0) ≡ 1 }
