@@ -1,124 +1,41 @@
 // The near plane, the turn and the shift.
-use crate::command::{Case, all_answer};
-use crate::scenes::{ONE_BEHIND, SHARED_CUT, TWO_BEHIND, UPPER};
+use crate::command::all_answer;
 use std::test::Fail;
 
 /// What lies behind the near plane is cut off.
 #[test]
 fn cut_by_the_near_plane(rt: HostRuntime) -> Result<(), Fail> {
-    let cases = [
-        Case {
-            shows: "one corner behind the near plane",
-            words: "render --size 4x4",
-            scene: ONE_BEHIND,
-            libraries: &[],
-            status: 0,
-            says: "WWWW WWWW .... ....",
-        },
-        Case {
-            shows: "its fragments are eight",
-            words: "render --size 4x4 --nodes 7",
-            scene: ONE_BEHIND,
-            libraries: &[],
-            status: 5,
-            says: "pool full: 8 fragments, 7 nodes",
-        },
-        Case {
-            shows: "two corners behind the near plane",
-            words: "render --size 4x4",
-            scene: TWO_BEHIND,
-            libraries: &[],
-            status: 0,
-            says: "WWW. .W.. .... ....",
-        },
-        Case {
-            shows: "its fragments are four",
-            words: "render --size 4x4 --nodes 3",
-            scene: TWO_BEHIND,
-            libraries: &[],
-            status: 5,
-            says: "pool full: 4 fragments, 3 nodes",
-        },
-        Case {
-            shows: "all corners behind the near plane",
-            words: "render --size 4x4",
-            scene: b"v 0 0 5\nv -1 1 5\nv 1 1 5\nf 1 2 3\n",
-            libraries: &[],
-            status: 0,
-            says: ".... .... .... ....",
-        },
-        Case {
-            shows: "a corner of the triangle is cut off",
-            words: "render --size 4x4",
-            scene: b"v -4 4 0\nv 4 4 4\nv -4 -4 0\nf 1 2 3\n",
-            libraries: &[],
-            status: 0,
-            says: "WWW. WW.. W... ....",
-        },
-        Case {
-            shows: "a shared edge that is cut covers each centre once",
-            words: "render --size 3x4 --nodes 6",
-            scene: SHARED_CUT,
-            libraries: &[],
-            status: 0,
-            says: "WWW WWW ... ...",
-        },
-        Case {
-            shows: "its fragments are six",
-            words: "render --size 3x4 --nodes 5",
-            scene: SHARED_CUT,
-            libraries: &[],
-            status: 5,
-            says: "pool full: 6 fragments, 5 nodes",
-        },
-    ];
-    all_answer(&rt, rt.alloc(), &cases)
+    let table = "
+# one corner behind the near plane; its fragments are eight
+render --size 4x4 | ONE_BEHIND | 0 WWWW WWWW .... ....
+render --size 4x4 --nodes 7 | ONE_BEHIND | 5 pool full: 8 fragments, 7 nodes
+# two corners behind it; its fragments are four
+render --size 4x4 | TWO_BEHIND | 0 WWW. .W.. .... ....
+render --size 4x4 --nodes 3 | TWO_BEHIND | 5 pool full: 4 fragments, 3 nodes
+# all corners behind it
+render --size 4x4 | v 0 0 5; v -1 1 5; v 1 1 5; f 1 2 3; | 0 .... .... .... ....
+# a corner of the triangle is cut off
+render --size 4x4 | v -4 4 0; v 4 4 4; v -4 -4 0; f 1 2 3; | 0 WWW. WW.. W... ....
+# a shared edge that is cut covers each centre once; the fragments are six
+render --size 3x4 --nodes 6 | SHARED_CUT | 0 WWW WWW ... ...
+render --size 3x4 --nodes 5 | SHARED_CUT | 5 pool full: 6 fragments, 5 nodes
+";
+    all_answer(&rt, rt.alloc(), table)
 }
 
 /// The camera turns and moves.
 #[test]
 fn turned_and_moved(rt: HostRuntime) -> Result<(), Fail> {
-    let cases = [
-        Case {
-            shows: "a half turn about the vertical axis",
-            words: "render --size 4x4 --turn 0,0,1,0",
-            scene: UPPER,
-            libraries: &[],
-            status: 0,
-            says: "WWWW .WWW ..WW ...W",
-        },
-        Case {
-            shows: "a factor of the turn changes nothing",
-            words: "render --size 4x4 --turn 2,0,0,0",
-            scene: UPPER,
-            libraries: &[],
-            status: 0,
-            says: "WWW. WW.. W... ....",
-        },
-        Case {
-            shows: "the turn with all parts at their limit",
-            words: "render --size 4x4 --turn=-1024,-1024,-1024,-1024",
-            scene: b"v 4 0 -4\nv 4 0 4\nv -4 0 -4\nf 1 2 3\n",
-            libraries: &[],
-            status: 0,
-            says: "WWW. WW.. W... ....",
-        },
-        Case {
-            shows: "as far ahead as can be",
-            words: "render --size 4x4 --move=0,0,-32767.99999",
-            scene: UPPER,
-            libraries: &[],
-            status: 0,
-            says: ".... .... .... ....",
-        },
-        Case {
-            shows: "as far behind as can be",
-            words: "render --size 4x4 --move=0,0,32767.99999",
-            scene: UPPER,
-            libraries: &[],
-            status: 0,
-            says: ".... .... .... ....",
-        },
-    ];
-    all_answer(&rt, rt.alloc(), &cases)
+    let table = "
+# a half turn about the vertical axis
+render --size 4x4 --turn 0,0,1,0 | UPPER | 0 WWWW .WWW ..WW ...W
+# a factor of the turn changes nothing
+render --size 4x4 --turn 2,0,0,0 | UPPER | 0 WWW. WW.. W... ....
+# the turn with all parts at their limit
+render --size 4x4 --turn=-1024,-1024,-1024,-1024 | v 4 0 -4; v 4 0 4; v -4 0 -4; f 1 2 3; | 0 WWW. WW.. W... ....
+# as far ahead and as far behind as can be
+render --size 4x4 --move=0,0,-32767.99999 | UPPER | 0 .... .... .... ....
+render --size 4x4 --move=0,0,32767.99999 | UPPER | 0 .... .... .... ....
+";
+    all_answer(&rt, rt.alloc(), table)
 }

@@ -1,6 +1,7 @@
 // A command over memory, and the answer that it must give.
 ghost use Rattle.abuf_io.specs.Plans.{IsPlan};
 
+use crate::table::{bytes_of, column, held_of, is_case};
 use abuf_frame::Closed;
 use abuf_io::{MemShelf, MemSink, MemSource, Step};
 use abuf_num::List;
@@ -9,23 +10,6 @@ use std::alloc::Global;
 use std::process::Abort;
 use std::test::Fail;
 use std::thread::Threads;
-
-/// The name and the content of a library.
-pub(crate) type Library = (&'static [u8], &'static [u8]);
-
-/// A command, and what it must answer.
-#[derive(Drop)]
-pub(crate) struct Case {
-    pub shows: &'static str,
-    /// With a blank between them.
-    pub words: &'static str,
-    pub scene: &'static [u8],
-    pub libraries: &'static [Library],
-    pub status: u8,
-    /// With status 0 the picture: its rows with a blank between them, each pixel as a letter of `colour`. Else the line on
-    /// the standard error.
-    pub says: &'static str,
-}
 
 /// What came of a command.
 #[derive(Drop)]
@@ -72,39 +56,27 @@ pub(crate) fn words_of(alloc: Global, text: &str) -> Result<Vec<String>, Fail> {
     Ok(words)
 }
 
-/// A list of the bytes.
-pub(crate) fn bytes(alloc: Global, text: &[u8]) -> Result<List<u8>, Fail> {
-    Ok(List::from_vec(text.to_vec(alloc)?))
-}
-
-fn libraries(alloc: Global, pairs: &[Library]) -> Result<List<(List<u8>, List<u8>)>, Fail> {
-    let mut list = List::new(alloc);
-    for pair in pairs {
-        list.push((bytes(alloc, pair.0)?, bytes(alloc, pair.1)?))?;
-    }
-    Ok(list)
-}
-
-/// Runs the command.
+/// Runs the command over the scene and what is held, each as in a table.
 pub(crate) fn carry_out<R: Threads + Sync>(
     rt: &R,
     alloc: Global,
     words: &str,
-    scene: &[u8],
-    held: &[Library],
+    scene: &str,
+    held: &str,
     outside: Outside,
 ) -> Result<Outcome, Fail> {
-    let pairs = libraries(alloc, held)?;
-    carry_out_over(rt, alloc, words, scene, pairs, outside)
+    let scene = List::from_vec(bytes_of(alloc, scene)?);
+    let held = held_of(alloc, held)?;
+    carry_out_over(rt, alloc, words, scene, held, outside)
 }
 
-/// The same over a shelf of these pairs.
+/// Runs the command.
 pub(crate) fn carry_out_over<R: Threads + Sync>(
     rt: &R,
     alloc: Global,
     words: &str,
-    scene: &[u8],
-    pairs: List<(List<u8>, List<u8>)>,
+    scene: List<u8>,
+    held: List<(List<u8>, List<u8>)>,
     outside: Outside,
 ) -> Result<Outcome, Fail> {
     let Outside {
@@ -114,8 +86,8 @@ pub(crate) fn carry_out_over<R: Threads + Sync>(
         fails,
     } = outside;
     let words = words_of(alloc, words)?;
-    let mut source = MemSource::new(bytes(alloc, scene)?, reads);
-    let mut shelf = MemShelf::new(pairs, fails);
+    let mut source = MemSource::new(scene, reads);
+    let mut shelf = MemShelf::new(held, fails);
     let mut out = MemSink::new(alloc, 1 << 20, writes)?;
     let mut err = MemSink::new(alloc, 1 << 10, reports)?;
     let ran = run(
@@ -173,88 +145,128 @@ pub(crate) fn image(alloc: Global, picture: &str) -> Result<Vec<u8>, Fail> {
     Ok(file)
 }
 
-/// Whether the command ended in this status and wrote just the picture, or just the line.
-pub(crate) fn is_answer(
-    alloc: Global,
-    outcome: &Outcome,
-    status: u8,
-    says: &str,
-) -> Result<bool, Fail> {
-    let out = outcome.out.taken();
-    let err = outcome.err.taken();
-    if status == 0 {
-        let file = image(alloc, says)?;
-        return Ok(outcome.status == 0 && err.is_empty() && out == file.as_slice());
+/// The files of pictures with ` + ` between them, joined.
+pub(crate) fn images(alloc: Global, pictures: &str) -> Result<Vec<u8>, Fail> {
+    let mut files = Vec::new(alloc);
+    if pictures.is_empty() {
+        return Ok(files);
     }
-    let line = format!(in alloc; "{says}\n")?;
-    Ok(outcome.status == status && out.is_empty() && err == line.as_bytes())
+    for picture in pictures.split(" + ") {
+        files.extend_from_slice(&image(alloc, picture)?)?;
+    }
+    Ok(files)
 }
 
-/// Whether the command wrote just this text.
-pub(crate) fn is_text(outcome: &Outcome, text: &str) -> bool {
-    outcome.status == 0 && outcome.err.taken().is_empty() && outcome.out.taken() == text.as_bytes()
+/// Whether the command is answered so: by the number of the status, after other than 0 by a line on the standard error, and by
+/// pictures.
+pub(crate) fn is_answer(alloc: Global, outcome: &Outcome, answer: &str) -> Result<bool, Fail> {
+    let (status, said) = answer.split_once(' ').unwrap_or((answer, ""));
+    let number = format!(in alloc; "{}", outcome.status)?;
+    if number.as_str() != status {
+        return Ok(false);
+    }
+    if outcome.status == 0 {
+        let files = images(alloc, said)?;
+        return Ok(outcome.err.taken().is_empty() && outcome.out.taken() == files.as_slice());
+    }
+    let (line, pictures) = said.split_once(" + ").unwrap_or((said, ""));
+    let line = format!(in alloc; "{line}\n")?;
+    let files = images(alloc, pictures)?;
+    Ok(outcome.err.taken() == line.as_bytes() && outcome.out.taken() == files.as_slice())
 }
 
-/// On the scene, without libraries, each of the words writes the text beside it.
-pub(crate) fn words_write<R: Threads + Sync + Abort>(
+/// Whether the command wrote just these bytes, given as in a table.
+pub(crate) fn is_text(alloc: Global, outcome: &Outcome, text: &str) -> Result<bool, Fail> {
+    let bytes = bytes_of(alloc, text)?;
+    Ok(
+        outcome.status == 0
+            && outcome.err.taken().is_empty()
+            && outcome.out.taken() == bytes.as_slice(),
+    )
+}
+
+// A case is answered so; what is held comes after the answer.
+fn one_answers<R: Threads + Sync + Abort>(
     rt: &R,
     alloc: Global,
-    scene: &[u8],
-    cases: &[(&'static str, &'static str)],
+    words: &str,
+    scene: &str,
+    more: &str,
 ) -> Result<(), Fail> {
-    for case in cases {
-        let outcome = carry_out(rt, alloc, case.0, scene, &[], Outside::steady(alloc))?;
-        assert!(rt;
-            is_text(&outcome, case.1),
-            "{}: status {}",
-            case.0,
-            outcome.status
-        );
-    }
+    let (answer, held) = column(more);
+    let outcome = carry_out(rt, alloc, words, scene, held, Outside::steady(alloc))?;
+    let right = is_answer(alloc, &outcome, answer)?;
+    assert!(rt;
+        right,
+        "{words} | {scene} | {answer}: status {}",
+        outcome.status
+    );
     Ok(())
 }
 
-/// Each case is answered as it says.
+/// Each case of the table is answered as it says: words, a scene, the answer, and what is held.
 pub(crate) fn all_answer<R: Threads + Sync + Abort>(
     rt: &R,
     alloc: Global,
-    cases: &[Case],
+    table: &str,
 ) -> Result<(), Fail> {
-    for case in cases {
-        let steady = Outside::steady(alloc);
-        let outcome = carry_out(rt, alloc, case.words, case.scene, case.libraries, steady)?;
-        let right = is_answer(alloc, &outcome, case.status, case.says)?;
-        assert!(rt; right, "{}: status {}", case.shows, outcome.status);
+    for line in table.lines() {
+        if is_case(line) {
+            let (words, more) = column(line);
+            let (scene, more) = column(more);
+            one_answers(rt, alloc, words, scene, more)?;
+        }
     }
     Ok(())
 }
 
-/// On the scene, without libraries, each of the words gets the status and the picture or line beside it.
+/// On the scene each case is answered as it says: words, the answer, and what is held.
 pub(crate) fn words_answer<R: Threads + Sync + Abort>(
     rt: &R,
     alloc: Global,
-    scene: &[u8],
-    cases: &[(&'static str, u8, &'static str)],
+    scene: &str,
+    table: &str,
 ) -> Result<(), Fail> {
-    for case in cases {
-        let outcome = carry_out(rt, alloc, case.0, scene, &[], Outside::steady(alloc))?;
-        let right = is_answer(alloc, &outcome, case.1, case.2)?;
-        assert!(rt; right, "{}: status {}", case.0, outcome.status);
+    for line in table.lines() {
+        if is_case(line) {
+            let (words, more) = column(line);
+            one_answers(rt, alloc, words, scene, more)?;
+        }
     }
     Ok(())
 }
 
-/// Each of the scenes, without libraries, gets the status and the picture or line beside it.
+/// To the words each case is answered as it says: a scene, the answer, and what is held.
 pub(crate) fn scenes_answer<R: Threads + Sync + Abort>(
     rt: &R,
     alloc: Global,
     words: &str,
-    cases: &[(&'static [u8], u8, &'static str)],
+    table: &str,
 ) -> Result<(), Fail> {
-    for case in cases {
-        let outcome = carry_out(rt, alloc, words, case.0, &[], Outside::steady(alloc))?;
-        let right = is_answer(alloc, &outcome, case.1, case.2)?;
-        assert!(rt; right, "expected {}: status {}", case.2, outcome.status);
+    for line in table.lines() {
+        if is_case(line) {
+            let (scene, more) = column(line);
+            one_answers(rt, alloc, words, scene, more)?;
+        }
+    }
+    Ok(())
+}
+
+/// Each case of the table writes just what it says: words, a scene, the text, and what is held.
+pub(crate) fn all_write<R: Threads + Sync + Abort>(
+    rt: &R,
+    alloc: Global,
+    table: &str,
+) -> Result<(), Fail> {
+    for line in table.lines() {
+        if is_case(line) {
+            let (words, more) = column(line);
+            let (scene, more) = column(more);
+            let (text, held) = column(more);
+            let outcome = carry_out(rt, alloc, words, scene, held, Outside::steady(alloc))?;
+            let right = is_text(alloc, &outcome, text)?;
+            assert!(rt; right, "{words} | {scene}: status {}", outcome.status);
+        }
     }
     Ok(())
 }

@@ -1,5 +1,5 @@
 // The demonstration scene, by `demo`.
-use crate::command::{Outside, carry_out, is_answer, is_text, words_answer, words_write};
+use crate::command::{Outside, all_write, carry_out, is_answer, is_text, words_answer};
 use crate::outside::bytewise;
 use std::test::Fail;
 
@@ -7,84 +7,56 @@ use std::test::Fail;
 /// of the image's values.
 #[test]
 fn summaries(rt: HostRuntime) -> Result<(), Fail> {
-    let cases = [
-        (
-            "demo 1 --size 1x1 --move 0,0.3,-4",
-            "triangles 1\nfragments 1\nlongest 1\nsum 32\n",
-        ),
-        (
-            "demo 9 --size 5x4 --move 0,0,-2",
-            "triangles 9\nfragments 6\nlongest 2\nsum 979\n",
-        ),
-        (
-            "demo --size 5x4 --move 0,0,-2 --samples 8 -- 000009",
-            "triangles 9\nfragments 25\nlongest 5\nsum 900\n",
-        ),
-        (
-            "demo 9 --size 5x4 --move 0,0,-2 --maxval 65535",
-            "triangles 9\nfragments 6\nlongest 2\nsum 1488\n",
-        ),
-        (
-            "demo 9 --size 5x4 --move 0,0,-2 --background 1,1,1",
-            "triangles 9\nfragments 6\nlongest 2\nsum 14399\n",
-        ),
-        (
-            "demo 30 --size 4x4 --move 0,0,0",
-            "triangles 36\nfragments 43\nlongest 5\nsum 7030\n",
-        ),
-    ];
-    words_write(&rt, rt.alloc(), b"", &cases)
+    let table = "
+demo 1 --size 1x1 --move 0,0.3,-4 |  | triangles 1; fragments 1; longest 1; sum 32;
+demo 9 --size 5x4 --move 0,0,-2 |  | triangles 9; fragments 6; longest 2; sum 979;
+demo --size 5x4 --move 0,0,-2 --samples 8 -- 000009 |  | triangles 9; fragments 25; longest 5; sum 900;
+demo 9 --size 5x4 --move 0,0,-2 --maxval 65535 |  | triangles 9; fragments 6; longest 2; sum 1488;
+demo 9 --size 5x4 --move 0,0,-2 --background 1,1,1 |  | triangles 9; fragments 6; longest 2; sum 14399;
+demo 30 --size 4x4 --move 0,0,0 |  | triangles 36; fragments 43; longest 5; sum 7030;
+";
+    all_write(&rt, rt.alloc(), table)
 }
 
 /// Numbers out of range, words that aren't those of the command, and a pool that is too small.
 #[test]
 fn refusals_of_demo(rt: HostRuntime) -> Result<(), Fail> {
-    let cases = [
-        ("demo 0", 2, "bad value: number"),
-        ("demo 200001", 2, "bad value: number"),
-        ("demo 1000000", 2, "bad value: number"),
-        ("demo 0000001", 2, "bad value: number"),
-        ("demo +1", 2, "bad value: number"),
-        ("demo 1x1", 2, "bad value: number"),
-        ("demo -- -1", 2, "bad value: number"),
-        ("demo 0 --near 0", 2, "bad value: near"),
-        ("demo", 2, "words not understood"),
-        ("demo 1 2", 2, "words not understood"),
-        (
-            "demo 30 --size 4x4 --move 0,0,0 --nodes 42",
-            5,
-            "pool full: 43 fragments, 42 nodes",
-        ),
-    ];
-    words_answer(&rt, rt.alloc(), b"", &cases)
+    let table = "
+demo 0 | 2 bad value: number
+demo 200001 | 2 bad value: number
+demo 1000000 | 2 bad value: number
+demo 0000001 | 2 bad value: number
+demo +1 | 2 bad value: number
+demo 1x1 | 2 bad value: number
+demo -- -1 | 2 bad value: number
+demo 0 --near 0 | 2 bad value: near
+demo | 2 words not understood
+demo 1 2 | 2 words not understood
+demo 30 --size 4x4 --move 0,0,0 --nodes 42 | 5 pool full: 43 fragments, 42 nodes
+";
+    words_answer(&rt, rt.alloc(), "", table)
 }
 
 /// Any number of threads gives the same four lines.
 #[test]
 fn large_summaries(rt: HostRuntime) -> Result<(), Fail> {
-    let small = "triangles 1000\nfragments 19690\nlongest 238\nsum 160776\n";
-    let large = "triangles 20000\nfragments 393171\nlongest 4928\nsum 210871\n";
-    let cases = [
-        ("demo 1000 --size 64x48 --threads 1", small),
-        ("demo 1000 --size 64x48 --threads 64", small),
-        ("demo 20000 --size 64x48 --threads 1", large),
-        ("demo 20000 --size 64x48 --threads 7", large),
-    ];
-    words_write(&rt, rt.alloc(), b"", &cases)
+    let table = "
+demo 1000 --size 64x48 --threads 1 |  | triangles 1000; fragments 19690; longest 238; sum 160776;
+demo 1000 --size 64x48 --threads 64 |  | triangles 1000; fragments 19690; longest 238; sum 160776;
+demo 20000 --size 64x48 --threads 1 |  | triangles 20000; fragments 393171; longest 4928; sum 210871;
+demo 20000 --size 64x48 --threads 7 |  | triangles 20000; fragments 393171; longest 4928; sum 210871;
+";
+    all_write(&rt, rt.alloc(), table)
 }
 
 /// The largest scene: nearly four million fragments, in lists of up to fifty thousand.
 #[test]
 fn largest_summary(rt: HostRuntime) -> Result<(), Fail> {
-    let text = "triangles 200000\nfragments 3929398\nlongest 49394\nsum 240668\n";
-    let cases = [
-        ("demo 200000 --size 64x48 --nodes 8388608 --threads 1", text),
-        (
-            "demo 200000 --size 64x48 --nodes 8388608 --threads 64",
-            text,
-        ),
-    ];
-    words_write(&rt, rt.alloc(), b"", &cases)
+    let table = "
+demo 200000 --size 64x48 --nodes 8388608 --threads 1 |  | triangles 200000; fragments 3929398; longest 49394; sum 240668;
+demo 200000 --size 64x48 --nodes 8388608 --threads 64 |  | triangles 200000; fragments 3929398; longest 49394; sum 240668;
+";
+    all_write(&rt, rt.alloc(), table)
 }
 
 /// Neither the source nor the shelf is called, so none of their faults is met. A full pool hands back its frame.
@@ -95,14 +67,17 @@ fn nothing_is_read(rt: HostRuntime) -> Result<(), Fail> {
     failing.reads = bytewise(alloc, 0)?;
     failing.fails.push(0)?;
     let words = "demo 1 --size 1x1 --move 0,0.3,-4";
-    let outcome = carry_out(&rt, alloc, words, b"foo(", &[], failing)?;
-    let text = "triangles 1\nfragments 1\nlongest 1\nsum 32\n";
-    assert!(rt; is_text(&outcome, text), "status {}", outcome.status);
+    let outcome = carry_out(&rt, alloc, words, "foo(", "", failing)?;
+    let text = "triangles 1; fragments 1; longest 1; sum 32;";
+    assert!(rt;
+        is_text(alloc, &outcome, text)?,
+        "status {}",
+        outcome.status
+    );
     assert!(rt; outcome.closed.is_some_and(|closed| closed.fragments() == 1));
-    let steady = Outside::steady(alloc);
     let full = "demo 30 --size 4x4 --move 0,0,0 --nodes 42";
-    let outcome = carry_out(&rt, alloc, full, b"", &[], steady)?;
-    assert!(rt; is_answer(alloc, &outcome, 5, "pool full: 43 fragments, 42 nodes")?);
+    let outcome = carry_out(&rt, alloc, full, "", "", Outside::steady(alloc))?;
+    assert!(rt; is_answer(alloc, &outcome, "5 pool full: 43 fragments, 42 nodes")?);
     assert!(rt;
         outcome
             .closed

@@ -18,8 +18,6 @@ mod exported;
 #[cfg(test)]
 mod limits;
 #[cfg(test)]
-mod long;
-#[cfg(test)]
 mod materials;
 #[cfg(test)]
 mod meeting;
@@ -35,5 +33,7 @@ mod scenes;
 mod sequences;
 #[cfg(test)]
 mod stored;
+#[cfg(test)]
+mod table;
 #[cfg(test)]
 mod words;

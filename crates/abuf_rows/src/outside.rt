@@ -2,8 +2,7 @@
 ghost use Rattle.std.specs.Prelude.{◌≡◌, IfOk, true};
 ghost use Rattle.abuf_io.specs.Plans.{IsPlan, lets_some};
 
-use crate::command::{Library, Outside, carry_out, image, is_answer};
-use crate::scenes::{SQUARE, UPPER};
+use crate::command::{Outside, carry_out, images, is_answer};
 use abuf_io::Step;
 use abuf_num::List;
 use std::alloc::Global;
@@ -11,8 +10,6 @@ use std::test::Fail;
 
 // Few nodes, since the table of the usual number takes long to make so often.
 const SMALL: &str = "render --size 4x4 --nodes 16";
-
-const TWO_LIBRARIES: &[u8] = b"mtllib a.mtl\nmtllib b.mtl\n";
 
 // Puts a step last.
 #[tactic(auto, using(crate::proofs::Plans::longer))]
@@ -55,13 +52,13 @@ fn reading_that_fails_at_each_byte(rt: HostRuntime) -> Result<(), Fail> {
     for count in 0..37 {
         let mut outside = Outside::steady(alloc);
         outside.reads = bytewise(alloc, count)?;
-        let outcome = carry_out(&rt, alloc, SMALL, UPPER, &[], outside)?;
-        let right = if count < 36 {
-            is_answer(alloc, &outcome, 6, "read fault")?
+        let outcome = carry_out(&rt, alloc, SMALL, "UPPER", "", outside)?;
+        let answer = if count < 36 {
+            "6 read fault"
         } else {
-            is_answer(alloc, &outcome, 0, "WWW. WW.. W... ....")?
+            "0 WWW. WW.. W... ...."
         };
-        assert!(rt; right, "after {count} bytes");
+        assert!(rt; is_answer(alloc, &outcome, answer)?, "after {count} bytes");
     }
     Ok(())
 }
@@ -70,12 +67,12 @@ fn reading_that_fails_at_each_byte(rt: HostRuntime) -> Result<(), Fail> {
 #[test]
 fn writing_that_fails_at_each_byte(rt: HostRuntime) -> Result<(), Fail> {
     let alloc = rt.alloc();
-    let file = image(alloc, "WWW. WW.. W... ....")?;
+    let file = images(alloc, "WWW. WW.. W... ....")?;
     assert!(rt; file.len() == 107);
     for count in 0..108 {
         let mut outside = Outside::steady(alloc);
         outside.writes = bytewise(alloc, count)?;
-        let outcome = carry_out(&rt, alloc, SMALL, UPPER, &[], outside)?;
+        let outcome = carry_out(&rt, alloc, SMALL, "UPPER", "", outside)?;
         let status = if count < 107 { 7 } else { 0 };
         assert!(rt; outcome.status == status, "after {count} bytes");
         assert!(rt;
@@ -90,24 +87,24 @@ fn writing_that_fails_at_each_byte(rt: HostRuntime) -> Result<(), Fail> {
 #[test]
 fn writing_in_pieces(rt: HostRuntime) -> Result<(), Fail> {
     let alloc = rt.alloc();
-    let file = image(alloc, ".")?;
+    let words = "render --size 1x1";
     let mut outside = Outside::steady(alloc);
     outside.writes = cut(alloc, 20)?;
-    let outcome = carry_out(&rt, alloc, "render --size 1x1", b"", &[], outside)?;
+    let outcome = carry_out(&rt, alloc, words, "", "", outside)?;
     assert!(rt; outcome.status == 7 && outcome.err.taken() == b"write fault\n".as_slice());
     assert!(rt; outcome.out.taken() == b"P7\nWIDTH 1\nHEIGHT 1\n".as_slice());
     let mut outside = Outside::steady(alloc);
     outside.writes = cut(alloc, 62)?;
-    let outcome = carry_out(&rt, alloc, "render --size 1x1", b"", &[], outside)?;
-    assert!(rt; outcome.status == 0 && outcome.out.taken() == file.as_slice());
+    let outcome = carry_out(&rt, alloc, words, "", "", outside)?;
+    assert!(rt; is_answer(alloc, &outcome, "0 .")?);
     let mut plan = List::new(alloc);
     then(&mut plan, Step::Take(20))?;
     then(&mut plan, Step::Take(42))?;
     then(&mut plan, Step::Fail)?;
     let mut outside = Outside::steady(alloc);
     outside.writes = plan;
-    let outcome = carry_out(&rt, alloc, "render --size 1x1", b"", &[], outside)?;
-    assert!(rt; outcome.status == 0 && outcome.out.taken() == file.as_slice());
+    let outcome = carry_out(&rt, alloc, words, "", "", outside)?;
+    assert!(rt; is_answer(alloc, &outcome, "0 .")?);
     Ok(())
 }
 
@@ -117,8 +114,8 @@ fn reading_a_piece(rt: HostRuntime) -> Result<(), Fail> {
     let alloc = rt.alloc();
     let mut outside = Outside::steady(alloc);
     outside.reads = cut(alloc, 9)?;
-    let outcome = carry_out(&rt, alloc, SMALL, UPPER, &[], outside)?;
-    assert!(rt; is_answer(alloc, &outcome, 6, "read fault")?);
+    let outcome = carry_out(&rt, alloc, SMALL, "UPPER", "", outside)?;
+    assert!(rt; is_answer(alloc, &outcome, "6 read fault")?);
     Ok(())
 }
 
@@ -128,14 +125,8 @@ fn reporting_that_fails(rt: HostRuntime) -> Result<(), Fail> {
     let alloc = rt.alloc();
     let mut outside = Outside::steady(alloc);
     outside.reports = cut(alloc, 5)?;
-    let outcome = carry_out(
-        &rt,
-        alloc,
-        "render --size 4x4 --nodes 15",
-        SQUARE,
-        &[],
-        outside,
-    )?;
+    let words = "render --size 4x4 --nodes 15";
+    let outcome = carry_out(&rt, alloc, words, "SQUARE", "", outside)?;
     assert!(rt; outcome.status == 5 && outcome.out.taken().is_empty());
     assert!(rt; outcome.err.taken() == b"pool ".as_slice());
     Ok(())
@@ -145,34 +136,17 @@ fn reporting_that_fails(rt: HostRuntime) -> Result<(), Fail> {
 #[test]
 fn fetching_that_fails(rt: HostRuntime) -> Result<(), Fail> {
     let alloc = rt.alloc();
-    let sound: [Library; 2] = [(b"a.mtl", b""), (b"b.mtl", b"")];
-    let faulty: [Library; 2] = [(b"a.mtl", b"d 1\n"), (b"b.mtl", b"")];
-    let black = ".... .... .... ....";
-    for call in 0..3 {
+    let cases = [
+        (0, "a.mtl | b.mtl", "6 read fault"),
+        (1, "a.mtl | b.mtl", "6 read fault"),
+        (2, "a.mtl | b.mtl", "0 .... .... .... ...."),
+        (1, "a.mtl = d 1; | b.mtl", "4 library 1 line 1: no material"),
+    ];
+    for (call, held, answer) in cases {
         let mut outside = Outside::steady(alloc);
         outside.fails.push(call)?;
-        let outcome = carry_out(&rt, alloc, SMALL, TWO_LIBRARIES, &sound, outside)?;
-        let right = if call < 2 {
-            is_answer(alloc, &outcome, 6, "read fault")?
-        } else {
-            is_answer(alloc, &outcome, 0, black)?
-        };
-        assert!(rt; right, "call {call}");
+        let outcome = carry_out(&rt, alloc, SMALL, "TWO_LIBRARIES", held, outside)?;
+        assert!(rt; is_answer(alloc, &outcome, answer)?, "call {call}");
     }
-    let mut outside = Outside::steady(alloc);
-    outside.fails.push(1)?;
-    let outcome = carry_out(&rt, alloc, SMALL, TWO_LIBRARIES, &faulty, outside)?;
-    assert!(rt; is_answer(alloc, &outcome, 4, "library 1 line 1: no material")?);
-    Ok(())
-}
-
-/// The first library is read before the second, which isn't held, is fetched.
-#[test]
-fn first_library_first(rt: HostRuntime) -> Result<(), Fail> {
-    let alloc = rt.alloc();
-    let held: [Library; 1] = [(b"a.mtl", b"d 1\n")];
-    let outside = Outside::steady(alloc);
-    let outcome = carry_out(&rt, alloc, SMALL, TWO_LIBRARIES, &held, outside)?;
-    assert!(rt; is_answer(alloc, &outcome, 4, "library 1 line 1: no material")?);
     Ok(())
 }
