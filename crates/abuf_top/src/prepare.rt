@@ -36,7 +36,8 @@ fn primitives_of<R: Threads + Sync, S: Source, H: Shelf>(
     shelf: &mut H,
 ) -> Result<Projected, Stop>
     requires job { IsJob job.now }
-    ensures told { AnswersAs (λ left held. option_map (drawing_verdict job.now) (loaded job.now.what left held)) (λ verdict rose. Prepares verdict rose job.now result)
+    ensures told { AnswersAs (λ left held. option_map (drawing_verdict job.now) (loaded job.now.what left held))
+        (λ verdict rose. Prepares verdict rose job.now result)
         (source_change S.left S.faults scene.old scene.new) (shelf_change H.tells H.holds H.calls H.faults shelf.old shelf.new) }
     ensures cause { IfErr result (HasReadCause (Rose (S.faults scene.old) (S.faults scene.new) ⊎ Rose (H.faults shelf.old) (H.faults shelf.new))) }
     ensures calls { CallsShelf (load_fetches job.now.what)
