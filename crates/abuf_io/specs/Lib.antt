@@ -4,3 +4,4 @@ pub mod Whole
 pub mod Plans
 pub mod Memory
 pub mod Adapters
+pub mod Sinks

@@ -9,7 +9,8 @@ use Rattle.abuf_sequence.specs.declared.fault.ImageFault.TheVariants as fault
 use Rattle.abuf_sequence.specs.declared.fault.SequenceFault.{SequenceFault}
 use Rattle.abuf_sequence.specs.declared.path.Shot.{Shot}
 use Rattle.abuf_sequence.specs.declared.plan.Plan.{Plan}
-use Rattle.abuf_sequence.specs.Sequences.{Taken, image_of, IsSequenceAnswer}
+use Rattle.abuf_io.specs.Sinks.{Taken}
+use Rattle.abuf_sequence.specs.Sequences.{image_of, IsSequenceAnswer}
 use Rattle.abuf_sequence.specs.Single.{AreBytes, IsDrawAnswer, IsWriteAnswer, IsWritten, WritesDrawn, fault_after}
 use Rattle.abuf_sequence.specs.Batches.{AreDrawn, AreDrawnFrom, HaveWritten}
 use Rattle.abuf_sequence.proofs.Joining.{fails, one_more, written_more}

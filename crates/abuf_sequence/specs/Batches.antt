@@ -10,7 +10,8 @@ use Rattle.abuf_sequence.specs.declared.fault.SequenceFault.{SequenceFault}
 use Rattle.abuf_sequence.specs.declared.path.Shot.{Shot}
 use Rattle.abuf_sequence.specs.declared.plan.Plan.{Plan}
 use Rattle.abuf_sequence.specs.Paths.{IsShot}
-use Rattle.abuf_sequence.specs.Sequences.{IsPlan, Taken, images, sound_count, IsSequenceAnswer}
+use Rattle.abuf_io.specs.Sinks.{Taken}
+use Rattle.abuf_sequence.specs.Sequences.{IsPlan, images, sound_count, IsSequenceAnswer}
 use Rattle.abuf_sequence.specs.Single.{AreBytes, IsDrawAnswer}
 
 module _ (plan : Plan) (triangles : List Triangle) (shots : List Shot) where

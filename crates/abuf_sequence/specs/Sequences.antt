@@ -3,6 +3,7 @@ use Rattle.std.specs.Prelude.{◌≡◌, ◌⊎◌, ◌≤◌, ◌<◌, ◌-◌,
 use Rattle.std.specs.List.{concat, position_or_len}
 use Rattle.std.specs.Io.KnownBytes.{Appends}
 use Rattle.abuf_io.specs.Causes.{Rose}
+use Rattle.abuf_io.specs.Sinks.{Taken}
 use Rattle.abuf_num.specs.declared.limits.TheConstants.{MAX_NODES, MAX_THREADS}
 use Rattle.abuf_num.specs.declared.plain.PixelSum.{PixelSum}
 use Rattle.abuf_raster.specs.Region.{whole_image}
@@ -68,17 +69,6 @@ sound_count plan triangles shots = position_or_len (nat_lt plan.nodes) (totals p
 -- Those images.
 abbrev pub sound_images : Plan → List Triangle → List Shot → List (List ℕ)
 sound_images plan triangles shots = take (sound_count plan triangles shots) (images plan triangles shots)
-
--- What a sink had taken before the call and after it, where it tells, and its counts of faults.
-pub record Taken : Type 0 where
-  pub old : Option (List ℕ)
-  pub new : Option (List ℕ)
-  pub faults_old : ℕ
-  pub faults_new : ℕ
-
--- What a call did to a sink, by what its trait tells of it.
-abbrev pub sink_change : {O : Type 0} → (O → Option (List ℕ)) → (O → ℕ) → O → O → Taken
-sink_change taken faults old new = record { old = taken old; new = taken new; faults_old = faults old; faults_new = faults new }
 
 module _ (plan : Plan) (triangles : List Triangle) (shots : List Shot) (out : Taken) where
   -- No image is full, and all were written.

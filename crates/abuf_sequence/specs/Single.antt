@@ -13,7 +13,8 @@ use Rattle.abuf_sequence.specs.declared.fault.SequenceFault.{SequenceFault}
 use Rattle.abuf_sequence.specs.declared.fault.SequenceFault.TheVariants as sequence
 use Rattle.abuf_sequence.specs.declared.path.Shot.{Shot}
 use Rattle.abuf_sequence.specs.declared.plan.Plan.{Plan}
-use Rattle.abuf_sequence.specs.Sequences.{Taken, image_of, sums_of, total_of}
+use Rattle.abuf_io.specs.Sinks.{Taken}
+use Rattle.abuf_sequence.specs.Sequences.{image_of, sums_of, total_of}
 
 -- The fault of an image, as that of a sequence in which so many images come before it.
 abbrev pub fault_after : ℕ → ImageFault → SequenceFault

@@ -8,7 +8,7 @@ use Rattle.abuf_cli.specs.declared.job.Job.{Job}
 use Rattle.abuf_cli.specs.declared.job.WordFault.{WordFault}
 use Rattle.abuf_top.specs.Ending.{Ends, RefusesBy, Concludes, Tells}
 use Rattle.abuf_top.specs.Outside.{Outside, Failed, ReadFailed}
-use Rattle.abuf_sequence.specs.Sequences.{Taken}
+use Rattle.abuf_io.specs.Sinks.{Taken}
 use Rattle.abuf_top.specs.Prepared.{StopsAt}
 use Rattle.abuf_top.specs.Refusals.{refusal_status, refusal_text, stop_status, stop_text}
 use Rattle.abuf_top.specs.Status.{status_number}

@@ -6,7 +6,7 @@ use Rattle.abuf_frame.specs.Closing.{Ended}
 use Rattle.abuf_top.specs.Promise.{GoesWithFrame}
 use Rattle.abuf_top.specs.Ending.{HasFrame, HandsBack, WritesLast, Concludes, Tells, handed_back}
 use Rattle.abuf_top.specs.Outside.{Outside}
-use Rattle.abuf_sequence.specs.Sequences.{Taken}
+use Rattle.abuf_io.specs.Sinks.{Taken}
 use Rattle.abuf_top.specs.Refusals.{refusal_status}
 use Rattle.abuf_top.specs.Status.{status_number}
 use Rattle.abuf_top.specs.declared.status.Status.{Status}

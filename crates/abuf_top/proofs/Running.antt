@@ -8,7 +8,7 @@ use Rattle.abuf_cli.specs.declared.job.What.{What}
 use Rattle.abuf_cli.specs.declared.job.What.TheVariants as what
 use Rattle.abuf_cli.specs.declared.job.WordFault.{WordFault}
 use Rattle.abuf_top.specs.Ending.{Ends, WritesLast, HandsBack, Concludes, Announces, IsFrameOf}
-use Rattle.abuf_sequence.specs.Sequences.{Taken}
+use Rattle.abuf_io.specs.Sinks.{Taken}
 use Rattle.abuf_top.specs.Refusals.{refusal_status}
 use Rattle.abuf_top.specs.Status.{status_number}
 use Rattle.abuf_top.specs.Promise.{GoesWithFrame, HasSizeOf, WordsDecide, has_frame, command_has_frame, IsFrameOfTask, IsRun}

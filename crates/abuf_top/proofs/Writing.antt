@@ -6,7 +6,8 @@ use Rattle.std.specs.Io.KnownBytes.{Appends}
 use Rattle.std.proofs.lemmas.List.{length-map}
 use Rattle.std.proofs.lemmas.Bool.{ltb-false}
 use Rattle.std.proofs.Math.ListN.{length-take}
-use Rattle.abuf_sequence.specs.Sequences.{Taken, first_full, images, image_of, sound_count, sound_images, total_of, totals, AreWritten, StopsAtFull, StopsAtFault, StopsAfter}
+use Rattle.abuf_io.specs.Sinks.{Taken}
+use Rattle.abuf_sequence.specs.Sequences.{first_full, images, image_of, sound_count, sound_images, total_of, totals, AreWritten, StopsAtFull, StopsAtFault, StopsAfter}
 use Rattle.abuf_top.specs.Ending.{Ends, RefusesBy}
 use Rattle.abuf_top.specs.Images.{Images, image_pool}
 use Rattle.abuf_top.specs.Refusals.{full_text}

@@ -4,7 +4,7 @@ use Rattle.std.specs.List.{concat}
 use Rattle.std.specs.Io.KnownBytes.{Keeps}
 use Rattle.abuf_frame.specs.Closing.{Ended}
 use Rattle.abuf_picture.specs.Picture as picture
-use Rattle.abuf_sequence.specs.Sequences.{Taken}
+use Rattle.abuf_io.specs.Sinks.{Taken}
 use Rattle.abuf_top.specs.Outside.{Failed}
 use Rattle.abuf_top.specs.Refusals.{stop_status, stop_text}
 use Rattle.abuf_top.specs.Status.{status_number}

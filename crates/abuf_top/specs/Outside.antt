@@ -2,7 +2,7 @@
 -- its messages.
 use Rattle.std.specs.Prelude.{◌⊎◌, Bool, ℕ, List, Option}
 use Rattle.abuf_io.specs.Causes.{Rose}
-use Rattle.abuf_sequence.specs.Sequences.{Taken}
+use Rattle.abuf_io.specs.Sinks.{Taken}
 use Rattle.abuf_top.specs.Libraries.{Holdings, told_by}
 
 -- The bytes that a source had left before the run and has left after it, where it tells, and its counts of faults.
@@ -28,7 +28,7 @@ pub record Outside : Type 0 where
   pub out : Taken
   pub err : Taken
 
--- The records of a source, a shelf and a sink before and after, from what they tell.
+-- The records of a source and a shelf before and after, from what they tell.
 abbrev pub source_change : {S : Type 0} → (S → Option (List ℕ)) → (S → ℕ) → S → S → SourceChange
 source_change left faults old new = record { left_old = left old; left_new = left new; faults_old = faults old; faults_new = faults new }
 
@@ -41,9 +41,6 @@ shelf_change tells holds calls faults old new = record {
   faults_old = faults old;
   faults_new = faults new;
 }
-
-abbrev pub sink_change : {O : Type 0} → (O → Option (List ℕ)) → (O → ℕ) → O → O → Taken
-sink_change taken faults old new = record { old = taken old; new = taken new; faults_old = faults old; faults_new = faults new }
 
 -- What a shelf tells of what it holds.
 abbrev pub told : ShelfChange → Option Holdings

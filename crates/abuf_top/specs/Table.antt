@@ -3,7 +3,7 @@ use Rattle.std.specs.Prelude.{◌≡◌, ◌⊎◌, ◌≤◌, ◌++◌, ◌∷�
 use Rattle.std.specs.List.{concat}
 use Rattle.std.specs.Io.KnownBytes.{Appends, Keeps}
 use Rattle.abuf_top.specs.Outside.{Outside, Failed, ReadFailed}
-use Rattle.abuf_sequence.specs.Sequences.{Taken}
+use Rattle.abuf_io.specs.Sinks.{Taken}
 use Rattle.abuf_top.specs.Refusals.{stop_status, stop_text}
 use Rattle.abuf_top.specs.Status.{status_number}
 use Rattle.abuf_top.specs.Verdict.{Verdict, Refused}

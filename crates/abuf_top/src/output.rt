@@ -3,7 +3,7 @@ ghost use Rattle.std.specs.Prelude.{◌≡◌, IfSome, IfErr};
 ghost use Rattle.abuf_top.specs.Drawn.{IsOutputOf};
 ghost use Rattle.abuf_top.specs.Ending.{IsFrameOf, Ends, WritesLast, HandsBack};
 ghost use Rattle.abuf_top.specs.Image.{has_one_frame};
-ghost use Rattle.abuf_top.specs.Outside.{sink_change};
+ghost use Rattle.abuf_io.specs.Sinks.{sink_change};
 ghost use Rattle.abuf_top.specs.Stopped.{IsOfDrawing};
 ghost use Rattle.abuf_top.specs.Verdict.{pool_verdict};
 

@@ -5,7 +5,8 @@ ghost use Rattle.std.specs.Io.KnownBytes.{Appends};
 ghost use Rattle.abuf_io.specs.Causes.{Rose};
 ghost use Rattle.abuf_top.specs.Ending.{Reports, Tells, Concludes, handed_back};
 ghost use Rattle.abuf_top.specs.Promise.{IsRun};
-ghost use Rattle.abuf_top.specs.Outside.{source_change, shelf_change, sink_change};
+ghost use Rattle.abuf_io.specs.Sinks.{sink_change};
+ghost use Rattle.abuf_top.specs.Outside.{source_change, shelf_change};
 
 use crate::commands::sequence::write_images;
 use crate::outcome::Outcome;

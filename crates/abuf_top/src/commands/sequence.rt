@@ -10,7 +10,8 @@ ghost use Rattle.abuf_top.specs.Ending.{Ends};
 ghost use Rattle.abuf_top.specs.Fetches.{sequence_fetches, most_for_libraries, PathIsRefused};
 ghost use Rattle.abuf_top.specs.Images.{plan_of};
 ghost use Rattle.abuf_top.specs.Libraries.{told_by};
-ghost use Rattle.abuf_top.specs.Outside.{source_change, shelf_change, sink_change};
+ghost use Rattle.abuf_io.specs.Sinks.{sink_change};
+ghost use Rattle.abuf_top.specs.Outside.{source_change, shelf_change};
 ghost use Rattle.abuf_top.specs.Reads.{AnswersAs, CallsShelf, IsUncalled};
 ghost use Rattle.abuf_top.specs.Paths.{path_verdict, shots_by};
 ghost use Rattle.abuf_top.specs.Prepared.{LoadsPath, PreparesImages};
@@ -53,7 +54,7 @@ impl Images {
     ghost use Rattle.abuf_scene.specs.Triangles.{IsTriangleInRange};
     ghost use Rattle.abuf_sequence.specs.Paths.{IsShot};
     ghost use Rattle.abuf_sequence.specs.Sequences.{IsPlan, IsSequenceAnswer};
-    ghost use Rattle.abuf_top.specs.Outside.{sink_change};
+    ghost use Rattle.abuf_io.specs.Sinks.{sink_change};
 
     /// The images of these shots.
     fn new(scene: Scene, shots: List<Shot>, plan: Plan) -> Images

@@ -1,7 +1,7 @@
 use Rattle.std.proofs.Common.{Result, IfErr, sym, subst}
 use Rattle.std.proofs.KnownBytes.{Keeps-refl}
 use Rattle.abuf_top.specs.Ending.{Ends, Concludes}
-use Rattle.abuf_top.specs.Outside.{sink_change}
+use Rattle.abuf_io.specs.Sinks.{sink_change}
 use Rattle.abuf_top.specs.Stopped.{IsOfDrawing}
 use Rattle.abuf_top.specs.Verdict.{pools_verdict}
 use Rattle.abuf_top.specs.declared.stop.Stop.{Stop}
