@@ -1,5 +1,5 @@
 -- What contracts see of a closed frame.
-use Rattle.std.specs.Prelude.{◌≡◌, ℕ, zero, suc, ◌+◌, ◌-◌, ◌*◌, ◌<◌, cond, eqb, List, [], ◌∷◌, ◌++◌, length, map, slice_index, slice_index_or}
+use Rattle.std.specs.Prelude.{◌≡◌, ℕ, zero, suc, ◌+◌, ◌-◌, ◌*◌, ◌<◌, if◌then◌else◌, ◌==◌, List, [], ◌∷◌, ◌++◌, length, map, slice_index, slice_index_or}
 use Rattle.abuf_frame.specs.declared.view.Walk.{Walk}
 use Rattle.abuf_frame.specs.Counting.{Every}
 use Rattle.abuf_frame.specs.Words.{Sized, head_word, payload_word, next_word}
@@ -19,8 +19,8 @@ list_at c p = slice_index_or c.lists p []
 -- The payloads of the nodes from the word `at` on, of at most so many nodes. No list has more nodes than its frame.
 abbrev pub payloads_from : List ℕ → ℕ → ℕ → ℕ → List ℕ
 payloads_from words pixels zero at = []
-payloads_from words pixels (suc most) at = cond (eqb at 0) []
-    (slice_index words (payload_word pixels (at - 1)) ∷ payloads_from words pixels most (slice_index words (next_word pixels (at - 1))))
+payloads_from words pixels (suc most) at = if at == 0 then []
+    else slice_index words (payload_word pixels (at - 1)) ∷ payloads_from words pixels most (slice_index words (next_word pixels (at - 1)))
 
 -- the lists of so many pixels from p on, each the walk from its head
 abbrev pub lists_from : List ℕ → ℕ → ℕ → ℕ → ℕ → List (List ℕ)

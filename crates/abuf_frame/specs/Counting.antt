@@ -1,5 +1,5 @@
 -- Sums and counts over lists.
-use Rattle.std.specs.Prelude.{ℕ, ◌+◌, cond, eqb, ltb, List, [], ◌∷◌}
+use Rattle.std.specs.Prelude.{ℕ, ◌+◌, if◌then◌else◌, ◌==◌, nat_lt, List, [], ◌∷◌}
 
 -- f of each element, added up
 abbrev pub total : {A : Type 0} → (A → ℕ) → List A → ℕ
@@ -9,11 +9,11 @@ total f (x ∷ xs) = f x + total f xs
 -- how often n stands in the list
 abbrev pub times : ℕ → List ℕ → ℕ
 times n [] = 0
-times n (x ∷ xs) = cond (eqb x n) 1 0 + times n xs
+times n (x ∷ xs) = (if x == n then 1 else 0) + times n xs
 
 -- 1 where n is below the count, and else 0: how often n stands in 0, 1, .. up to the count
 abbrev pub below : ℕ → ℕ → ℕ
-below n count = cond (ltb n count) 1 0
+below n count = if nat_lt n count then 1 else 0
 
 -- P holds of each element
 abbrev pub Every : {A : Type 0} → (A → Type 0) → List A → Type 0

@@ -1,5 +1,5 @@
 -- What drawing adds to a pass: for each item, which is a pixel and a payload, an entry that is Linked with it or Lost.
-use Rattle.std.specs.Prelude.{◌≡◌, ℕ, ◌+◌, ◌≤◌, eqb, List, [], ◌∷◌, length, map, filter, IsPermutation}
+use Rattle.std.specs.Prelude.{◌≡◌, ℕ, ◌+◌, ◌≤◌, ◌==◌, List, [], ◌∷◌, length, map, filter, IsPermutation}
 use Rattle.abuf_frame.specs.declared.view.Stage.{Stage}
 use Rattle.abuf_frame.specs.declared.view.Stage.TheVariants.{Linked, Lost}
 use Rattle.abuf_frame.specs.declared.view.Entry.{Entry}
@@ -19,7 +19,7 @@ pairs (e ∷ es) = with_pair e.stage (pairs es)
 
 -- the payloads of the pairs that have this pixel
 abbrev pub payloads_at : ℕ → List (ℕ × ℕ) → List ℕ
-payloads_at p items = map (λ x. x.1) (filter (λ x. eqb x.0 p) items)
+payloads_at p items = map (λ x. x.1) (filter (λ x. x.0 == p) items)
 
 -- There are as many entries as items, each Linked or Lost. Where none is Lost, their pairs are the items in some order.
 pub record Adds (items : List (ℕ × ℕ)) (es : List Entry) : Type 0 where

@@ -1,13 +1,13 @@
 -- One step of the walks along the lists of eight neighbouring pixels. Each walk has a lane: the word at which it stands, and the
 -- list of the payloads that it has passed.
-use Rattle.std.specs.Prelude.{◌≡◌, ℕ, ◌+◌, ◌-◌, ◌*◌, ◌<◌, ◌≤◌, cond, eqb, ltb, List, [], ◌++◌, length, slice_index, slice_index_or}
+use Rattle.std.specs.Prelude.{◌≡◌, ℕ, ◌+◌, ◌-◌, ◌*◌, ◌<◌, ◌≤◌, if◌then◌else◌, ◌==◌, nat_lt, List, [], ◌++◌, length, slice_index, slice_index_or}
 use Rattle.abuf_num.specs.declared.limits.TheConstants.{MAX_NODES}
 use Rattle.abuf_frame.specs.Closing.{payloads_from}
 use Rattle.abuf_frame.specs.Words.{head_word, next_word}
 
 -- the head of the pixel, and 0 past the last pixel
 abbrev pub head_or_end : List ℕ → ℕ → ℕ → ℕ
-head_or_end words pixels p = cond (ltb p pixels) (slice_index words (head_word p)) 0
+head_or_end words pixels p = if nat_lt p pixels then slice_index words (head_word p) else 0
 
 -- the word is 0, or refers to a node that the words have; no frame has more than MAX_NODES
 abbrev pub Refers : List ℕ → ℕ → ℕ → Type 0
@@ -15,7 +15,7 @@ Refers words pixels at = (at ≤ MAX_NODES) × (pixels + 2 * at < length words)
 
 -- the next of the node to which the word refers, and 0 at the end
 abbrev pub next_from : List ℕ → ℕ → ℕ → ℕ
-next_from words pixels at = cond (eqb at 0) 0 (slice_index words (next_word pixels (at - 1)))
+next_from words pixels at = if at == 0 then 0 else slice_index words (next_word pixels (at - 1))
 
 -- The walk stood at the word `at` with the payloads `old`. It has passed one more node, unless it was at the end, and stands
 -- at the word `next` with the payloads `new`.

@@ -1,7 +1,7 @@
 -- How far an entry has come. A claimed number is an entry of the pass that claimed it. Where it has a node it goes through
 -- four stages, each by one step: Claimed, Filled with its payload, Swapped into the head of its pixel's list, and Linked to
 -- the node that was the head before. Where it has none it is Lost.
-use Rattle.std.specs.Prelude.{◌≡◌, ℕ, ◌<◌, cond, eqb, Bool, true, false, Option, Some, None}
+use Rattle.std.specs.Prelude.{◌≡◌, ℕ, ◌<◌, if◌then◌else◌, ◌==◌, Bool, true, false, Option, Some, None}
 use Rattle.abuf_frame.specs.declared.view.Stage.{Stage}
 use Rattle.abuf_frame.specs.declared.view.Stage.TheVariants.{Claimed, Filled, Swapped, Linked, Lost}
 use Rattle.abuf_frame.specs.Words.{mark}
@@ -53,8 +53,8 @@ old_of _ = 0
 
 -- 1 where an entry of this stage stands in the list of the pixel, and else 0
 abbrev pub stands : ℕ → Stage → ℕ
-stands p (Swapped pixel payload old) = cond (eqb pixel p) 1 0
-stands p (Linked pixel payload old) = cond (eqb pixel p) 1 0
+stands p (Swapped pixel payload old) = if pixel == p then 1 else 0
+stands p (Linked pixel payload old) = if pixel == p then 1 else 0
 stands p _ = 0
 
 -- it stands in the list of the pixel, and its old head is the word h

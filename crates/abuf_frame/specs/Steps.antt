@@ -1,5 +1,5 @@
 -- What each step makes of the view of its pass.
-use Rattle.std.specs.Prelude.{ℕ, zero, suc, ◌+◌, ◌-◌, max, cond, eqb, ltb, List, [], ◌∷◌, ◌++◌, length}
+use Rattle.std.specs.Prelude.{ℕ, zero, suc, ◌+◌, ◌-◌, max, if◌then◌else◌, ◌==◌, nat_lt, List, [], ◌∷◌, ◌++◌, length}
 use Rattle.abuf_frame.specs.declared.view.Stage.{Stage}
 use Rattle.abuf_frame.specs.declared.view.Stage.TheVariants.{Claimed, Lost}
 use Rattle.abuf_frame.specs.declared.view.Entry.{Entry}
@@ -8,7 +8,7 @@ use Rattle.abuf_frame.specs.Views.{linked_of}
 
 -- the entry of a number that was just claimed: Lost where there is no node for it
 abbrev pub new_entry : ℕ → ℕ → Entry
-new_entry nodes n = record { number = n; stage = cond (ltb n nodes) Claimed Lost }
+new_entry nodes n = record { number = n; stage = if nat_lt n nodes then Claimed else Lost }
 
 -- the entries of so many numbers from `first` on
 abbrev pub new_entries : ℕ → ℕ → ℕ → List Entry
@@ -26,7 +26,7 @@ claimed nodes first count v = record { credit = v.credit - count; entries = v.en
 -- the entries with f of the stage of entry n
 abbrev pub restage : ℕ → (Stage → Stage) → List Entry → List Entry
 restage n f [] = []
-restage n f (e ∷ es) = record { number = e.number; stage = cond (eqb e.number n) (f e.stage) e.stage } ∷ restage n f es
+restage n f (e ∷ es) = record { number = e.number; stage = if e.number == n then f e.stage else e.stage } ∷ restage n f es
 
 -- after the entry n went on by f, and nothing else
 abbrev pub moved : ℕ → (Stage → Stage) → View → View

@@ -1,6 +1,6 @@
 -- What a pass knows: its credit, which is how many numbers it may still claim, its entries, the Linked entries of others that
 -- it was told of when it was split off, the greatest count that it has seen, and its walks.
-use Rattle.std.specs.Prelude.{◌≡◌, ℕ, ◌+◌, ◌^◌, ◌<◌, cond, eqb, List, [], ◌∷◌, ◌++◌, length, map, Option, Some, None}
+use Rattle.std.specs.Prelude.{◌≡◌, ℕ, ◌+◌, ◌^◌, ◌<◌, if◌then◌else◌, ◌==◌, List, [], ◌∷◌, ◌++◌, length, map, Option, Some, None}
 use Rattle.abuf_frame.specs.declared.view.Stage.{Stage}
 use Rattle.abuf_frame.specs.declared.view.Entry.{Entry}
 use Rattle.abuf_frame.specs.declared.view.View.{View}
@@ -17,7 +17,7 @@ IsWhole v = endowment v ≡ 2 ^ 60
 
 -- how many of the entries are neither Linked nor Lost
 abbrev pub loose : List Entry → ℕ
-loose es = total (λ e. cond (is_loose e.stage) 1 0) es
+loose es = total (λ e. if is_loose e.stage then 1 else 0) es
 
 -- each entry of the pass is Linked or Lost
 abbrev pub IsSettled : View → Type 0
@@ -25,7 +25,7 @@ IsSettled v = loose v.entries ≡ 0
 
 -- how many of the entries are Lost
 abbrev pub lost : List Entry → ℕ
-lost es = total (λ e. cond (is_lost e.stage) 1 0) es
+lost es = total (λ e. if is_lost e.stage then 1 else 0) es
 
 abbrev pub number_of : Entry → ℕ
 number_of e = e.number
@@ -41,17 +41,17 @@ Below count es = Every (λ e. e.number < count) es
 -- the stage of the entry n, if there is one
 abbrev pub stage_of : ℕ → List Entry → Option Stage
 stage_of n [] = None
-stage_of n (e ∷ es) = cond (eqb e.number n) (Some e.stage) (stage_of n es)
+stage_of n (e ∷ es) = if e.number == n then Some e.stage else stage_of n es
 
 -- the Linked ones of the entries
 abbrev pub linked_of : List Entry → List Entry
 linked_of [] = []
-linked_of (e ∷ es) = cond (is_linked e.stage) (e ∷ linked_of es) (linked_of es)
+linked_of (e ∷ es) = if is_linked e.stage then e ∷ linked_of es else linked_of es
 
 -- those that stand in the list of the pixel
 abbrev pub at_pixel : ℕ → List Entry → List Entry
 at_pixel p [] = []
-at_pixel p (e ∷ es) = cond (eqb (stands p e.stage) 1) (e ∷ at_pixel p es) (at_pixel p es)
+at_pixel p (e ∷ es) = if stands p e.stage == 1 then e ∷ at_pixel p es else at_pixel p es
 
 -- the entries that the pass knows to stand in the list of the pixel: its own Linked ones there, and those that it was told of
 abbrev pub due_of : ℕ → View → List Entry

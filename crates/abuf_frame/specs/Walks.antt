@@ -1,7 +1,7 @@
 -- Walks along a pixel's list while others draw. A walk has its pixel, the entries that were due in the list when it began,
 -- the nodes passed with their payloads, the cursor, which is the word at which it stands, the payload noted there, and
 -- whether its last load found the mark.
-use Rattle.std.specs.Prelude.{◌≡◌, ℕ, ◌+◌, ◌-◌, ◌<◌, cond, eqb, true, false, List, [], ◌∷◌, ◌++◌, map, Option, Some, None}
+use Rattle.std.specs.Prelude.{◌≡◌, ℕ, ◌+◌, ◌-◌, ◌<◌, if◌then◌else◌, ◌==◌, true, false, List, [], ◌∷◌, ◌++◌, map, Option, Some, None}
 use Rattle.std.specs.List.{Contains}
 use Rattle.abuf_frame.specs.declared.view.Stage.{Stage}
 use Rattle.abuf_frame.specs.declared.view.Entry.{Entry}
@@ -34,9 +34,9 @@ noting payload w = record { pixel = w.pixel; due = w.due; passed = w.passed; cur
 
 -- after a load of the next at the cursor, whose payload is noted: at the mark the walk stays, and else it passes the node
 abbrev pub passing : ℕ → ℕ → Walk → Walk
-passing found payload w = let here : Passed = record { node = w.cursor - 1; payload = payload } in cond (eqb found mark)
-    (record { pixel = w.pixel; due = w.due; passed = w.passed; cursor = w.cursor; noted = Some payload; unlinked = true })
-    (record { pixel = w.pixel; due = w.due; passed = w.passed ++ here ∷ []; cursor = found; noted = None; unlinked = false })
+passing found payload w = let here : Passed = record { node = w.cursor - 1; payload = payload } in if found == mark
+    then record { pixel = w.pixel; due = w.due; passed = w.passed; cursor = w.cursor; noted = Some payload; unlinked = true }
+    else record { pixel = w.pixel; due = w.due; passed = w.passed ++ here ∷ []; cursor = found; noted = None; unlinked = false }
 
 -- the same, which is no step of a walk that has no payload noted
 abbrev pub going : ℕ → Walk → Walk
