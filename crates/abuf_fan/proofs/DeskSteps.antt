@@ -5,11 +5,11 @@ use lib.ListN.{get_elem?}
 use lib.Seq.{set-get_or}
 use Rattle.std.proofs.lemmas.Bool.{cases_eq}
 use Rattle.std.proofs.lemmas.List.Elements.{All-nil, All-cons}
+use Rattle.std.proofs.lemmas.List.Sums.{sum_by-append}
 use Rattle.atomic_table.specs.Table.{State, Me, keeps, stepped, Allows, Splits, Joins, opening}
 use Rattle.atomic_table.proofs.Lists.{set_again}
 use Rattle.abuf_frame.specs.Counting.{below, times}
-use Rattle.abuf_frame.proofs.Counting.{total_set, total_le, total_both, total-append, times-append, below_more, below_from}
-use Rattle.abuf_frame.proofs.Counting.{total_only}
+use Rattle.abuf_frame.proofs.Counting.{sum_set, sum_le, sum_both, sum_only, times-append, below_more, below_from}
 use Rattle.abuf_fan.specs.declared.rule.Hand.{Hand}
 use Rattle.abuf_fan.specs.Desk.{Lawful, EachOnceIfWhole, Shown, whole_hand, drawing, endowment, holding}
 
@@ -37,24 +37,24 @@ under_from c (n ∷ ns) h = All-cons (λ n. n < c) n ns (h n (let t = ap (λ (b 
 module _ (s : St) (r : Lawful s) (id : ℕ) (v : Hand) (at : get_elem? s.views id ≡ some v) where
   -- The turn that has the whole endowment has each number below the count once.
   whole : EachOnceIfWhole v
-  whole e n = let a = total_only (λ (u : Hand). times n u.drawn) endowment (λ u z. times_le n u.drawn (omega arith)) s.views id v at (r.endowed ∙ sym e) in
-      let b = total_only (λ (u : Hand). length u.drawn) endowment (λ u z. omega arith) s.views id v at (r.endowed ∙ sym e) in sym a ∙ (r.once n ∙ ap (below n) (sym (r.counted) ∙ b))
+  whole e n = let a = sum_only (λ (u : Hand). times n u.drawn) endowment (λ u z. times_le n u.drawn (omega arith)) s.views id v at (r.endowed ∙ sym e) in
+      let b = sum_only (λ (u : Hand). length u.drawn) endowment (λ u z. omega arith) s.views id v at (r.endowed ∙ sym e) in sym a ∙ (r.once n ∙ ap (below n) (sym (r.counted) ∙ b))
 
   -- The numbers of a turn are below the word.
   under : All (λ n. n < slice_index s.words 0) v.drawn
-  under = under_from (slice_index s.words 0) v.drawn (λ n l. let t = total_le (λ (u : Hand). times n u.drawn) s.views id v at in let o = r.once n in below_from n (slice_index s.words 0) (omega arith))
+  under = under_from (slice_index s.words 0) v.drawn (λ n l. let t = sum_le (λ (u : Hand). times n u.drawn) s.views id v at in let o = r.once n in below_from n (slice_index s.words 0) (omega arith))
 
   -- What a turn may still draw doesn't reach 2 ^ 60.
   room : v.credit + slice_index s.words 0 ≤ 2 ^ 60
-  room = let b = total_both (λ (u : Hand). u.credit) (λ (u : Hand). length u.drawn) s.views in let c = total_le (λ (u : Hand). u.credit) s.views id v at in let d = r.counted in let e = r.endowed in omega arith
+  room = let b = sum_both (λ (u : Hand). u.credit) (λ (u : Hand). length u.drawn) s.views in let c = sum_le (λ (u : Hand). u.credit) s.views id v at in let d = r.counted in let e = r.endowed in omega arith
 
   -- The state after a number was drawn is lawful.
   drawn_state : (c : ℕ) → slice_index s.words 0 ≡ c → 1 ≤ v.credit → Lawful record { words = set s.words 0 (c + 1); homes = s.homes; views = set s.views id (drawing c v) }
   drawn_state c is some_credit = let w : Hand = drawing c v in let wide = r.wide in let here : get_or (set s.words 0 (c + 1)) 0 0 ≡ c + 1 = get_or-set_same s.words 0 (c + 1) 0 (omega arith) in let len = length-append v.drawn (c ∷ []) in record {
     wide = length-set s.words 0 (c + 1) ∙ r.wide;
-    once = λ n. let t = total_set (λ (u : Hand). times n u.drawn) s.views id v w at in let a = times-append n v.drawn (c ∷ []) in let m = below_more n c in let o = r.once n in let z = ap (below n) here in let y = ap (below n) is in omega arith;
-    counted = let t = total_set (λ (u : Hand). length u.drawn) s.views id v w at in let o = r.counted in omega arith;
-    endowed = let t = total_set endowment s.views id v w at in let o = r.endowed in omega arith;
+    once = λ n. let t = sum_set (λ (u : Hand). times n u.drawn) s.views id v w at in let a = times-append n v.drawn (c ∷ []) in let m = below_more n c in let o = r.once n in let z = ap (below n) here in let y = ap (below n) is in omega arith;
+    counted = let t = sum_set (λ (u : Hand). length u.drawn) s.views id v w at in let o = r.counted in omega arith;
+    endowed = let t = sum_set endowment s.views id v w at in let o = r.endowed in omega arith;
   }
 
 -- A turn with credit may draw a number: the addition doesn't wrap, and shows what a turn learns by it.
@@ -87,16 +87,16 @@ tells slots id me s r deep at small = (
 pub splits : (id credit : ℕ) (v : Hand) → credit ≤ v.credit → Splits Lawful id v (holding (v.credit - credit) v.drawn) (holding credit [])
 splits id credit v enough s r at = let l : Hand = holding (v.credit - credit) v.drawn in let w : Hand = holding credit [] in let vs : List Hand = set s.views id l in record {
   wide = r.wide;
-  once = λ n. let a = total-append (λ (u : Hand). times n u.drawn) vs (w ∷ []) in let b = total_set (λ (u : Hand). times n u.drawn) s.views id v l at in let o = r.once n in omega arith;
-  counted = let a = total-append (λ (u : Hand). length u.drawn) vs (w ∷ []) in let b = total_set (λ (u : Hand). length u.drawn) s.views id v l at in let o = r.counted in omega arith;
-  endowed = let a = total-append endowment vs (w ∷ []) in let b = total_set endowment s.views id v l at in let o = r.endowed in omega arith;
+  once = λ n. let a = sum_by-append (λ (u : Hand). times n u.drawn) vs (w ∷ []) in let b = sum_set (λ (u : Hand). times n u.drawn) s.views id v l at in let o = r.once n in omega arith;
+  counted = let a = sum_by-append (λ (u : Hand). length u.drawn) vs (w ∷ []) in let b = sum_set (λ (u : Hand). length u.drawn) s.views id v l at in let o = r.counted in omega arith;
+  endowed = let a = sum_by-append endowment vs (w ∷ []) in let b = sum_set endowment s.views id v l at in let o = r.endowed in omega arith;
 }
 
 -- Two turns may be joined.
 pub joins : (id other : ℕ) (v w : Hand) → Joins Lawful id v other w (holding (v.credit + w.credit) (v.drawn ++ w.drawn)) (holding 0 [])
 joins id other v w s r at apart at' = let b : Hand = holding (v.credit + w.credit) (v.drawn ++ w.drawn) in let vs : List Hand = set s.views id b in let len = length-append v.drawn w.drawn in record {
   wide = r.wide;
-  once = λ n. let p = total_set (λ (u : Hand). times n u.drawn) s.views id v b at in let q = total_set (λ (u : Hand). times n u.drawn) vs other w (holding 0 []) at' in let t = times-append n v.drawn w.drawn in let o = r.once n in omega arith;
-  counted = let p = total_set (λ (u : Hand). length u.drawn) s.views id v b at in let q = total_set (λ (u : Hand). length u.drawn) vs other w (holding 0 []) at' in let o = r.counted in omega arith;
-  endowed = let p = total_set endowment s.views id v b at in let q = total_set endowment vs other w (holding 0 []) at' in let o = r.endowed in omega arith;
+  once = λ n. let p = sum_set (λ (u : Hand). times n u.drawn) s.views id v b at in let q = sum_set (λ (u : Hand). times n u.drawn) vs other w (holding 0 []) at' in let t = times-append n v.drawn w.drawn in let o = r.once n in omega arith;
+  counted = let p = sum_set (λ (u : Hand). length u.drawn) s.views id v b at in let q = sum_set (λ (u : Hand). length u.drawn) vs other w (holding 0 []) at' in let o = r.counted in omega arith;
+  endowed = let p = sum_set endowment s.views id v b at in let q = sum_set endowment vs other w (holding 0 []) at' in let o = r.endowed in omega arith;
 }

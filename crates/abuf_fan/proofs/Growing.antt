@@ -2,6 +2,7 @@
 use Rattle.std.proofs.Common.{◌≡◌, ℕ, Bool, true, false, List, [], ◌∷◌, ◌++◌, length, sym, refl, ap, ◌∙◌, subst, arith, ⊎_elim, inl, inr, All, length-append, append_assoc, append-nil, if◌then◌else◌}
 use Rattle.std.specs.List.{Contains}
 use Rattle.std.proofs.lemmas.List.Elements.{All-nil, All-cons, All-head, All-tail, All-append, All-contains, All-contains_itself, Contains-append_left, Contains-append_right}
+use Rattle.std.proofs.lemmas.List.Sums.{sum_by-append}
 use Rattle.abuf_frame.specs.declared.view.Entry.{Entry}
 use Rattle.abuf_frame.specs.declared.view.View.{View}
 use Rattle.abuf_frame.specs.Stages.{is_linked, is_loose}
@@ -9,7 +10,6 @@ use Rattle.abuf_frame.specs.Views.{endowment, linked_of, loose}
 use Rattle.abuf_frame.specs.Steps.{split_left, split_right, united}
 use Rattle.abuf_frame.specs.Draws.{Adds, Draws}
 use Rattle.abuf_frame.proofs.Draws.{adds-append, draws_credit}
-use Rattle.abuf_frame.proofs.Counting.{total-append}
 use Rattle.abuf_fan.specs.Grows.{Grows, IsKnown, IsOwn}
 use Rattle.abuf_fan.specs.Workers.{Parted}
 
@@ -110,4 +110,4 @@ module _ (items : List (ℕ × ℕ)) (v w : View) (g : Grows items v w) where
 
   -- It adds no loose entries.
   pub grows_loose : loose w.entries ≡ loose v.entries
-  grows_loose = let e = ap loose g.entries_are in let l = total-append (λ (x : Entry). if is_loose x.stage then 1 else 0) v.entries g.added in let n = g.adds.settled in omega arith
+  grows_loose = let e = ap loose g.entries_are in let l = sum_by-append (λ (x : Entry). if is_loose x.stage then 1 else 0) v.entries g.added in let n = g.adds.settled in omega arith

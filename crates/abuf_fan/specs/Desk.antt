@@ -1,10 +1,10 @@
 -- When the state of a desk is lawful, and what its calls tell. A state has the desk's one word, which is the count of the
 -- numbers drawn, and the views of all turns that were ever made.
-use Rattle.std.specs.Prelude.{◌≡◌, ℕ, ◌+◌, ◌-◌, ◌^◌, ◌<◌, ◌≤◌, List, [], ◌∷◌, ◌++◌, length, slice_index, All, Option, MatchOption}
+use Rattle.std.specs.Prelude.{◌≡◌, ℕ, ◌+◌, ◌-◌, ◌^◌, ◌<◌, ◌≤◌, List, [], ◌∷◌, ◌++◌, length, sum_by, slice_index, All, Option, MatchOption}
 use Rattle.atomic_table.specs.Table.{Splits, State}
 use Rattle.atomic_table.specs.Seated.{TableId}
 use Rattle.atomic_table.specs.declared.shared.Seat.{Seat}
-use Rattle.abuf_frame.specs.Counting.{total, times, below}
+use Rattle.abuf_frame.specs.Counting.{times, below}
 use Rattle.abuf_fan.specs.declared.rule.Hand.{Hand}
 
 -- what contracts see of a desk: its table, by which desks are told apart, and the number of parts
@@ -45,9 +45,9 @@ united v w = holding (v.credit + w.credit) (v.drawn ++ w.drawn)
 -- endowments of all turns add up to 2 ^ 60.
 pub record Lawful (s : State (Unit {0}) Hand) : Type 0 where
   pub wide : length s.words ≡ 1
-  pub once : (n : ℕ) → total (λ v. times n v.drawn) s.views ≡ below n (slice_index s.words 0)
-  pub counted : total (λ v. length v.drawn) s.views ≡ slice_index s.words 0
-  pub endowed : total endowment s.views ≡ 2 ^ 60
+  pub once : (n : ℕ) → sum_by (λ v. times n v.drawn) s.views ≡ below n (slice_index s.words 0)
+  pub counted : sum_by (λ v. length v.drawn) s.views ≡ slice_index s.words 0
+  pub endowed : sum_by endowment s.views ≡ 2 ^ 60
 
 -- a turn with the whole endowment has the numbers from 0 to one below their count, each once
 abbrev pub EachOnceIfWhole : Hand → Type 0

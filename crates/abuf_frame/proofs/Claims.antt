@@ -3,6 +3,7 @@ use Rattle.std.proofs.Common.{◌≡◌, ◌≢◌, ℕ, zero, suc, ◌+◌, ◌
 use mathlib.Core.Option.{some, some-injective, some-ne-none}
 use mathlib.Core.List.{map-append}
 use lib.ListN.{get_elem?}
+use Rattle.std.proofs.lemmas.List.Sums.{sum_by-append, count_by-le-length}
 use Rattle.std.proofs.lemmas.Bool.Decides.{nat_tests}
 use Rattle.std.proofs.lemmas.Bool.{cases_lt}
 use Rattle.atomic_table.specs.Table.{State, Me, keeps, stepped, Allows, opening}
@@ -15,11 +16,11 @@ use Rattle.abuf_frame.specs.declared.view.Size.{Size}
 use Rattle.abuf_frame.specs.Counting.{below, times}
 use Rattle.abuf_frame.specs.Views.{Below, endowment, loose, number_of, numbers, whole_view}
 use Rattle.abuf_frame.specs.Lawful.{Agree, AreWalks, Lawful, Told}
-use Rattle.abuf_frame.specs.Steps.{claimed, new_entries}
+use Rattle.abuf_frame.specs.Steps.{claimed, new_entry, new_entries}
 use Rattle.abuf_frame.specs.Words.{head_word, mark, next_word, payload_word}
 use Rattle.abuf_frame.specs.Stages.{Stores, is_loose, is_lost, next_of, stands}
 use Rattle.abuf_frame.specs.Pass.{AllInRange, InRange, Ties}
-use Rattle.abuf_frame.proofs.Counting.{total-append, total_set, total_le, total_both, times-append, below_more, below_no, below_from}
+use Rattle.abuf_frame.proofs.Counting.{count_by-cons, sum_set, sum_le, sum_both, times-append, below_more, below_no, below_from}
 
 -- The states of a frame's table.
 abbrev St : Type 0
@@ -99,7 +100,7 @@ times_new nodes n first (suc count) = let r = times_new nodes n (first + 1) coun
 
 -- what the counter leaves
 pub room : (k : Size) (s : St) → Lawful k s → (id : ℕ) (v : View) → get_elem? s.views id ≡ some v → v.credit + slice_index s.words 0 ≤ 2 ^ 60
-room k s r id v at = let b = total_both (λ (u : View). u.credit) (λ (u : View). length u.entries) s.views in let c = total_le (λ (u : View). u.credit) s.views id v at in let d = r.counted in let e = r.endowed in omega arith
+room k s r id v at = let b = sum_both (λ (u : View). u.credit) (λ (u : View). length u.entries) s.views in let c = sum_le (λ (u : View). u.credit) s.views id v at in let d = r.counted in let e = r.endowed in omega arith
 
 -- What holds of all views and of a new one holds after one was replaced by it.
 pub all_views : (P : View → Type 0) (vs : List View) (id : ℕ) (w : View) → P w → ((j : ℕ) (u : View) → get_elem? vs j ≡ some u → P u) → (j : ℕ) (u : View) → get_elem? (set vs id w) j ≡ some u → P u
@@ -120,10 +121,10 @@ claim_state k s r id count c v at fits is = let w : View = claimed k.nodes c cou
       stage = r.stage;
       chain = r.chain;
       wide = length-set s.words 0 (c + count) ∙ r.wide;
-      once = λ n. let t = total_set (λ (u : View). times n (numbers u)) s.views id v w at in let m = numbers_claimed k.nodes c count n v in let o = r.once n in
+      once = λ n. let t = sum_set (λ (u : View). times n (numbers u)) s.views id v w at in let m = numbers_claimed k.nodes c count n v in let o = r.once n in
           let z = ap (below n) here in let y = ap (below n) is in omega arith;
-      counted = let t = total_set (λ (u : View). length u.entries) s.views id v w at in let o = r.counted in omega arith;
-      endowed = let t = total_set endowment s.views id v w at in let o = r.endowed in omega arith;
+      counted = let t = sum_set (λ (u : View). length u.entries) s.views id v w at in let o = r.counted in omega arith;
+      endowed = let t = sum_set endowment s.views id v w at in let o = r.endowed in omega arith;
       agree = all_views (λ u. Agree r.stage u.entries) s.views id w (agree-append r.stage v.entries (new_entries k.nodes c count) (r.agree id v at)
           (agree_new r.stage k.nodes c count (λ n l. ⊎_elim (λ (h : n < k.nodes). r.fresh n (omega arith) h ∙ sym (first_claimed k.nodes n h)) (λ (h : k.nodes ≤ n). r.lost n h ∙ sym (first_lost k.nodes n h)) (cases_lt n k.nodes)))) r.agree;
       told = all_views (λ u. Told r.stage u.told) s.views id w (r.told id v at) r.told;
@@ -146,7 +147,7 @@ below_entries c (e ∷ es) h = (h e.number (let t = ap (λ (b : Bool). cond {A =
 
 -- The entries of each view are below the counter.
 pub all_below : (k : Size) (s : St) → Lawful k s → (id : ℕ) (v : View) → get_elem? s.views id ≡ some v → Below (slice_index s.words 0) v.entries
-all_below k s r id v at = below_entries (slice_index s.words 0) v.entries (λ n l. let t = total_le (λ (u : View). times n (numbers u)) s.views id v at in let o = r.once n in below_from n (slice_index s.words 0) (omega arith))
+all_below k s r id v at = below_entries (slice_index s.words 0) v.entries (λ n l. let t = sum_le (λ (u : View). times n (numbers u)) s.views id v at in let o = r.once n in below_from n (slice_index s.words 0) (omega arith))
 
 -- A pass with enough credit may claim.
 pub claims : (k : Size) (slots id count : ℕ) (me : Me (Unit {0}) View) → me.1 ≡ [] → count ≤ me.0.credit
@@ -160,20 +161,14 @@ claims k slots id count me bare fits s r deep at small = let c : ℕ = slice_ind
       ((λ i. (claimed k.nodes c count me.0, bare i)), (omega arith, all_below k s r id me.0 at)),
     )
 
--- A condition counts for at most one.
-cond_le : (b : _) → cond b 1 0 ≤ 1
-cond_le true = omega arith
-cond_le false = omega arith
-
 -- At most all entries are loose.
 pub loose_le : (es : List Entry) → loose es ≤ length es
-loose_le [] = omega arith
-loose_le (e ∷ es) = let r = loose_le es in let b : cond (is_loose e.stage) 1 0 ≤ 1 = cond_le (is_loose e.stage) in omega arith
+loose_le es = count_by-le-length (λ (e : Entry). is_loose e.stage) es
 
 -- As many new entries are loose as have nodes.
 loose_new : (nodes first count : ℕ) → loose (new_entries nodes first count) ≡ min count (nodes - first)
 loose_new nodes first zero = omega arith
-loose_new nodes first (suc count) = let r = loose_new nodes (first + 1) count in ⊎_elim
+loose_new nodes first (suc count) = let r = loose_new nodes (first + 1) count in let c = count_by-cons (λ (e : Entry). is_loose e.stage) (new_entry nodes first) (new_entries nodes (first + 1) count) in ⊎_elim
     (λ (h : first < nodes). let e : is_loose (first_stage nodes first) ≡ true = ap is_loose (first_claimed nodes first h) in let z = ap (λ (b : Bool). cond {A = ℕ} b 1 0) e in omega arith)
     (λ (h : nodes ≤ first). let e : is_loose (first_stage nodes first) ≡ false = ap is_loose (first_lost nodes first h) in let z = ap (λ (b : Bool). cond {A = ℕ} b 1 0) e in omega arith) (cases_lt first nodes)
 
@@ -192,7 +187,7 @@ pub ties_claimed : (pixels nodes : ℕ) (me now : Me (Unit {0}) View) (credit ow
     → Ties pixels nodes now (credit - count) (own + count) (ones + min count (nodes - first))
 ties_claimed pixels nodes me now credit own ones first count t fits is = subst (λ (m : Me (Unit {0}) View). Ties pixels nodes m (credit - count) (own + count) (ones + min count (nodes - first))) (sym is)
     (let len = length-append me.0.entries (new_entries nodes first count) in let len_new = length_new nodes first count in let c = t.credit_is in let o = t.own_is in let l = t.loose_is in let sm = t.small in
-    let a = total-append (λ (e : Entry). cond (is_loose e.stage) 1 0) me.0.entries (new_entries nodes first count) in let b = loose_new nodes first count in record {
+    let a = sum_by-append (λ (e : Entry). cond (is_loose e.stage) 1 0) me.0.entries (new_entries nodes first count) in let b = loose_new nodes first count in record {
       bare = refl;
       credit_is = omega arith;
       own_is = omega arith;

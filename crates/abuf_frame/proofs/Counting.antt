@@ -1,42 +1,42 @@
 -- Sums and counts over lists.
-use Rattle.std.proofs.Common.{◌≡◌, ◌≢◌, ℕ, zero, suc, ◌+◌, ◌<◌, ◌≤◌, Bool, cond, eqb, List, [], ◌∷◌, ◌++◌, length, set, sym, refl, ap, subst, arith, ⊎_elim, eq-eqb, ne_eqb, IsPermutation}
+use Rattle.std.proofs.Common.{◌≡◌, ◌≢◌, ℕ, zero, suc, ◌+◌, ◌<◌, ◌≤◌, Bool, cond, eqb, List, [], ◌∷◌, ◌++◌, length, set, sym, refl, ap, subst, arith, ⊎_elim, eq-eqb, ne_eqb, sum_by, count_by, IsPermutation}
 use mathlib.Core.Option.{some, some-injective, some-ne-none}
 use lib.ListN.{get_elem?}
 use Rattle.std.proofs.lemmas.Bool.Decides.{nat_tests}
 use Rattle.std.proofs.lemmas.Bool.{cases_eq}
+use Rattle.std.proofs.lemmas.List.Sums.{sum_by-cons}
 use Rattle.std.proofs.lemmas.List.Sorted.{IsPermutation-refl, IsPermutation-sym, IsPermutation-cons, IsPermutation-trans, IsPermutation-middle}
-use Rattle.abuf_frame.specs.Counting.{below, times, total}
+use Rattle.abuf_frame.specs.Counting.{below, times}
 
 module _ {A : Type 0} where
-  -- With one element replaced the total differs by that element.
-  pub total_set : (f : A → ℕ) (l : List A) (i : ℕ) (v w : A) → get_elem? l i ≡ some v → total f (set l i w) + f v ≡ total f l + f w
-  total_set f [] i v w e = absurd (some-ne-none v (sym e))
-  total_set f (x ∷ xs) zero v w e = let is : f x ≡ f v = ap f (some-injective x v e) in omega arith
-  total_set f (x ∷ xs) (suc i) v w e = let r = total_set f xs i v w e in omega arith
+  -- With one element replaced the sum differs by what f is of that element.
+  pub sum_set : (f : A → ℕ) (l : List A) (i : ℕ) (v w : A) → get_elem? l i ≡ some v → sum_by f (set l i w) + f v ≡ sum_by f l + f w
+  sum_set f [] i v w e = absurd (some-ne-none v (sym e))
+  sum_set f (x ∷ xs) zero v w e = let is : f x ≡ f v = ap f (some-injective x v e) in omega (arith, sum_by-cons f x xs, sum_by-cons f w xs)
+  sum_set f (x ∷ xs) (suc i) v w e = omega (arith, sum_set f xs i v w e, sum_by-cons f x xs, sum_by-cons f x (set xs i w))
 
-  -- The value of an element is at most the total.
-  pub total_le : (f : A → ℕ) (l : List A) (i : ℕ) (v : A) → get_elem? l i ≡ some v → f v ≤ total f l
-  total_le f [] i v e = absurd (some-ne-none v (sym e))
-  total_le f (x ∷ xs) zero v e = let is : f x ≡ f v = ap f (some-injective x v e) in omega arith
-  total_le f (x ∷ xs) (suc i) v e = let r = total_le f xs i v e in omega arith
+  -- What f is of an element is at most the sum.
+  pub sum_le : (f : A → ℕ) (l : List A) (i : ℕ) (v : A) → get_elem? l i ≡ some v → f v ≤ sum_by f l
+  sum_le f [] i v e = absurd (some-ne-none v (sym e))
+  sum_le f (x ∷ xs) zero v e = let is : f x ≡ f v = ap f (some-injective x v e) in omega (arith, sum_by-cons f x xs)
+  sum_le f (x ∷ xs) (suc i) v e = omega (arith, sum_le f xs i v e, sum_by-cons f x xs)
 
   -- two of them
-  pub total_two : (f : A → ℕ) (l : List A) (i j : ℕ) (v w : A) → i ≢ j → get_elem? l i ≡ some v → get_elem? l j ≡ some w → f v + f w ≤ total f l
-  total_two f [] i j v w n e d = absurd (some-ne-none v (sym e))
-  total_two f (x ∷ xs) zero zero v w n e d = absurd (n refl)
-  total_two f (x ∷ xs) zero (suc j) v w n e d = let is : f x ≡ f v = ap f (some-injective x v e) in let r = total_le f xs j w d in omega arith
-  total_two f (x ∷ xs) (suc i) zero v w n e d = let is : f x ≡ f w = ap f (some-injective x w d) in let r = total_le f xs i v e in omega arith
-  total_two f (x ∷ xs) (suc i) (suc j) v w n e d = let r = total_two f xs i j v w (λ h. n (ap suc h)) e d in omega arith
+  pub sum_two : (f : A → ℕ) (l : List A) (i j : ℕ) (v w : A) → i ≢ j → get_elem? l i ≡ some v → get_elem? l j ≡ some w → f v + f w ≤ sum_by f l
+  sum_two f [] i j v w n e d = absurd (some-ne-none v (sym e))
+  sum_two f (x ∷ xs) zero zero v w n e d = absurd (n refl)
+  sum_two f (x ∷ xs) zero (suc j) v w n e d = let is : f x ≡ f v = ap f (some-injective x v e) in omega (arith, sum_le f xs j w d, sum_by-cons f x xs)
+  sum_two f (x ∷ xs) (suc i) zero v w n e d = let is : f x ≡ f w = ap f (some-injective x w d) in omega (arith, sum_le f xs i v e, sum_by-cons f x xs)
+  sum_two f (x ∷ xs) (suc i) (suc j) v w n e d = omega (arith, sum_two f xs i j v w (λ h. n (ap suc h)) e d, sum_by-cons f x xs)
 
-  -- The total of sums is the sum of the totals.
-  pub total_both : (f g : A → ℕ) (l : List A) → total (λ x. f x + g x) l ≡ total f l + total g l
-  total_both f g [] = refl
-  total_both f g (x ∷ xs) = let r = total_both f g xs in omega arith
+  -- A count of an element and more, by the first.
+  pub count_by-cons : (p : A → Bool) (x : A) (xs : List A) → count_by p (x ∷ xs) ≡ cond (p x) 1 0 + count_by p xs
+  count_by-cons p x xs = sum_by-cons (λ y. cond (p y) 1 0) x xs
 
-  -- The total of two lists is the sum of theirs.
-  pub total-append : (f : A → ℕ) (l m : List A) → total f (l ++ m) ≡ total f l + total f m
-  total-append f [] m = omega arith
-  total-append f (x ∷ xs) m = let r = total-append f xs m in omega arith
+  -- The sum of sums is the sum of both.
+  pub sum_both : (f g : A → ℕ) (l : List A) → sum_by (λ x. f x + g x) l ≡ sum_by f l + sum_by g l
+  sum_both f g [] = refl
+  sum_both f g (x ∷ xs) = omega (arith, sum_both f g xs, sum_by-cons (λ y. f y + g y) x xs, sum_by-cons f x xs, sum_by-cons g x xs)
 
 -- A number stands in two lists as often as in both together.
 pub times-append : (n : ℕ) (l m : List ℕ) → times n (l ++ m) ≡ times n l + times n m
@@ -64,21 +64,18 @@ pub below_from : (n c : ℕ) → 0 < below n c → n < c
 below_from n c h = grind (arith, nat_tests)
 
 module _ {A : Type 0} where
-  -- Where a total is 0, so is the total of what is 0 with its values.
-  total_none : (f g : A → ℕ) → ((u : A) → g u ≡ 0 → f u ≡ 0) → (l : List A) → total g l ≡ 0 → total f l ≡ 0
-  total_none f g h [] e = refl
-  total_none f g h (x ∷ xs) e = let a = h x (omega arith) in let b = total_none f g h xs (omega arith) in omega arith
+  -- Where a sum is 0, so is the sum of what is 0 with its values.
+  sum_none : (f g : A → ℕ) → ((u : A) → g u ≡ 0 → f u ≡ 0) → (l : List A) → sum_by g l ≡ 0 → sum_by f l ≡ 0
+  sum_none f g h [] e = refl
+  sum_none f g h (x ∷ xs) e = let c = sum_by-cons g x xs in omega (arith, h x (omega arith), sum_none f g h xs (omega arith), sum_by-cons f x xs)
 
   -- one has all of g, and who has nothing of g has nothing of f
-  pub total_only : (f g : A → ℕ) → ((u : A) → g u ≡ 0 → f u ≡ 0) → (l : List A) (i : ℕ) (v : A) → get_elem? l i ≡ some v → total g l ≡ g v → total f l ≡ f v
-  total_only f g h [] i v e d = absurd (some-ne-none v (sym e))
-  total_only f g h (x ∷ xs) zero v e d = let is = some-injective x v e in let a = ap f is in let b = ap g is in let c = total_none f g h xs (omega arith) in omega arith
-  total_only f g h (x ∷ xs) (suc i) v e d = let m = total_le' g xs i v e in let a = h x (omega arith) in let c = total_only f g h xs i v e (omega arith) in omega arith
-    where
-      total_le' : (g : A → ℕ) (l : List A) (i : ℕ) (v : A) → get_elem? l i ≡ some v → g v ≤ total g l
-      total_le' g [] i v e = absurd (some-ne-none v (sym e))
-      total_le' g (x ∷ xs) zero v e = let is = ap g (some-injective x v e) in omega arith
-      total_le' g (x ∷ xs) (suc i) v e = let r = total_le' g xs i v e in omega arith
+  pub sum_only : (f g : A → ℕ) → ((u : A) → g u ≡ 0 → f u ≡ 0) → (l : List A) (i : ℕ) (v : A) → get_elem? l i ≡ some v → sum_by g l ≡ g v → sum_by f l ≡ f v
+  sum_only f g h [] i v e d = absurd (some-ne-none v (sym e))
+  sum_only f g h (x ∷ xs) zero v e d = let is = some-injective x v e in let a = ap f is in let b = ap g is in let k = sum_by-cons g x xs in
+      omega (arith, sum_none f g h xs (omega arith), sum_by-cons f x xs)
+  sum_only f g h (x ∷ xs) (suc i) v e d = let m = sum_le g xs i v e in let k = sum_by-cons g x xs in
+      omega (arith, h x (omega arith), sum_only f g h xs i v e (omega arith), sum_by-cons f x xs)
 
 -- it stands somewhere
 pub split_at : (n : ℕ) (ys : List ℕ) → 0 < times n ys → (front : List ℕ) × (back : List ℕ) × (ys ≡ front ++ n ∷ back)

@@ -1,5 +1,6 @@
 -- What drawing adds, in one call and in several.
 use Rattle.std.proofs.Common.{◌≡◌, ℕ, ◌+◌, ◌-◌, ◌≤◌, cond, List, [], ◌∷◌, ◌++◌, length, sym, refl, ap, ◌∙◌, subst, arith, IsPermutation, length-append, append_assoc, append-nil}
+use Rattle.std.proofs.lemmas.List.Sums.{sum_by-append}
 use Rattle.std.proofs.lemmas.List.Sorted.{IsPermutation-append, IsPermutation-refl, IsPermutation-trans, length_permutation}
 use Rattle.abuf_frame.specs.declared.view.Stage.{Stage}
 use Rattle.abuf_frame.specs.declared.view.Stage.TheVariants.{Claimed, Filled, Swapped, Linked, Lost}
@@ -9,7 +10,7 @@ use Rattle.abuf_frame.specs.Stages.{is_loose, is_lost}
 use Rattle.abuf_frame.specs.Views.{endowment, loose, lost}
 use Rattle.abuf_frame.specs.Steps.{grown, united}
 use Rattle.abuf_frame.specs.Draws.{Adds, CarriesItem, CarryInOrder, Draws, pairs, with_pair}
-use Rattle.abuf_frame.proofs.Counting.{total-append}
+use Rattle.abuf_frame.proofs.Counting.{count_by-cons}
 use Rattle.abuf_frame.proofs.Runs.{carry_length}
 
 -- An entry that carries an item isn't loose.
@@ -25,7 +26,7 @@ carry_settled : (first : ℕ) (xs : List (ℕ × ℕ)) (es : List Entry) → Car
 carry_settled first [] [] c = refl
 carry_settled first [] (e ∷ es) c = absurd c
 carry_settled first (x ∷ xs) [] c = absurd c
-carry_settled first (x ∷ xs) (e ∷ es) c = let r = carry_settled (first + 1) xs es c.2 in let s = carried_settled x.0 x.1 e.stage c.1 in omega arith
+carry_settled first (x ∷ xs) (e ∷ es) c = let r = carry_settled (first + 1) xs es c.2 in let s = carried_settled x.0 x.1 e.stage c.1 in omega (arith, count_by-cons (λ (f : Entry). is_loose f.stage) e es)
 
 -- An entry that carries an item and isn't lost has the pair of it.
 carried_pair : (p y : ℕ) (x : Stage) (rest : List (ℕ × ℕ)) → CarriesItem p y x → cond {A = ℕ} (is_lost x) 1 0 ≡ 0 → with_pair x rest ≡ (p, y) ∷ rest
@@ -40,7 +41,7 @@ carry_pairs : (first : ℕ) (xs : List (ℕ × ℕ)) (es : List Entry) → Carry
 carry_pairs first [] [] c l = refl
 carry_pairs first [] (e ∷ es) c l = absurd c
 carry_pairs first (x ∷ xs) [] c l = absurd c
-carry_pairs first (x ∷ xs) (e ∷ es) c l = carried_pair x.0 x.1 e.stage (pairs es) c.1 (omega arith) ∙ ap (λ (ys : List (ℕ × ℕ)). x ∷ ys) (carry_pairs (first + 1) xs es c.2 (omega arith))
+carry_pairs first (x ∷ xs) (e ∷ es) c l = let m = count_by-cons (λ (f : Entry). is_lost f.stage) e es in carried_pair x.0 x.1 e.stage (pairs es) c.1 (omega arith) ∙ ap (λ (ys : List (ℕ × ℕ)). x ∷ ys) (carry_pairs (first + 1) xs es c.2 (omega arith))
 
 -- Entries that carry items in order add them.
 pub carry_adds : (first : ℕ) (xs : List (ℕ × ℕ)) (es : List Entry) → CarryInOrder first xs es → Adds xs es
@@ -60,11 +61,11 @@ draws_one p y v w enough r = draws_from ((p, y) ∷ []) v w enough (r.0.number, 
 
 -- As many of two lists are loose as in each together.
 loose-append : (es fs : List Entry) → loose (es ++ fs) ≡ loose es + loose fs
-loose-append es fs = total-append (λ (e : Entry). cond (is_loose e.stage) 1 0) es fs
+loose-append es fs = sum_by-append (λ (e : Entry). cond (is_loose e.stage) 1 0) es fs
 
 -- As many of two lists are lost as in each together.
 lost-append : (es fs : List Entry) → lost (es ++ fs) ≡ lost es + lost fs
-lost-append es fs = total-append (λ (e : Entry). cond (is_lost e.stage) 1 0) es fs
+lost-append es fs = sum_by-append (λ (e : Entry). cond (is_lost e.stage) 1 0) es fs
 
 -- The pair of a stage stands before any others.
 with_pair-append : (x : Stage) (ps qs : List (ℕ × ℕ)) → with_pair x (ps ++ qs) ≡ with_pair x ps ++ qs

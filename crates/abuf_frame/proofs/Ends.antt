@@ -1,5 +1,5 @@
 -- A whole, settled pass at the end.
-use Rattle.std.proofs.Common.{◌≡◌, ◌≢◌, ℕ, zero, suc, ◌+◌, ◌-◌, ◌^◌, ◌<◌, ◌≤◌, Bool, cond, eqb, true, false, true≢false, List, [], ◌∷◌, map, length, sym, refl, ap, ◌∙◌, subst, arith, ⊎_elim, slice_index, eq-eqb, ne_eqb, IsPermutation, filter}
+use Rattle.std.proofs.Common.{◌≡◌, ◌≢◌, ℕ, zero, suc, ◌+◌, ◌-◌, ◌^◌, ◌<◌, ◌≤◌, Bool, cond, eqb, true, false, true≢false, List, [], ◌∷◌, map, length, sym, refl, ap, ◌∙◌, subst, arith, ⊎_elim, slice_index, eq-eqb, ne_eqb, IsPermutation, filter, sum_by}
 use mathlib.Core.Option.{some}
 use lib.ListN.{get_elem?}
 use Rattle.std.proofs.lemmas.Bool.Decides.{nat_tests}
@@ -11,7 +11,7 @@ use Rattle.abuf_frame.specs.declared.view.Stage.TheVariants.{Claimed, Filled, Sw
 use Rattle.abuf_frame.specs.declared.view.Entry.{Entry}
 use Rattle.abuf_frame.specs.declared.view.View.{View}
 use Rattle.abuf_frame.specs.declared.view.Size.{Size}
-use Rattle.abuf_frame.specs.Counting.{below, times, total}
+use Rattle.abuf_frame.specs.Counting.{below, times}
 use Rattle.abuf_frame.specs.Views.{Below, endowment, loose, lost, number_of, numbers}
 use Rattle.abuf_frame.specs.Lawful.{Agree, Follows, Lawful}
 use Rattle.abuf_frame.specs.Words.{head_word, next_word, payload_word}
@@ -19,7 +19,7 @@ use Rattle.abuf_frame.specs.Stages.{Precedes, Stores, is_loose, is_lost, next_of
 use Rattle.abuf_frame.specs.Walks.{head_of}
 use Rattle.abuf_frame.specs.Closing.{Threaded, payloads_from}
 use Rattle.abuf_frame.specs.Pass.{AllInRange, InRange}
-use Rattle.abuf_frame.proofs.Counting.{Under, pigeons, same_times, total_only}
+use Rattle.abuf_frame.proofs.Counting.{Under, count_by-cons, pigeons, same_times, sum_only}
 use Rattle.abuf_frame.specs.Draws.{pairs, payloads_at, with_pair}
 
 -- The states of a frame's table.
@@ -34,7 +34,7 @@ times_le n (e ∷ es) = let r = times_le n es in let b : cond (eqb e.number n) 1
 -- Where no entry is loose, no number of them is.
 settles : (stage : ℕ → Stage) (n : ℕ) (es : List Entry) → loose es ≡ 0 → Agree stage es → 0 < times n (map number_of es) → is_loose (stage n) ≡ false
 settles stage n [] l a t = absurd (omega arith)
-settles stage n (e ∷ es) l a t = ⊎_elim (λ (h : e.number ≡ n). tight (is_loose e.stage) (omega arith) (ap (λ (y : Stage). is_loose y) (a.0 ∙ ap stage h)))
+settles stage n (e ∷ es) l a t = let c = count_by-cons (λ (f : Entry). is_loose f.stage) e es in ⊎_elim (λ (h : e.number ≡ n). tight (is_loose e.stage) (omega arith) (ap (λ (y : Stage). is_loose y) (a.0 ∙ ap stage h)))
     (λ (h : e.number ≢ n). let b = ap (λ (b : Bool). cond {A = ℕ} b 1 0) (ne_eqb e.number n h) in settles stage n es (omega arith) a.1 (omega arith)) (cases_eq e.number n)
   where
     tight : (b : Bool) → cond {A = ℕ} b 1 0 ≡ 0 → b ≡ is_loose (stage n) → is_loose (stage n) ≡ false
@@ -105,7 +105,7 @@ not_loose false z = refl
 -- where each is Linked or Lost, they are those of the Linked ones
 pub settled_pairs : (p : ℕ) (es : List Entry) → loose es ≡ 0 → standing_payloads p es ≡ payloads_at p (pairs es)
 settled_pairs p [] l = refl
-settled_pairs p (e ∷ es) l = stand_pair p e.stage (not_loose (is_loose e.stage) (omega arith)) (standing_payloads p es) (pairs es) (settled_pairs p es (omega arith))
+settled_pairs p (e ∷ es) l = let c = count_by-cons (λ (f : Entry). is_loose f.stage) e es in stand_pair p e.stage (not_loose (is_loose e.stage) (omega arith)) (standing_payloads p es) (pairs es) (settled_pairs p es (omega arith))
 
 -- the numbers of the entries that stand in the list of the pixel
 abbrev pub nodes_at : ℕ → List Entry → List ℕ
@@ -146,9 +146,9 @@ times_nodes stage p n (e ∷ es) a = let r = times_nodes stage p n es a.1 in ⊎
     there false false d f r = r
 
 module _ (k : Size) (s : St) (r : Lawful k s) (id : ℕ) (v : View) (at : get_elem? s.views id ≡ some v) (whole : endowment v ≡ 2 ^ 60) where
-  -- If all other views have no entries, a total over the views is that of this one.
-  empty : (f : View → ℕ) → ((u : View) → length u.entries ≡ 0 → f u ≡ 0) → total f s.views ≡ f v
-  empty f h = total_only f endowment (λ u e. h u (omega arith)) s.views id v at (r.endowed ∙ sym whole)
+  -- If all other views have no entries, a sum over the views is what f is of this one.
+  empty : (f : View → ℕ) → ((u : View) → length u.entries ≡ 0 → f u ≡ 0) → sum_by f s.views ≡ f v
+  empty f h = sum_only f endowment (λ u e. h u (omega arith)) s.views id v at (r.endowed ∙ sym whole)
 
   -- So it has each number below the counter once,
   pub all_mine : (n : ℕ) → times n (numbers v) ≡ below n (slice_index s.words 0)
@@ -224,7 +224,7 @@ module _ (k : Size) (s : St) (r : Lawful k s) (id : ℕ) (v : View) (at : get_el
 -- Where the counter is at most the nodes, no entry is lost.
 pub none_lost : (pixels nodes c : ℕ) (es : List Entry) → AllInRange pixels nodes es → Below c es → c ≤ nodes → lost es ≡ 0
 none_lost pixels nodes c [] a b l = refl
-none_lost pixels nodes c (e ∷ es) a b l = let r = none_lost pixels nodes c es a.1 b.1 l in let z = ap (λ (t : Bool). cond {A = ℕ} t 1 0) (kept e.stage a.0) in omega arith
+none_lost pixels nodes c (e ∷ es) a b l = let r = none_lost pixels nodes c es a.1 b.1 l in let z = ap (λ (t : Bool). cond {A = ℕ} t 1 0) (kept e.stage a.0) in omega (arith, count_by-cons (λ (f : Entry). is_lost f.stage) e es)
   where
     kept : (y : Stage) → InRange pixels nodes e.number y → is_lost y ≡ false
     kept Claimed h = refl

@@ -19,7 +19,7 @@ use Rattle.abuf_frame.specs.Walks.{AllPaid, Noted, head_of, node_of}
 use Rattle.abuf_frame.specs.Stages.{Precedes, Stores, filled, is_linked, is_lost, linked, next_of, payload_of, stands, swapped}
 use Rattle.abuf_frame.specs.Words.{head_word, next_word, payload_word}
 use Rattle.abuf_frame.specs.Steps.{moved, restage}
-use Rattle.abuf_frame.proofs.Counting.{times-append, total_set, total_two, total_le, below_le, below_from}
+use Rattle.abuf_frame.proofs.Counting.{times-append, sum_set, sum_two, sum_le, below_le, below_from}
 
 -- The states of a frame's table.
 abbrev St : Type 0
@@ -133,7 +133,7 @@ module _ (k : Size) (s : St) (r : Lawful k s) (id n : ℕ) (v : View) (at : get_
 
   -- It was claimed.
   inside : n < slice_index s.words 0
-  inside = let a = one_at_least n v.entries y has in let b = total_le (λ (u : View). times n (numbers u)) s.views id v at in let c = r.once n in below_from n (slice_index s.words 0) (omega arith)
+  inside = let a = one_at_least n v.entries y has in let b = sum_le (λ (u : View). times n (numbers u)) s.views id v at in let c = r.once n in below_from n (slice_index s.words 0) (omega arith)
 
   -- It has a node.
   a_node : n < k.nodes
@@ -141,11 +141,11 @@ module _ (k : Size) (s : St) (r : Lawful k s) (id n : ℕ) (v : View) (at : get_
 
   -- It stands once among the entries of its view.
   one_here : times n (numbers v) ≡ 1
-  one_here = let a = one_at_least n v.entries y has in let b = total_le (λ (u : View). times n (numbers u)) s.views id v at in let c = r.once n in let d = below_le n (slice_index s.words 0) in omega arith
+  one_here = let a = one_at_least n v.entries y has in let b = sum_le (λ (u : View). times n (numbers u)) s.views id v at in let c = r.once n in let d = below_le n (slice_index s.words 0) in omega arith
 
   -- the others do not have it
   elsewhere : (j : ℕ) (u : View) → j ≢ id → get_elem? s.views j ≡ some u → times n (numbers u) ≡ 0
-  elsewhere j u other e = let a = one_at_least n v.entries y has in let b = total_two (λ (w : View). times n (numbers w)) s.views j id u v other e at in let c = r.once n in let d = below_le n (slice_index s.words 0) in omega arith
+  elsewhere j u other e = let a = one_at_least n v.entries y has in let b = sum_two (λ (w : View). times n (numbers w)) s.views j id u v other e at in let c = r.once n in let d = below_le n (slice_index s.words 0) in omega arith
 
   -- A state stays lawful when a number goes on and the words and chains with it.
   moves : (f : Stage → Stage) (x : Stage) → f y ≡ x → is_lost x ≡ false → (words' : List ℕ) (chain' : ℕ → List ℕ) → length words' ≡ length s.words → slice_index words' 0 ≡ slice_index s.words 0
@@ -160,9 +160,9 @@ module _ (k : Size) (s : St) (r : Lawful k s) (id n : ℕ) (v : View) (at : get_
     stage = put r.stage n x;
     chain = chain';
     wide = len ∙ r.wide;
-    once = λ m. let t = total_set (λ (u : View). times m (numbers u)) s.views id v w at in let e = ap (times m) (numbers_restage n f v.entries) in let o = r.once m in let z = ap (below m) zero_is in omega arith;
-    counted = let t = total_set (λ (u : View). length u.entries) s.views id v w at in let e = length_restage n f v.entries in let o = r.counted in omega arith;
-    endowed = let t = total_set endowment s.views id v w at in let e = length_restage n f v.entries in let o = r.endowed in omega arith;
+    once = λ m. let t = sum_set (λ (u : View). times m (numbers u)) s.views id v w at in let e = ap (times m) (numbers_restage n f v.entries) in let o = r.once m in let z = ap (below m) zero_is in omega arith;
+    counted = let t = sum_set (λ (u : View). length u.entries) s.views id v w at in let e = length_restage n f v.entries in let o = r.counted in omega arith;
+    endowed = let t = sum_set endowment s.views id v w at in let e = length_restage n f v.entries in let o = r.endowed in omega arith;
     agree = views_set (λ j u. Agree (put r.stage n x) u.entries) s.views id w (subst (λ (z : Stage). Agree (put r.stage n z) (restage n f v.entries)) (ap f is_here ∙ to) (agree_restage r.stage n f v.entries (r.agree id v at))) (λ j u other e. agree_other r.stage n x u.entries (elsewhere j u other e) (r.agree j u e));
     told = let open_now = ap is_linked is_here ∙ under_way in views_set (λ j u. Told (put r.stage n x) u.told) s.views id w (told_put r.stage n x v.told open_now (r.told id v at)) (λ j u other e. told_put r.stage n x u.told open_now (r.told j u e));
     seen = views_set (λ j u. u.seen ≤ slice_index words' 0) s.views id w (let l = r.seen id v at in omega arith) (λ j u other e. let l = r.seen j u e in omega arith);

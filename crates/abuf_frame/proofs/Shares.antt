@@ -1,9 +1,10 @@
 -- A pass is cut in two, two are joined, and the counter is read.
-use Rattle.std.proofs.Common.{◌≡◌, ◌≢◌, ℕ, ◌+◌, ◌^◌, ◌<◌, ◌≤◌, Bool, cond, true, false, true≢false, List, [], ◌∷◌, ◌++◌, map, length, set, sym, refl, ap, ◌∙◌, subst, arith, ⊎_elim, length-append, slice_index}
+use Rattle.std.proofs.Common.{◌≡◌, ◌≢◌, ℕ, ◌+◌, ◌^◌, ◌<◌, ◌≤◌, Bool, cond, true, false, true≢false, List, [], ◌∷◌, ◌++◌, map, length, set, sym, refl, ap, ◌∙◌, subst, arith, ⊎_elim, length-append, slice_index, sum_by}
 use mathlib.Core.Option.{some}
 use mathlib.Core.List.{map-append}
 use lib.ListN.{get_elem?}
 use lib.Seq.{set-get_or}
+use Rattle.std.proofs.lemmas.List.Sums.{sum_by-append}
 use Rattle.std.proofs.lemmas.Bool.{cases_lt}
 use Rattle.atomic_table.specs.Table.{State, Me, keeps, stepped, Allows, Splits, Joins}
 use Rattle.atomic_table.proofs.Lists.{at_set, at_snoc}
@@ -12,14 +13,14 @@ use Rattle.abuf_frame.specs.declared.view.Entry.{Entry}
 use Rattle.abuf_frame.specs.declared.view.Walk.{Walk}
 use Rattle.abuf_frame.specs.declared.view.View.{View}
 use Rattle.abuf_frame.specs.declared.view.Size.{Size}
-use Rattle.abuf_frame.specs.Counting.{times, total}
+use Rattle.abuf_frame.specs.Counting.{times}
 use Rattle.abuf_frame.specs.Views.{Below, endowment, linked_of, number_of, numbers, spent_view}
 use Rattle.abuf_frame.specs.Lawful.{Agree, AreWalks, Lawful, Told}
 use Rattle.abuf_frame.specs.Stages.{is_linked, is_loose}
 use Rattle.abuf_frame.specs.Steps.{split_left, split_right, having_seen, united}
 use Rattle.abuf_frame.specs.Walks.{with_walk}
 use Rattle.abuf_frame.specs.Pass.{Ties}
-use Rattle.abuf_frame.proofs.Counting.{total-append, total_set, total_le, times-append}
+use Rattle.abuf_frame.proofs.Counting.{sum_set, sum_le, times-append}
 use Rattle.abuf_frame.proofs.Claims.{agree-append, sound-append, all_below, all_views}
 use Rattle.abuf_frame.proofs.Ends.{count_mine}
 
@@ -49,8 +50,8 @@ told_linked stage (e ∷ es) a = pick (is_linked e.stage) refl (told_linked stag
 -- the same words, and other views
 module _ (k : Size) (s : St) (r : Lawful k s) where
   -- A state stays lawful with other views of the same numbers, entries and endowment.
-  other_views : (vs : List View) → ((n : ℕ) → total (λ v. times n (numbers v)) vs ≡ total (λ v. times n (numbers v)) s.views) → total (λ v. length v.entries) vs ≡ total (λ v. length v.entries) s.views
-      → total endowment vs ≡ total endowment s.views → ((j : ℕ) (v : View) → get_elem? vs j ≡ some v → Agree r.stage v.entries × Told r.stage v.told × (v.seen ≤ slice_index s.words 0) × AreWalks r.stage r.chain k.pixels v.walks)
+  other_views : (vs : List View) → ((n : ℕ) → sum_by (λ v. times n (numbers v)) vs ≡ sum_by (λ v. times n (numbers v)) s.views) → sum_by (λ v. length v.entries) vs ≡ sum_by (λ v. length v.entries) s.views
+      → sum_by endowment vs ≡ sum_by endowment s.views → ((j : ℕ) (v : View) → get_elem? vs j ≡ some v → Agree r.stage v.entries × Told r.stage v.told × (v.seen ≤ slice_index s.words 0) × AreWalks r.stage r.chain k.pixels v.walks)
       → Lawful k record { words = s.words; homes = s.homes; views = vs }
   other_views vs o c e each = record {
     stage = r.stage;
@@ -85,9 +86,9 @@ module _ (k : Size) (s : St) (r : Lawful k s) where
 pub splits : (k : Size) (id credit : ℕ) (v : View) → credit ≤ v.credit → Splits (Lawful k) id v (split_left credit v) (split_right credit v)
 splits k id credit v enough s r at = let l : View = split_left credit v in let w : View = split_right credit v in let vs : List View = set s.views id l in let mine = fits k s r id v at in
     other_views k s r (vs ++ w ∷ [])
-    (λ n. let a = total-append (λ (u : View). times n (numbers u)) vs (w ∷ []) in let b = total_set (λ (u : View). times n (numbers u)) s.views id v l at in omega arith)
-    (let a = total-append (λ (u : View). length u.entries) vs (w ∷ []) in let b = total_set (λ (u : View). length u.entries) s.views id v l at in omega arith)
-    (let a = total-append endowment vs (w ∷ []) in let b = total_set endowment s.views id v l at in omega arith)
+    (λ n. let a = sum_by-append (λ (u : View). times n (numbers u)) vs (w ∷ []) in let b = sum_set (λ (u : View). times n (numbers u)) s.views id v l at in omega arith)
+    (let a = sum_by-append (λ (u : View). length u.entries) vs (w ∷ []) in let b = sum_set (λ (u : View). length u.entries) s.views id v l at in omega arith)
+    (let a = sum_by-append endowment vs (w ∷ []) in let b = sum_set endowment s.views id v l at in omega arith)
     (λ j u e. ⊎_elim (λ (h : get_elem? vs j ≡ some u). all_views (Fits k s r) s.views id l mine (fits k s r) j u h)
     (λ (h : w ≡ u). subst (Fits k s r) h (tt, told-append r.stage (linked_of v.entries) v.told (told_linked r.stage v.entries mine.0) mine.1, mine.2, tt)) (at_snoc vs w u j e))
 
@@ -97,10 +98,10 @@ joins k id other v w s r at apart at' = let b : View = united v w in let vs : Li
     let was : get_elem? s.views other ≡ some w = ⊎_elim (λ (x : (other ≡ id) × (b ≡ w)). absurd (apart x.0)) (λ (x : (other ≢ id) × (get_elem? s.views other ≡ some w)). x.1) (at_set s.views id other b w at') in
     let mine = fits k s r id v at in let theirs = fits k s r other w was in let len = length-append v.entries w.entries in
     other_views k s r (set vs other spent_view)
-    (λ n. let p = total_set (λ (u : View). times n (numbers u)) s.views id v b at in let q = total_set (λ (u : View). times n (numbers u)) vs other w spent_view at' in
+    (λ n. let p = sum_set (λ (u : View). times n (numbers u)) s.views id v b at in let q = sum_set (λ (u : View). times n (numbers u)) vs other w spent_view at' in
     let m = ap (times n) (map-append number_of v.entries w.entries) in let t = times-append n (numbers v) (numbers w) in omega arith)
-    (let p = total_set (λ (u : View). length u.entries) s.views id v b at in let q = total_set (λ (u : View). length u.entries) vs other w spent_view at' in omega arith)
-    (let p = total_set endowment s.views id v b at in let q = total_set endowment vs other w spent_view at' in omega arith)
+    (let p = sum_set (λ (u : View). length u.entries) s.views id v b at in let q = sum_set (λ (u : View). length u.entries) vs other w spent_view at' in omega arith)
+    (let p = sum_set endowment s.views id v b at in let q = sum_set endowment vs other w spent_view at' in omega arith)
     (all_views (Fits k s r) vs other spent_view (tt, tt, omega arith, tt)
     (all_views (Fits k s r) s.views id b (agree-append r.stage v.entries w.entries mine.0 theirs.0, told-append r.stage v.told w.told mine.1 theirs.1, (let x = mine.2 in let y = theirs.2 in omega arith), walks-append r.stage r.chain k.pixels v.walks w.walks mine.3 theirs.3) (fits k s r)))
 
@@ -120,9 +121,9 @@ pub looks : (k : Size) (s : St) (r : Lawful k s) (id i : ℕ) (me : Me (Unit {0}
 looks k s r id i me w at credit entries told seen walked = let v = me.0 in let mine = fits k s r id v at in let len = ap (λ (es : List Entry). length es) entries in
     subst (λ (ws : List ℕ). Lawful k record { words = ws; homes = s.homes; views = set s.views id w }) (sym (set-get_or s.words i 0))
     (other_views k s r (set s.views id w)
-    (λ n. let p = total_set (λ (u : View). times n (numbers u)) s.views id v w at in let e = ap (λ (es : List Entry). times n (map number_of es)) entries in omega arith)
-    (let p = total_set (λ (u : View). length u.entries) s.views id v w at in omega arith)
-    (let p = total_set endowment s.views id v w at in omega arith)
+    (λ n. let p = sum_set (λ (u : View). times n (numbers u)) s.views id v w at in let e = ap (λ (es : List Entry). times n (map number_of es)) entries in omega arith)
+    (let p = sum_set (λ (u : View). length u.entries) s.views id v w at in omega arith)
+    (let p = sum_set endowment s.views id v w at in omega arith)
     (all_views (Fits k s r) s.views id w (subst (Agree r.stage) (sym entries) mine.0, subst (Told r.stage) (sym told) mine.1, seen, walked) (fits k s r)))
 
 -- A load of the counter is allowed, and shows what is below it.
@@ -144,7 +145,7 @@ weighs k slots id me bare s r deep at small = (
   keeps,
   tt,
   looks k s r id 0 me me.0 at refl refl refl (r.seen id me.0 at) (r.walked id me.0 at),
-  ((λ i. (me.0, bare i)), let t = total_le endowment s.views id me.0 at in let e = r.endowed in omega arith),
+  ((λ i. (me.0, bare i)), let t = sum_le endowment s.views id me.0 at in let e = r.endowed in omega arith),
 )
 
 -- What ties a pass to its view holds after a join.
@@ -152,7 +153,7 @@ pub ties_united : (pixels nodes : ℕ) (me other now : Me (Unit {0}) View) (cred
     → now ≡ (united me.0 other.0, []) → endowment (united me.0 other.0) ≤ 2 ^ 60 → Ties pixels nodes now (credit + credit') (own + own') (ones + ones')
 ties_united pixels nodes me other now credit own ones credit' own' ones' t u is fit = subst (λ (m : Me (Unit {0}) View). Ties pixels nodes m (credit + credit') (own + own') (ones + ones')) (sym is)
     (let len = length-append me.0.entries other.0.entries in let a = t.credit_is in let b = u.credit_is in let c = t.own_is in let d = u.own_is in let e = t.loose_is in let f = u.loose_is in
-    let l = total-append (λ (e : Entry). cond (is_loose e.stage) 1 0) me.0.entries other.0.entries in record {
+    let l = sum_by-append (λ (e : Entry). cond (is_loose e.stage) 1 0) me.0.entries other.0.entries in record {
       bare = refl;
       credit_is = omega arith;
       own_is = omega arith;

@@ -11,6 +11,7 @@ use Rattle.abuf_frame.specs.Views.{loose, number_of, stage_of}
 use Rattle.abuf_frame.specs.Stages.{IsFilled, IsSwapped, filled, is_loose, linked, swapped}
 use Rattle.abuf_frame.specs.Steps.{moved, restage}
 use Rattle.abuf_frame.specs.Pass.{AllInRange, InRange, Ties}
+use Rattle.abuf_frame.proofs.Counting.{count_by-cons}
 use Rattle.abuf_frame.proofs.Moves.{length_restage}
 
 -- A stage that is found is in range.
@@ -28,12 +29,20 @@ sound_restage pixels nodes n f keep (e ∷ es) a = (
   sound_restage pixels nodes n f keep es a.1,
 )
 
+-- An entry as it is after entry n went on by f.
+abbrev moved_entry : ℕ → (Stage → Stage) → Entry → Entry
+moved_entry n f e = record { number = e.number; stage = cond (eqb e.number n) (f e.stage) e.stage }
+
+-- Of an entry and more, so many are loose.
+loose-cons : (e : Entry) (es : List Entry) → loose (e ∷ es) ≡ cond (is_loose e.stage) 1 0 + loose es
+loose-cons e es = count_by-cons (λ (f : Entry). is_loose f.stage) e es
+
 -- As many are loose after one went on that stays as loose as it was.
 loose_restage : (n : ℕ) (f : Stage → Stage) → ((y : Stage) → is_loose (f y) ≡ is_loose y) → (es : List Entry) → loose (restage n f es) ≡ loose es
 loose_restage n f keep [] = refl
 loose_restage n f keep (e ∷ es) = let r = loose_restage n f keep es in
     let same : is_loose (cond (eqb e.number n) (f e.stage) e.stage) ≡ is_loose e.stage = elim (eqb e.number n) as (λ b. is_loose (cond b (f e.stage) e.stage) ≡ is_loose e.stage) [ true ↦ keep e.stage | false ↦ refl ] in
-    let z = ap (λ (b : Bool). cond {A = ℕ} b 1 0) same in omega arith
+    let z = ap (λ (b : Bool). cond {A = ℕ} b 1 0) same in omega (arith, loose-cons e es, loose-cons (moved_entry n f e) (restage n f es))
 
 -- Nothing changes where the number has no entry.
 pub restage_other : (n : ℕ) (f : Stage → Stage) (es : List Entry) → times n (map number_of es) ≡ 0 → restage n f es ≡ es
@@ -47,9 +56,9 @@ loose_linked n p y o [] f t = absurd (cc)
 loose_linked n p y o (e ∷ es) f t = ⊎_elim (λ (h : e.number ≡ n). let b = eq-eqb e.number n h in let g : Some e.stage ≡ Some (Swapped p y o) = subst (λ (b : Bool). cond b (Some e.stage) (stage_of n es) ≡ Some (Swapped p y o)) b f in let same : e.stage ≡ Swapped p y o = cc in
     let u = ap (λ (b : Bool). cond {A = ℕ} b 1 0) b in let r = ap loose (restage_other n linked es (omega arith)) in
     let now : is_loose (cond (eqb e.number n) (linked e.stage) e.stage) ≡ false = ap (λ (c : Bool). is_loose (cond c (linked e.stage) e.stage)) b ∙ ap (λ (z : Stage). is_loose (linked z)) same in
-    let was : is_loose e.stage ≡ true = ap is_loose same in let v = ap (λ (b : Bool). cond {A = ℕ} b 1 0) now in let w = ap (λ (b : Bool). cond {A = ℕ} b 1 0) was in omega arith)
+    let was : is_loose e.stage ≡ true = ap is_loose same in let v = ap (λ (b : Bool). cond {A = ℕ} b 1 0) now in let w = ap (λ (b : Bool). cond {A = ℕ} b 1 0) was in omega (arith, loose-cons e es, loose-cons (moved_entry n linked e) (restage n linked es)))
     (λ (h : e.number ≢ n). let b = ne_eqb e.number n h in let u = ap (λ (b : Bool). cond {A = ℕ} b 1 0) b in let r = loose_linked n p y o es (subst (λ (b : Bool). cond b (Some e.stage) (stage_of n es) ≡ Some (Swapped p y o)) b f) (omega arith) in
-    let same : is_loose (cond (eqb e.number n) (linked e.stage) e.stage) ≡ is_loose e.stage = ap (λ (c : Bool). is_loose (cond c (linked e.stage) e.stage)) b in let v = ap (λ (b : Bool). cond {A = ℕ} b 1 0) same in omega arith) (cases_eq e.number n)
+    let same : is_loose (cond (eqb e.number n) (linked e.stage) e.stage) ≡ is_loose e.stage = ap (λ (c : Bool). is_loose (cond c (linked e.stage) e.stage)) b in let v = ap (λ (b : Bool). cond {A = ℕ} b 1 0) same in omega (arith, loose-cons e es, loose-cons (moved_entry n linked e) (restage n linked es))) (cases_eq e.number n)
 
 -- A fill leaves it loose,
 loose_filled : (p z : ℕ) (y : Stage) → is_loose (filled p z y) ≡ is_loose y

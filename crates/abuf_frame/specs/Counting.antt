@@ -1,10 +1,5 @@
--- Sums and counts over lists.
+-- Counts over lists.
 use Rattle.std.specs.Prelude.{ℕ, ◌+◌, if◌then◌else◌, ◌==◌, nat_lt, List, [], ◌∷◌}
-
--- f of each element, added up
-abbrev pub total : {A : Type 0} → (A → ℕ) → List A → ℕ
-total f [] = 0
-total f (x ∷ xs) = f x + total f xs
 
 -- how often n stands in the list
 abbrev pub times : ℕ → List ℕ → ℕ

@@ -1,6 +1,6 @@
 -- When the state of a frame is lawful. This holds between any two atomic steps, for any number of passes in any threads, with
 -- partly linked lists in it. A state has the words and the views of all passes that were ever made.
-use Rattle.std.specs.Prelude.{◌≡◌, ℕ, ◌+◌, ◌*◌, ◌^◌, ◌<◌, ◌≤◌, true, false, List, [], ◌∷◌, length, slice_index}
+use Rattle.std.specs.Prelude.{◌≡◌, ℕ, ◌+◌, ◌*◌, ◌^◌, ◌<◌, ◌≤◌, true, false, List, [], ◌∷◌, length, sum_by, slice_index}
 use mathlib.Core.Option.{some}
 use lib.ListN.{get_elem?}
 use Rattle.atomic_table.specs.Table.{State}
@@ -10,7 +10,7 @@ use Rattle.abuf_frame.specs.declared.view.Entry.{Entry}
 use Rattle.abuf_frame.specs.declared.view.Walk.{Walk}
 use Rattle.abuf_frame.specs.declared.view.View.{View}
 use Rattle.abuf_frame.specs.declared.view.Size.{Size}
-use Rattle.abuf_frame.specs.Counting.{total, times, below, Every}
+use Rattle.abuf_frame.specs.Counting.{times, below, Every}
 use Rattle.abuf_frame.specs.Words.{head_word, payload_word, next_word}
 use Rattle.abuf_frame.specs.Stages.{is_linked, is_lost, stands, Precedes, Stores, next_of}
 use Rattle.abuf_frame.specs.Views.{endowment, numbers}
@@ -40,15 +40,15 @@ pub record Lawful (k : Size) (s : State (Unit {0}) View) : Type 0 where
   -- There are the counter, a head for each pixel, and a payload and a next for each node.
   pub wide : length s.words ≡ 1 + k.pixels + 2 * k.nodes
   -- The numbers of the entries of all passes are those below the counter, each once, so the counter is their count.
-  pub once : (n : ℕ) → total (λ v. times n (numbers v)) s.views ≡ below n (slice_index s.words 0)
-  pub counted : total (λ v. length v.entries) s.views ≡ slice_index s.words 0
+  pub once : (n : ℕ) → sum_by (λ v. times n (numbers v)) s.views ≡ below n (slice_index s.words 0)
+  pub counted : sum_by (λ v. length v.entries) s.views ≡ slice_index s.words 0
   pub agree : (j : ℕ) (v : View) → get_elem? s.views j ≡ some v → Agree stage v.entries
   pub fresh : (n : ℕ) → slice_index s.words 0 ≤ n → n < k.nodes → stage n ≡ Claimed
   -- An entry is Lost exactly where there is no node of its number.
   pub lost : (n : ℕ) → k.nodes ≤ n → stage n ≡ Lost
   pub kept : (n : ℕ) → n < k.nodes → is_lost (stage n) ≡ false
   -- The endowments of all passes add up to 2 ^ 60.
-  pub endowed : total endowment s.views ≡ 2 ^ 60
+  pub endowed : sum_by endowment s.views ≡ 2 ^ 60
   -- From Filled to Linked, the payload word of the node is the payload, and the pixel is one of the frame's.
   pub payload : (n : ℕ) → Stores k.pixels (slice_index s.words (payload_word k.pixels n)) (stage n)
   -- The next word is the old head where the entry is Linked, and the mark where it is not, or where there is none.

@@ -1,10 +1,10 @@
 -- What a pass knows: its credit, which is how many numbers it may still claim, its entries, the Linked entries of others that
 -- it was told of when it was split off, the greatest count that it has seen, and its walks.
-use Rattle.std.specs.Prelude.{◌≡◌, ℕ, ◌+◌, ◌^◌, ◌<◌, if◌then◌else◌, ◌==◌, List, [], ◌∷◌, ◌++◌, length, map, Option, Some, None}
+use Rattle.std.specs.Prelude.{◌≡◌, ℕ, ◌+◌, ◌^◌, ◌<◌, if◌then◌else◌, ◌==◌, List, [], ◌∷◌, ◌++◌, length, map, count_by, filter, Option, Some, None}
 use Rattle.abuf_frame.specs.declared.view.Stage.{Stage}
 use Rattle.abuf_frame.specs.declared.view.Entry.{Entry}
 use Rattle.abuf_frame.specs.declared.view.View.{View}
-use Rattle.abuf_frame.specs.Counting.{total, Every}
+use Rattle.abuf_frame.specs.Counting.{Every}
 use Rattle.abuf_frame.specs.Stages.{is_linked, is_lost, is_loose, stands}
 
 -- how many numbers the pass has claimed and may still claim
@@ -17,7 +17,7 @@ IsWhole v = endowment v ≡ 2 ^ 60
 
 -- how many of the entries are neither Linked nor Lost
 abbrev pub loose : List Entry → ℕ
-loose es = total (λ e. if is_loose e.stage then 1 else 0) es
+loose es = count_by (λ e. is_loose e.stage) es
 
 -- each entry of the pass is Linked or Lost
 abbrev pub IsSettled : View → Type 0
@@ -25,7 +25,7 @@ IsSettled v = loose v.entries ≡ 0
 
 -- how many of the entries are Lost
 abbrev pub lost : List Entry → ℕ
-lost es = total (λ e. if is_lost e.stage then 1 else 0) es
+lost es = count_by (λ e. is_lost e.stage) es
 
 abbrev pub number_of : Entry → ℕ
 number_of e = e.number
@@ -45,13 +45,11 @@ stage_of n (e ∷ es) = if e.number == n then Some e.stage else stage_of n es
 
 -- the Linked ones of the entries
 abbrev pub linked_of : List Entry → List Entry
-linked_of [] = []
-linked_of (e ∷ es) = if is_linked e.stage then e ∷ linked_of es else linked_of es
+linked_of es = filter (λ e. is_linked e.stage) es
 
 -- those that stand in the list of the pixel
 abbrev pub at_pixel : ℕ → List Entry → List Entry
-at_pixel p [] = []
-at_pixel p (e ∷ es) = if stands p e.stage == 1 then e ∷ at_pixel p es else at_pixel p es
+at_pixel p es = filter (λ e. stands p e.stage == 1) es
 
 -- the entries that the pass knows to stand in the list of the pixel: its own Linked ones there, and those that it was told of
 abbrev pub due_of : ℕ → View → List Entry
