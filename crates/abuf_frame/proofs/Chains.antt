@@ -1,10 +1,10 @@
 -- The list of a pixel is the chain of its entries along their old heads, and no other is.
-use Rattle.std.proofs.Common.{◌≡◌, ◌≢◌, ℕ, ◌+◌, ◌^◌, ◌<◌, ◌≤◌, Bool, cond, eqb, true, false, List, [], ◌∷◌, map, All, sym, refl, ap, ◌∙◌, subst, arith, ⊎_elim, eq-eqb, ne_eqb, IsPermutation}
+use Rattle.std.proofs.Common.{◌≡◌, ◌≢◌, ℕ, ◌+◌, ◌^◌, ◌<◌, ◌≤◌, Bool, cond, eqb, true, false, List, [], ◌∷◌, map, sym, refl, ap, ◌∙◌, subst, arith, ⊎_elim, eq-eqb, ne_eqb, IsPermutation}
 use mathlib.Core.Option.{some}
 use lib.ListN.{get_elem?}
 use Rattle.std.specs.List.{sum_by}
 use Rattle.std.proofs.lemmas.Bool.{cases_eq}
-use Rattle.std.proofs.lemmas.List.Elements.{All-cons, All-head, All-nil, All-tail}
+use Rattle.std.proofs.lemmas.List.Elements.{All-from_recursion, recursion_from_All}
 use Rattle.std.proofs.lemmas.List.Sorted.{All-permutation, IsPermutation-map, IsPermutation-sym, sum_by-IsPermutation}
 use Rattle.std.proofs.lemmas.List.Sums.{sum_by-cons}
 use Rattle.atomic_table.specs.Table.{State}
@@ -121,15 +121,10 @@ module _ (stage : ℕ → Stage) where
   payloads_entries [] a = refl
   payloads_entries (e ∷ es) a = let r = payloads_entries es a.1 in λ i. payload_of (a.0 i) ∷ r i
 
-  -- Agreement by recursion is agreement of each entry,
-  agree_all : (es : List Entry) → Agree stage es → All (λ (e : Entry). e.stage ≡ stage e.number) es
-  agree_all [] a = All-nil (λ (e : Entry). e.stage ≡ stage e.number)
-  agree_all (e ∷ es) a = All-cons (λ (e : Entry). e.stage ≡ stage e.number) e es a.0 (agree_all es a.1)
-
-  -- and the other way round.
-  all_agree : (es : List Entry) → All (λ (e : Entry). e.stage ≡ stage e.number) es → Agree stage es
-  all_agree [] a = tt
-  all_agree (e ∷ es) a = (All-head (λ (e : Entry). e.stage ≡ stage e.number) e es a, all_agree es (All-tail (λ (e : Entry). e.stage ≡ stage e.number) e es a))
+  -- Entries agree with the stages if these in another order do.
+  agree_permuted : (es fs : List Entry) → IsPermutation es fs → Agree stage fs → Agree stage es
+  agree_permuted es fs p a = let P : Entry → Type 0 = λ e. e.stage ≡ stage e.number in
+      recursion_from_All P es (All-permutation P fs es (IsPermutation-sym es fs p) (All-from_recursion P fs a))
 
   -- Entries that agree do so at each pixel.
   agree_at : (p : ℕ) (es : List Entry) → Agree stage es → Agree stage (at_pixel p es)
@@ -170,8 +165,7 @@ module _ (k : Size) (s : St) (r : Lawful k s) (id : ℕ) (v : View) (at : get_el
 
   -- It has no other.
   pub only_list : (p : ℕ) → p < k.pixels → (l : List ℕ) → IsListAt p v.entries l → l ≡ map (λ n. payload_of (r.stage n)) (r.chain p)
-  only_list p on l is = let at_p : List Entry = at_pixel p v.entries in let agree : Agree r.stage is.chain = all_agree r.stage is.chain
-      (All-permutation (λ (e : Entry). e.stage ≡ r.stage e.number) at_p is.chain (IsPermutation-sym is.chain at_p is.all) (agree_all r.stage at_p (agree_at r.stage p v.entries (r.agree id v at)))) in
+  only_list p on l is = let at_p : List Entry = at_pixel p v.entries in let agree : Agree r.stage is.chain = agree_permuted r.stage is.chain at_p is.all (agree_at r.stage p v.entries (r.agree id v at)) in
       let ns : List ℕ = map number_of is.chain in
       let same : r.chain p ≡ ns = one_chain r.stage (r.chain p) ns (follows_leads r.stage p (r.chain p) (r.follows p on)) (chained_leads r.stage is.chain agree is.chained)
       (λ n. times_permutation n (r.chain p) (nodes_at p v.entries) (chain_nodes k s r id v at whole settled p on) ∙ (ap (times n) (numbers_at p v.entries)

@@ -1,6 +1,6 @@
 -- The loads of a walk.
 use Rattle.std.proofs.Common.{◌≡◌, ◌≢◌, ℕ, suc, ◌+◌, ◌-◌, ◌<◌, ◌≤◌, Bool, cond, eqb, true, false, true≢false, List, [], ◌∷◌, ◌++◌, map, length, sym, refl, ap, ◌∙◌, subst, arith, ⊎_elim, length-append, slice_index, Option, Some, None, eq-eqb, ne_eqb, eqb-true, append_assoc}
-use Rattle.std.specs.List.{Contains}
+use Rattle.std.specs.List.{AllByRecursion, Contains}
 use mathlib.Core.Option.{some}
 use mathlib.Core.List.{map-append}
 use lib.ListN.{get_elem?}
@@ -25,7 +25,7 @@ use Rattle.abuf_frame.specs.Walks.{AllMet, AllPaid, HasPassed, IsNoted, IsWalk, 
 use Rattle.abuf_frame.specs.Look.{SeesWhole}
 use Rattle.abuf_frame.specs.Lawful.{Agree, AreWalks, Follows, Lawful, Told}
 use Rattle.abuf_frame.specs.Stages.{Precedes, is_linked, is_loose, next_of, payload_of, stands}
-use Rattle.abuf_frame.specs.Counting.{Every, times}
+use Rattle.abuf_frame.specs.Counting.{times}
 use Rattle.abuf_frame.specs.Words.{head_word, mark, next_word, payload_word}
 use Rattle.abuf_frame.proofs.Shares.{looks, told-append, told_linked, walks-append}
 use Rattle.abuf_frame.proofs.Ends.{carries_after, next_after, stands_le, tight_at}
@@ -292,7 +292,7 @@ has_passed stage n (x ∷ xs) p h = ⊎_elim (λ (g : x.node ≡ n). let same = 
     (λ (g : x.node ≢ n). let z = ap (λ (b : Bool). cond {A = ℕ} b 1 0) (ne_eqb x.node n g) in let r = has_passed stage n xs p.1 (omega arith) in (suc r.0, (let l = r.1 in omega arith), r.2)) (cases_eq x.node n)
 
 -- entries that the state has as they are, whose nodes were passed, were passed with their payloads
-all_met : (stage : ℕ → Stage) (w : Walk) → AllPaid stage w.passed → (es : List Entry) → Told stage es → ((n : ℕ) → 0 < times n (map number_of es) → 0 < times n (map node_of w.passed)) → Every (HasPassed w) es
+all_met : (stage : ℕ → Stage) (w : Walk) → AllPaid stage w.passed → (es : List Entry) → Told stage es → ((n : ℕ) → 0 < times n (map number_of es) → 0 < times n (map node_of w.passed)) → AllByRecursion (HasPassed w) es
 all_met stage w paid [] t h = tt
 all_met stage w paid (e ∷ es) t h = let one = ap (λ (b : Bool). cond {A = ℕ} b 1 0) (eq-eqb e.number e.number refl) in (
   subst (λ (y : ℕ). Contains w.passed (record { node = e.number; payload = y })) (ap payload_of (sym t.0.0)) (has_passed stage e.number w.passed paid (h e.number (omega arith))),

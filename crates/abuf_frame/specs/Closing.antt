@@ -1,7 +1,7 @@
 -- What contracts see of a closed frame.
 use Rattle.std.specs.Prelude.{◌≡◌, ℕ, zero, suc, ◌+◌, ◌-◌, ◌*◌, ◌<◌, if◌then◌else◌, ◌==◌, List, [], ◌∷◌, ◌++◌, length, map, slice_index, slice_index_or}
+use Rattle.std.specs.List.{AllByRecursion}
 use Rattle.abuf_frame.specs.declared.view.Walk.{Walk}
-use Rattle.abuf_frame.specs.Counting.{Every}
 use Rattle.abuf_frame.specs.Words.{Sized, head_word, payload_word, next_word}
 use Rattle.abuf_frame.specs.Walks.{payload_at}
 
@@ -32,7 +32,7 @@ IsSuffix xs ys = (front : List ℕ) × (ys ≡ front ++ xs)
 
 -- each walk that has reached the end has passed a suffix of its pixel's list
 abbrev pub AllSeen : List (List ℕ) → List Walk → Type 0
-AllSeen lists ws = Every (λ w. w.cursor ≡ 0 → IsSuffix (map payload_at w.passed) (slice_index_or lists w.pixel [])) ws
+AllSeen lists ws = AllByRecursion (λ w. w.cursor ≡ 0 → IsSuffix (map payload_at w.passed) (slice_index_or lists w.pixel [])) ws
 
 -- the words lead from the word `at` along these nodes to the end
 abbrev pub Threaded : List ℕ → ℕ → ℕ → ℕ → List ℕ → Type 0

@@ -9,8 +9,3 @@ times n (x ∷ xs) = (if x == n then 1 else 0) + times n xs
 -- 1 where n is below the count, and else 0: how often n stands in 0, 1, .. up to the count
 abbrev pub below : ℕ → ℕ → ℕ
 below n count = if nat_lt n count then 1 else 0
-
--- P holds of each element
-abbrev pub Every : {A : Type 0} → (A → Type 0) → List A → Type 0
-Every P [] = Unit {0}
-Every P (x ∷ xs) = P x × Every P xs

@@ -3,6 +3,7 @@
 use Rattle.std.specs.Prelude.{◌≡◌, ℕ, ◌+◌, ◌*◌, ◌^◌, ◌<◌, ◌≤◌, true, false, List, [], ◌∷◌, length, sum_by, slice_index}
 use mathlib.Core.Option.{some}
 use lib.ListN.{get_elem?}
+use Rattle.std.specs.List.{AllByRecursion}
 use Rattle.atomic_table.specs.Table.{State}
 use Rattle.abuf_frame.specs.declared.view.Stage.{Stage}
 use Rattle.abuf_frame.specs.declared.view.Stage.TheVariants.{Claimed, Lost}
@@ -10,7 +11,7 @@ use Rattle.abuf_frame.specs.declared.view.Entry.{Entry}
 use Rattle.abuf_frame.specs.declared.view.Walk.{Walk}
 use Rattle.abuf_frame.specs.declared.view.View.{View}
 use Rattle.abuf_frame.specs.declared.view.Size.{Size}
-use Rattle.abuf_frame.specs.Counting.{times, below, Every}
+use Rattle.abuf_frame.specs.Counting.{times, below}
 use Rattle.abuf_frame.specs.Words.{head_word, payload_word, next_word}
 use Rattle.abuf_frame.specs.Stages.{is_linked, is_lost, stands, Precedes, Stores, next_of}
 use Rattle.abuf_frame.specs.Views.{endowment, numbers}
@@ -18,11 +19,11 @@ use Rattle.abuf_frame.specs.Walks.{head_of, IsWalk}
 
 -- the entries have the stages of their numbers
 abbrev pub Agree : (ℕ → Stage) → List Entry → Type 0
-Agree stage es = Every (λ e. e.stage ≡ stage e.number) es
+Agree stage es = AllByRecursion (λ e. e.stage ≡ stage e.number) es
 
 -- the entries have the stages of their numbers, and are Linked
 abbrev pub Told : (ℕ → Stage) → List Entry → Type 0
-Told stage es = Every (λ e. (e.stage ≡ stage e.number) × (is_linked e.stage ≡ true)) es
+Told stage es = AllByRecursion (λ e. (e.stage ≡ stage e.number) × (is_linked e.stage ≡ true)) es
 
 -- the nodes stand in the list of the pixel, and the old head of each refers to the one that follows it
 abbrev pub Follows : (ℕ → Stage) → ℕ → List ℕ → Type 0
@@ -30,7 +31,7 @@ Follows stage p [] = Unit {0}
 Follows stage p (n ∷ ns) = Precedes (stage n) p (head_of ns) × Follows stage p ns
 
 abbrev pub AreWalks : (ℕ → Stage) → (ℕ → List ℕ) → ℕ → List Walk → Type 0
-AreWalks stage chain pixels ws = Every (IsWalk stage chain pixels) ws
+AreWalks stage chain pixels ws = AllByRecursion (IsWalk stage chain pixels) ws
 
 pub record Lawful (k : Size) (s : State (Unit {0}) View) : Type 0 where
   -- Each number has a stage, whichever pass has its entry. A number with a node that nobody has claimed yet counts as Claimed.

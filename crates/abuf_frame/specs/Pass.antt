@@ -1,11 +1,11 @@
 -- What contracts see of a pass, and what ties its fields to its view.
 use Rattle.std.specs.Prelude.{◌≡◌, ℕ, ◌^◌, ◌<◌, ◌≤◌, List, [], length}
+use Rattle.std.specs.List.{AllByRecursion}
 use Rattle.atomic_table.specs.Table.{Me}
 use Rattle.abuf_frame.specs.declared.view.Stage.{Stage}
 use Rattle.abuf_frame.specs.declared.view.Stage.TheVariants.{Claimed, Filled, Swapped, Linked, Lost}
 use Rattle.abuf_frame.specs.declared.view.Entry.{Entry}
 use Rattle.abuf_frame.specs.declared.view.View.{View}
-use Rattle.abuf_frame.specs.Counting.{Every}
 use Rattle.abuf_frame.specs.Views.{endowment, loose}
 use Rattle.abuf_frame.specs.Frame.{Shape}
 
@@ -23,7 +23,7 @@ InRange pixels nodes n (Linked pixel payload old) = (n < nodes) × (pixel < pixe
 InRange pixels nodes n Lost = nodes ≤ n
 
 abbrev pub AllInRange : ℕ → ℕ → List Entry → Type 0
-AllInRange pixels nodes es = Every (λ e. InRange pixels nodes e.number e.stage) es
+AllInRange pixels nodes es = AllByRecursion (λ e. InRange pixels nodes e.number e.stage) es
 
 -- A pass holds no slot of the table. Its fields are its credit, the number of its entries, and how many of them are loose.
 pub record Ties (pixels nodes : ℕ) (me : Me (Unit {0}) View) (credit own ones : ℕ) : Type 0 where

@@ -1,10 +1,10 @@
 -- What a pass knows: its credit, which is how many numbers it may still claim, its entries, the Linked entries of others that
 -- it was told of when it was split off, the greatest count that it has seen, and its walks.
 use Rattle.std.specs.Prelude.{◌≡◌, ℕ, ◌+◌, ◌^◌, ◌<◌, if◌then◌else◌, ◌==◌, List, [], ◌∷◌, ◌++◌, length, map, count_by, filter, Option, Some, None}
+use Rattle.std.specs.List.{AllByRecursion}
 use Rattle.abuf_frame.specs.declared.view.Stage.{Stage}
 use Rattle.abuf_frame.specs.declared.view.Entry.{Entry}
 use Rattle.abuf_frame.specs.declared.view.View.{View}
-use Rattle.abuf_frame.specs.Counting.{Every}
 use Rattle.abuf_frame.specs.Stages.{is_linked, is_lost, is_loose, stands}
 
 -- how many numbers the pass has claimed and may still claim
@@ -36,7 +36,7 @@ numbers v = map number_of v.entries
 
 -- every number is below the count
 abbrev pub Below : ℕ → List Entry → Type 0
-Below count es = Every (λ e. e.number < count) es
+Below count es = AllByRecursion (λ e. e.number < count) es
 
 -- the stage of the entry n, if there is one
 abbrev pub stage_of : ℕ → List Entry → Option Stage

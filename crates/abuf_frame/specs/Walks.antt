@@ -2,13 +2,13 @@
 -- the nodes passed with their payloads, the cursor, which is the word at which it stands, the payload noted there, and
 -- whether its last load found the mark.
 use Rattle.std.specs.Prelude.{◌≡◌, ℕ, ◌+◌, ◌-◌, ◌<◌, if◌then◌else◌, ◌==◌, true, false, List, [], ◌∷◌, ◌++◌, map, Option, Some, None}
-use Rattle.std.specs.List.{Contains}
+use Rattle.std.specs.List.{AllByRecursion, Contains}
 use Rattle.abuf_frame.specs.declared.view.Stage.{Stage}
 use Rattle.abuf_frame.specs.declared.view.Entry.{Entry}
 use Rattle.abuf_frame.specs.declared.view.Passed.{Passed}
 use Rattle.abuf_frame.specs.declared.view.Walk.{Walk}
 use Rattle.abuf_frame.specs.declared.view.View.{View}
-use Rattle.abuf_frame.specs.Counting.{times, Every}
+use Rattle.abuf_frame.specs.Counting.{times}
 use Rattle.abuf_frame.specs.Words.{mark}
 use Rattle.abuf_frame.specs.Stages.{payload_of}
 use Rattle.abuf_frame.specs.Views.{number_of, due_of}
@@ -73,7 +73,7 @@ Noted stage (Some payload) (n ∷ ns) = payload ≡ payload_of (stage n)
 
 -- the payloads of the nodes passed are those of their entries
 abbrev pub AllPaid : (ℕ → Stage) → List Passed → Type 0
-AllPaid stage xs = Every (λ x. x.payload ≡ payload_of (stage x.node)) xs
+AllPaid stage xs = AllByRecursion (λ x. x.payload ≡ payload_of (stage x.node)) xs
 
 -- Where numbers have these stages and pixels these lists: the pixel is one of the frame's, the nodes passed and the rest from
 -- the cursor on are a suffix of its list, payloads are those of the entries, a walk that found the mark has noted the payload
@@ -95,4 +95,4 @@ HasPassed w e = Contains w.passed (record { node = e.number; payload = payload_o
 
 -- the walk has passed each of its due entries
 abbrev pub AllMet : Walk → Type 0
-AllMet w = Every (HasPassed w) w.due
+AllMet w = AllByRecursion (HasPassed w) w.due
