@@ -3,7 +3,7 @@ use Rattle.std.proofs.Common.{◌≡◌, ℕ, zero, suc, ◌+◌, ◌*◌, ◌/�
 use Rattle.std.specs.List.{filter_map, range_with_len}
 use Rattle.abuf_raster.specs.declared.region.Hit.{Hit}
 use Rattle.abuf_raster.specs.declared.point.Point.{Point}
-use Rattle.abuf_raster.specs.declared.region.Region.{Region}
+use Rattle.abuf_raster.specs.Region.{Region}
 use Rattle.abuf_raster.specs.Triangle.{Triangle, has_area, positive_order}
 use Rattle.abuf_raster.specs.Samples.{sample_place}
 use Rattle.abuf_raster.specs.Coverage.{mask_below, covers_sample, all_accept}

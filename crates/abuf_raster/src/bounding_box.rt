@@ -1,7 +1,6 @@
 // The box of pixels around a triangle.
 ghost use Rattle.std.specs.Prelude.{◌≡◌, ℕ, ◌+◌, ◌*◌, ◌^◌, ◌<◌, ◌≤◌, pos, ◌+ℤ◌, ◌-ℤ◌, ◌≤ℤ◌, ◌<ℤ◌, unsigned_abs, max, IsTrue, ◌↔◌, ◌⊎◌, false};
 ghost use Rattle.abuf_num.specs.declared.limits.TheConstants.{MAX_SIDE};
-ghost use Rattle.abuf_raster.specs.Region.{IsRegion};
 ghost use Rattle.abuf_raster.specs.Samples.{offsets_of};
 ghost use Rattle.abuf_raster.specs.BoundingBox.{IsBefore, IsBehind, IsBoxOf, CoversNone};
 
@@ -113,16 +112,17 @@ impl BoundingBox {
     /// The box around a triangle within the region: outside of it the triangle covers no sample of the region.
     #[inline(always)]
     pub(crate) fn of(t: &ScreenTri, region: Region, pattern: Pattern) -> BoundingBox
-        requires { IsRegion region }
         ensures { IsBoxOf t.now (offsets_of pattern) region result }
     {
         let margin = 16 * pattern.reach();
-        let end_x = region.x0 + region.w;
-        let end_y = region.y0 + region.h;
-        let left = first_pixel(t.a.x, t.b.x, t.c.x, margin, region.x0, end_x);
-        let right = end_pixel(t.a.x, t.b.x, t.c.x, margin, region.x0, end_x);
-        let top = first_pixel(t.a.y, t.b.y, t.c.y, margin, region.y0, end_y);
-        let bottom = end_pixel(t.a.y, t.b.y, t.c.y, margin, region.y0, end_y);
+        let x0 = region.x0();
+        let y0 = region.y0();
+        let end_x = x0 + region.w();
+        let end_y = y0 + region.h();
+        let left = first_pixel(t.a.x, t.b.x, t.c.x, margin, x0, end_x);
+        let right = end_pixel(t.a.x, t.b.x, t.c.x, margin, x0, end_x);
+        let top = first_pixel(t.a.y, t.b.y, t.c.y, margin, y0, end_y);
+        let bottom = end_pixel(t.a.y, t.b.y, t.c.y, margin, y0, end_y);
         BoundingBox {
             left,
             right: right.max(left),
@@ -143,7 +143,6 @@ impl BoundingBox {
 /// Whether the box around the triangle has a pixel of the region. Where it has none, the triangle covers no sample there; this
 /// takes much less than a walk that finds nothing.
 pub fn meets(t: &ScreenTri, region: Region, pattern: Pattern) -> bool
-    requires { IsRegion region }
     ensures { result ≡ false → CoversNone t.now (offsets_of pattern) region }
 {
     !BoundingBox::of(t, region, pattern).is_empty()

@@ -42,7 +42,7 @@ pub use fragment::{Fragment, pack, unpack};
 pub use pattern::Pattern;
 pub use plane::DepthPlane;
 pub use point::Point;
-pub use region::{Hit, Region};
+pub use region::{Hit, Region, region_law};
 pub use tile_hits::TileHits;
 pub use triangle::ScreenTri;
 pub use upper_bound::most_hits;

@@ -1,11 +1,10 @@
 // The fragments of a triangle in a region, tile by tile.
 ghost use Rattle.std.specs.Prelude.{◌≡◌, ◌*◌, ◌<◌, ◌≤◌, ◌++◌, [], length, take, All, IsPermutation, MatchOption};
 ghost use Rattle.abuf_raster.specs.Samples.{offsets_of};
-ghost use Rattle.abuf_raster.specs.Region.{IsRegion};
 ghost use Rattle.abuf_raster.specs.Hits.{IsHitIn, hits};
 
 use crate::pattern::Pattern;
-use crate::region::{Hit, Region};
+use crate::region::{Hit, Region, region_law};
 use crate::tiles::Tiles;
 use crate::triangle::ScreenTri;
 use std::marker::Model;
@@ -33,12 +32,12 @@ impl TileHits {
     /// The pixels of the region in which the triangle covers a sample, with the primitive number `prim`.
     #[inline(always)]
     pub fn new(t: &ScreenTri, prim: u32, region: Region, pattern: Pattern) -> TileHits
-        requires region { IsRegion region }
         requires prim { prim < 2097152 }
         ensures hits { IsPermutation result (hits t.now prim (offsets_of pattern) region) }
         ensures within { All (IsHitIn region) result }
         ensures few { length result ≤ region.w * region.h }
     {
+        region_law(region);
         TileHits {
             tiles: Tiles::new(t, prim, region, pattern),
         }

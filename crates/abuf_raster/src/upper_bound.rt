@@ -3,7 +3,6 @@ ghost use Rattle.std.specs.Prelude.{ℕ, ℤ, List, ◌≡◌, ◌+◌, ◌*◌,
 ghost use Rattle.abuf_num.specs.declared.limits.TheConstants.{MAX_SIDE};
 ghost use Rattle.abuf_raster.specs.Edge.{edge_function};
 ghost use Rattle.abuf_raster.specs.Triangle.{AreWithin};
-ghost use Rattle.abuf_raster.specs.Region.{IsRegion};
 ghost use Rattle.abuf_raster.specs.Samples.{offsets_of, pixel_centre};
 ghost use Rattle.abuf_raster.specs.Hits.{hits};
 ghost use Rattle.abuf_raster.specs.Values.{values_at, AreAtMost};
@@ -12,7 +11,7 @@ ghost use Rattle.abuf_raster.specs.Setup.{IsSetup};
 ghost use Rattle.abuf_raster.specs.Walk.{hits_in_span, hits_in_tile, IsTile};
 
 use crate::pattern::Pattern;
-use crate::region::Region;
+use crate::region::{Region, region_law};
 use crate::setup::Setup;
 use crate::stepping::{Trio, changes};
 use crate::tile::{Span, Tile};
@@ -86,10 +85,10 @@ pub(crate) fn most_in_tile<V: Width>(
 /// At least as many as the pixels in which the triangle covers a sample, so that a pool needn't have more nodes than a scene
 /// can take: each pixel of the region in which no edge rejects all samples.
 pub fn most_hits(t: &ScreenTri, region: Region, pattern: Pattern) -> u32
-    requires region { IsRegion region }
     ensures bound { (prim : ℕ) → length (hits t.now prim (offsets_of pattern) region) ≤ result }
     ensures few { result ≤ region.w * region.h }
 {
+    region_law(region);
     let mut tiles = Tiles::new(t, 0, region, pattern);
     let mut most = 0;
     while !tiles.is_done() {

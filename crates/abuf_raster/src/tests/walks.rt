@@ -1,24 +1,17 @@
 // Walks against the masks of each pixel by itself.
 ghost use Rattle.std.specs.Prelude.{◌<◌};
-ghost use Rattle.abuf_raster.specs.Region.{IsRegion};
 
 use crate::{Fragment, Hit, Pattern, Region, ScreenTri, TileHits, TileWalk, mask_at, most_hits};
 use std::test::Fail;
 
-const FOUR_BY_FOUR: Region = Region {
-    x0: 0,
-    y0: 0,
-    w: 4,
-    h: 4,
-};
+fn four_by_four() -> Region {
+    Region::whole_image(4, 4)
+}
 
 // Its last tiles are 5 pixels wide and 3 high.
-const ODD: Region = Region {
-    x0: 3,
-    y0: 2,
-    w: 37,
-    h: 27,
-};
+fn odd() -> Region {
+    Region::new(3, 2, 37, 27)
+}
 
 const PATTERNS: [Pattern; 5] = [
     Pattern::One,
@@ -53,15 +46,13 @@ fn length_by_tiles(tiles: TileHits) -> u32 {
 }
 
 // The walk gives each pixel of the region that has a mask, once and with this mask, and no other.
-fn gives_the_masks(t: &ScreenTri, region: Region, pattern: Pattern) -> bool
-    requires { IsRegion region }
-{
+fn gives_the_masks(t: &ScreenTri, region: Region, pattern: Pattern) -> bool {
     let mut masks = [0; 1024];
     for hit in TileWalk::new(t, 7, region, pattern) {
-        let row = hit.y.wrapping_sub(region.y0);
-        let column = hit.x.wrapping_sub(region.x0);
-        let place = row.wrapping_mul(region.w).wrapping_add(column);
-        let is_inside = row < region.h && column < region.w;
+        let row = hit.y.wrapping_sub(region.y0());
+        let column = hit.x.wrapping_sub(region.x0());
+        let place = row.wrapping_mul(region.w()).wrapping_add(column);
+        let is_inside = row < region.h() && column < region.w();
         match masks.get_mut(place as usize) {
             Some(mask) if *mask == 0 && is_inside && hit.fragment.prim == 7 => {
                 *mask = hit.fragment.mask;
@@ -69,10 +60,10 @@ fn gives_the_masks(t: &ScreenTri, region: Region, pattern: Pattern) -> bool
             _ => return false,
         }
     }
-    for row in 0..region.h {
-        for column in 0..region.w {
-            let place = row.wrapping_mul(region.w).wrapping_add(column);
-            let want = mask_at(t, region.x0 + column, region.y0 + row, pattern);
+    for row in 0..region.h() {
+        for column in 0..region.w() {
+            let place = row.wrapping_mul(region.w()).wrapping_add(column);
+            let want = mask_at(t, region.x0() + column, region.y0() + row, pattern);
             if masks.get(place as usize) != Some(&want) {
                 return false;
             }
@@ -85,8 +76,8 @@ fn gives_the_masks(t: &ScreenTri, region: Region, pattern: Pattern) -> bool
 fn a_shared_edge_is_walked_once(rt: HostRuntime) -> Result<(), Fail> {
     let upper = ScreenTri::new([0, 1024, 0], [0, 0, 1024], [0, 0, 0]).ok_or("upper")?;
     let lower = ScreenTri::new([1024, 1024, 0], [0, 1024, 1024], [0, 0, 0]).ok_or("lower")?;
-    let upper = TileWalk::new(&upper, 0, FOUR_BY_FOUR, Pattern::One);
-    let lower = TileWalk::new(&lower, 1, FOUR_BY_FOUR, Pattern::One);
+    let upper = TileWalk::new(&upper, 0, four_by_four(), Pattern::One);
+    let lower = TileWalk::new(&lower, 1, four_by_four(), Pattern::One);
     assert_eq!(rt; length_of(upper), 6);
     assert_eq!(rt; length_of(lower), 10);
     Ok(())
@@ -95,7 +86,7 @@ fn a_shared_edge_is_walked_once(rt: HostRuntime) -> Result<(), Fail> {
 #[test]
 fn both_windings_are_drawn(rt: HostRuntime) -> Result<(), Fail> {
     let t = ScreenTri::new([0, 0, 1024], [0, 1024, 0], [0, 0, 0]).ok_or("t")?;
-    let walk = TileWalk::new(&t, 0, FOUR_BY_FOUR, Pattern::One);
+    let walk = TileWalk::new(&t, 0, four_by_four(), Pattern::One);
     assert_eq!(rt; length_of(walk), 6);
     Ok(())
 }
@@ -110,17 +101,17 @@ fn walks_over_several_tiles(rt: HostRuntime) -> Result<(), Fail> {
     let around = around.ok_or("around")?;
     let line = ScreenTri::new([0, 5000, 10000], [0, 2500, 5000], [0; 3]).ok_or("line")?;
     for pattern in PATTERNS {
-        assert!(rt; gives_the_masks(&across, ODD, pattern), "across");
-        assert!(rt; gives_the_masks(&corners, ODD, pattern), "corners");
-        assert!(rt; gives_the_masks(&sliver, ODD, pattern), "sliver");
-        assert!(rt; gives_the_masks(&around, ODD, pattern), "around");
-        assert!(rt; gives_the_masks(&line, ODD, pattern), "line");
+        assert!(rt; gives_the_masks(&across, odd(), pattern), "across");
+        assert!(rt; gives_the_masks(&corners, odd(), pattern), "corners");
+        assert!(rt; gives_the_masks(&sliver, odd(), pattern), "sliver");
+        assert!(rt; gives_the_masks(&around, odd(), pattern), "around");
+        assert!(rt; gives_the_masks(&line, odd(), pattern), "line");
     }
     assert_eq!(rt;
-        length_of(TileWalk::new(&around, 0, ODD, Pattern::One)),
+        length_of(TileWalk::new(&around, 0, odd(), Pattern::One)),
         999
     );
-    assert_eq!(rt; length_of(TileWalk::new(&line, 0, ODD, Pattern::One)), 0);
+    assert_eq!(rt; length_of(TileWalk::new(&line, 0, odd(), Pattern::One)), 0);
     Ok(())
 }
 
@@ -130,7 +121,7 @@ fn a_walk_over_a_part_of_a_vast_triangle(rt: HostRuntime) -> Result<(), Fail> {
     let far = 1 << 44;
     let vast = ScreenTri::new([-far, far, 5000], [-far, -far, 6000], [0; 3]).ok_or("vast")?;
     for pattern in PATTERNS {
-        assert!(rt; gives_the_masks(&vast, ODD, pattern));
+        assert!(rt; gives_the_masks(&vast, odd(), pattern));
     }
     Ok(())
 }
@@ -139,15 +130,15 @@ fn a_walk_over_a_part_of_a_vast_triangle(rt: HostRuntime) -> Result<(), Fail> {
 #[test]
 fn no_fewer_than_the_hits(rt: HostRuntime) -> Result<(), Fail> {
     let t = ScreenTri::new([0, 1024, 0], [0, 0, 1024], [0; 3]).ok_or("t")?;
-    let most = most_hits(&t, ODD, Pattern::One);
+    let most = most_hits(&t, odd(), Pattern::One);
     assert!(rt; most <= 2, "of the 16 pixels 2 are in the region");
-    let most = most_hits(&t, FOUR_BY_FOUR, Pattern::Eight);
+    let most = most_hits(&t, four_by_four(), Pattern::Eight);
     assert!(rt; 10 <= most && most <= 16);
     let around = ScreenTri::new([-90000, 90000, 0], [-50000, -50000, 90000], [0; 3]);
     let around = around.ok_or("around")?;
-    assert_eq!(rt; most_hits(&around, ODD, Pattern::One), 999);
+    assert_eq!(rt; most_hits(&around, odd(), Pattern::One), 999);
     let line = ScreenTri::new([0, 5000, 10000], [0, 2500, 5000], [0; 3]).ok_or("line")?;
-    assert_eq!(rt; most_hits(&line, ODD, Pattern::Sixteen), 0);
+    assert_eq!(rt; most_hits(&line, odd(), Pattern::Sixteen), 0);
     Ok(())
 }
 
@@ -157,8 +148,8 @@ fn a_triangle_outside_has_no_hits(rt: HostRuntime) -> Result<(), Fail> {
     let far = 1 << 44;
     let below = ScreenTri::new([0, 9000, 4000], [far, far, far + 9000], [0; 3]).ok_or("below")?;
     for pattern in PATTERNS {
-        assert_eq!(rt; length_of(TileWalk::new(&left, 0, ODD, pattern)), 0);
-        assert_eq!(rt; length_of(TileWalk::new(&below, 0, ODD, pattern)), 0);
+        assert_eq!(rt; length_of(TileWalk::new(&left, 0, odd(), pattern)), 0);
+        assert_eq!(rt; length_of(TileWalk::new(&below, 0, odd(), pattern)), 0);
     }
     Ok(())
 }

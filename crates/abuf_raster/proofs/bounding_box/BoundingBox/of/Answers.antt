@@ -20,13 +20,13 @@ returns c =
     let all : IsBoxOf u (offsets_of p) r (record { left = c.first_pixel-left.result; right = c.max.result; top = c.first_pixel-top.result; bottom = c.max-2.result }) = record {
       x_order = omega arith;
       y_order = omega arith;
-      x_low = low_x.low;
+      x_low = omega arith;
       x_high = omega arith;
-      y_low = low_y.low;
+      y_low = omega arith;
       y_high = omega arith;
-      left = λ i j l g. let f = low_x.before i l g in none_left u p i j (omega (arith, ints, f.0, m, c.t.invariant)) (omega (arith, ints, f.1, m, c.t.invariant)) (omega (arith, ints, f.2, m, c.t.invariant));
-      right = λ i j l g. let f = high_x.behind i (omega arith) g in none_right u p i j (omega (arith, ints, f.0, m, c.t.invariant)) (omega (arith, ints, f.1, m, c.t.invariant)) (omega (arith, ints, f.2, m, c.t.invariant));
-      above = λ i j l g. let f = low_y.before j l g in none_above u p i j (omega (arith, ints, f.0, m, c.t.invariant)) (omega (arith, ints, f.1, m, c.t.invariant)) (omega (arith, ints, f.2, m, c.t.invariant));
-      under = λ i j l g. let f = high_y.behind j (omega arith) g in none_under u p i j (omega (arith, ints, f.0, m, c.t.invariant)) (omega (arith, ints, f.1, m, c.t.invariant)) (omega (arith, ints, f.2, m, c.t.invariant));
+      left = λ i j l g. let f = low_x.before i (omega arith) g in none_left u p i j (omega (arith, ints, f.0, m, c.t.invariant)) (omega (arith, ints, f.1, m, c.t.invariant)) (omega (arith, ints, f.2, m, c.t.invariant));
+      right = λ i j l g. let f = high_x.behind i (omega arith) (omega arith) in none_right u p i j (omega (arith, ints, f.0, m, c.t.invariant)) (omega (arith, ints, f.1, m, c.t.invariant)) (omega (arith, ints, f.2, m, c.t.invariant));
+      above = λ i j l g. let f = low_y.before j (omega arith) g in none_above u p i j (omega (arith, ints, f.0, m, c.t.invariant)) (omega (arith, ints, f.1, m, c.t.invariant)) (omega (arith, ints, f.2, m, c.t.invariant));
+      under = λ i j l g. let f = high_y.behind j (omega arith) (omega arith) in none_under u p i j (omega (arith, ints, f.0, m, c.t.invariant)) (omega (arith, ints, f.1, m, c.t.invariant)) (omega (arith, ints, f.2, m, c.t.invariant));
     } in
     subst (λ (v : Triangle). IsBoxOf v (offsets_of p) r (record { left = c.first_pixel-left.result; right = c.max.result; top = c.first_pixel-top.result; bottom = c.max-2.result })) c.t.view_is all

@@ -12,7 +12,7 @@ returns-clause-within c =
     let r = c.args.region in
     let all = hits c.args.t.now c.args.prim (offsets_of c.args.pattern) r in
     All-permutation (IsHitIn r) all (hits_left c.new.result) (IsPermutation-sym (hits_left c.new.result) all c.new.ensures.hits)
-    (hits_each c.args.t.now c.args.prim (offsets_of c.args.pattern) r (omega (arith, c.requires.prim)) (offsets_few c.args.pattern) c.requires.region (r.w * r.h) 0 (omega arith))
+    (hits_each c.args.t.now c.args.prim (offsets_of c.args.pattern) r (omega (arith, c.requires)) (offsets_few c.args.pattern) c.region_law.ensures (r.w * r.h) 0 (omega arith))
 
 pub returns-clause-few : goal.returns-clause-few
 returns-clause-few c =
