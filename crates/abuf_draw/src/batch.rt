@@ -1,6 +1,5 @@
 // Items that wait for their claim.
 ghost use Rattle.std.specs.Prelude.{◌≡◌, ℕ, ◌+◌, ◌*◌, ◌<◌, ◌≤◌, List, [], ◌∷◌, ◌++◌, length, take, map, All};
-ghost use Rattle.abuf_raster.specs.Region.{IsRegion};
 ghost use Rattle.abuf_raster.specs.Hits.{IsHitIn, placed};
 
 use abuf_raster::{Hit, Region, pack};
@@ -24,14 +23,13 @@ impl Model for Batch {
 /// The place of a hit in the region, and its packed fragment.
 #[inline(always)]
 fn item(region: Region, hit: Hit) -> (u32, u64)
-    requires region { IsRegion region }
     requires within { IsHitIn region hit }
     ensures item { result ≡ placed region hit }
     ensures place { result.0 < region.w * region.h }
 {
-    let row = hit.y - region.y0;
-    let column = hit.x - region.x0;
-    (row * region.w + column, pack(hit.fragment))
+    let row = hit.y - region.y0();
+    let column = hit.x - region.x0();
+    (row * region.w() + column, pack(hit.fragment))
 }
 
 impl Batch {
@@ -63,7 +61,6 @@ impl Batch {
     /// Holds the items of these hits and no others.
     #[inline(always)]
     pub(crate) fn fill(&mut self, region: Region, hits: &[Hit])
-        requires region { IsRegion region }
         requires within { All (IsHitIn region) hits.now }
         requires few { length hits.now ≤ 64 }
         ensures items { self.new ≡ map (placed region) hits.now }

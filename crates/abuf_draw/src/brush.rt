@@ -2,7 +2,6 @@
 ghost use Rattle.std.specs.Prelude.{◌≡◌, ◌+◌, ◌*◌, ◌<◌, ◌≤◌, length, map, take, All};
 ghost use Rattle.abuf_num.specs.declared.limits.TheConstants.{MAX_PRIMITIVES};
 ghost use Rattle.abuf_raster.specs.Samples.{offsets_of};
-ghost use Rattle.abuf_raster.specs.Region.{IsRegion};
 ghost use Rattle.abuf_raster.specs.Hits.{IsHitIn, fragments, placed};
 ghost use Rattle.abuf_frame.specs.Views.{endowment, loose};
 ghost use Rattle.abuf_frame.specs.Draws.{Draws};
@@ -26,13 +25,11 @@ pub struct Brush {
     pub pattern: Pattern,
     hits: [Hit; 64],
     batch: Batch,
-    ghost is_region: { IsRegion region },
     ghost long: { length hits ≡ 64 },
 }
 
 impl Brush {
     pub fn new(region: Region, pattern: Pattern) -> Brush
-        requires { IsRegion region }
         ensures { (result.region ≡ region) × (result.pattern ≡ pattern) }
     {
         Brush {
@@ -91,7 +88,6 @@ pub fn draw(
     pattern: Pattern,
 )
     requires frame { pass.old.frame ≡ frame.now }
-    requires region { IsRegion region }
     requires prim { prim < MAX_PRIMITIVES }
     requires pixels { region.w * region.h ≤ frame.now.pixels }
     requires credit { region.w * region.h ≤ pass.old.view.credit }

@@ -13,12 +13,7 @@ fn shared_diagonal_is_drawn_once(rt: HostRuntime) -> Result<(), Fail> {
     let (Some(upper), Some(lower)) = (upper, lower) else {
         panic!(rt; "no triangle")
     };
-    let region = Region {
-        x0: 0,
-        y0: 0,
-        w: 4,
-        h: 4,
-    };
+    let region = Region::whole_image(4, 4);
     let (frame, mut pass) = Frame::start(alloc, 16, 16)?;
     draw(&frame, &mut pass, &upper, 0, region, Pattern::One);
     draw(&frame, &mut pass, &lower, 1, region, Pattern::One);

@@ -2,11 +2,11 @@ use Rattle.std.proofs.Common.{◌≡◌, ◌≤◌, ◌*◌, ◌++◌, ◌∙◌
 use Rattle.std.proofs.lemmas.List.{length-map}
 use Rattle.std.proofs.lemmas.List.Sorted.{IsPermutation-map}
 use Rattle.abuf_raster.specs.declared.region.Hit.{Hit}
-use Rattle.abuf_raster.specs.declared.region.Region.{Region}
+use Rattle.abuf_raster.specs.Region.{Region}
 use Rattle.abuf_raster.specs.Samples.{offsets_of}
 use Rattle.abuf_raster.specs.Hits.{hits, placed, fragments, IsHitIn}
 use Rattle.abuf_frame.specs.Draws.{Draws}
-use Rattle.abuf_frame.proofs.Draws.{draws_credit, draws_endowment, draws_loose}
+use Rattle.abuf_frame.proofs.Draws.{draws_credit, draws_loose}
 use Rattle.abuf_draw.proofs.Drawing.{Midway, midway_starts, midway_room, midway_more, midway_ends, midway_tile, none_left, placed_few, all_first, all_rest}
 use Rattle.abuf_draw.proofs.brush.Brush.draw.Goals as goal
 use Rattle.abuf_draw.proofs.brush.Brush.draw.Goals.{In-Some, In_default}
