@@ -1,7 +1,7 @@
 -- Bounds on how many fragments triangles have.
 use Rattle.std.proofs.Common.{◌≡◌, ℕ, ◌+◌, ◌<◌, ◌≤◌, ℤ, List, ◌++◌, length, drop, slice_index_or, ap, arith, length-append}
 use Rattle.std.proofs.lemmas.List.{length-map, drop_all}
-use Rattle.abuf_raster.specs.declared.region.Region.{Region}
+use Rattle.abuf_raster.specs.Region.{Region}
 use Rattle.abuf_raster.specs.Triangle.{Triangle}
 use Rattle.abuf_raster.specs.Hits.{all_fragments, fragments, hits, placed}
 use Rattle.abuf_fan.proofs.Parts.{next_of, all_fragments-append}

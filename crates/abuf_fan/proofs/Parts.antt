@@ -3,7 +3,7 @@ use Rattle.std.proofs.Common.{◌≡◌, ℕ, suc, ◌+◌, ◌*◌, ◌^◌, �
 use Rattle.std.proofs.Math.Seq.{drop-cons}
 use Rattle.std.proofs.Math.Nat.{mul-le-mul}
 use Rattle.std.proofs.lemmas.List.{length-map}
-use Rattle.abuf_raster.specs.declared.region.Region.{Region}
+use Rattle.abuf_raster.specs.Region.{Region}
 use Rattle.abuf_raster.specs.Triangle.{Triangle}
 use Rattle.abuf_raster.specs.Hits.{all_fragments, fragments, hits, placed}
 use Rattle.abuf_raster.proofs.Hits.{hits_few}

@@ -1,8 +1,7 @@
 -- How many fragments triangles have at most.
 use Rattle.std.specs.Prelude.{ℕ, ◌≤◌, ℤ, List, length}
 use Rattle.abuf_num.specs.declared.limits.TheConstants.{MAX_PRIMITIVES, MAX_THREADS}
-use Rattle.abuf_raster.specs.declared.region.Region.{Region}
-use Rattle.abuf_raster.specs.Region.{IsRegion}
+use Rattle.abuf_raster.specs.Region.{Region}
 use Rattle.abuf_raster.specs.Triangle.{Triangle}
 use Rattle.abuf_raster.specs.Hits.{all_fragments}
 
@@ -11,5 +10,5 @@ abbrev pub IsMost : List Triangle → List (ℤ × ℤ) → Region → ℕ → T
 IsMost ts offsets r most = (first : ℕ) → length (all_fragments ts first offsets r) ≤ most
 
 -- the limits of a count by so many threads
-abbrev pub CanCount : List Triangle → Region → ℕ → Type 0
-CanCount ts r threads = IsRegion r × (length ts ≤ MAX_PRIMITIVES) × (1 ≤ threads) × (threads ≤ MAX_THREADS)
+abbrev pub CanCount : List Triangle → ℕ → Type 0
+CanCount ts threads = (length ts ≤ MAX_PRIMITIVES) × (1 ≤ threads) × (threads ≤ MAX_THREADS)

@@ -2,7 +2,6 @@
 ghost use Rattle.std.specs.Prelude.{◌≡◌, ℕ, ◌+◌, ◌-◌, ◌*◌, ◌/◌, ◌^◌, ◌<◌, ◌≤◌, length, take, drop, OnOk, OnErr};
 ghost use Rattle.abuf_num.specs.declared.limits.TheConstants.{MAX_PRIMITIVES, MAX_THREADS};
 ghost use Rattle.abuf_raster.specs.Samples.{offsets_of};
-ghost use Rattle.abuf_raster.specs.Region.{IsRegion};
 ghost use Rattle.abuf_raster.specs.Hits.{all_fragments};
 ghost use Rattle.abuf_frame.specs.Views.{endowment, loose};
 ghost use Rattle.abuf_fan.specs.Grows.{Grows};
@@ -49,7 +48,7 @@ fn lend(work: &Work, pass: &mut Pass, left: u32, right: u32) -> Pass
     ensures right { (result.frame ≡ pass.old.frame) × (credit_for work.now right ≤ result.view.credit) }
     ensures views { Parted pass.old.view pass.new.view result.view }
 {
-    let each = work.tris.len() as u64 * (work.region.w * work.region.h) as u64;
+    let each = work.tris.len() as u64 * work.region.pixels() as u64;
     pass.split(work.frame, right as u64 * each)
 }
 
@@ -103,7 +102,6 @@ pub fn draw_all<R: Threads + Sync, G: Gate + Sync>(
     gate: &G,
 ) -> Result<(), NoMemory>
     requires frame { pass.old.frame ≡ frame.now }
-    requires region { IsRegion region }
     requires pixels { region.w * region.h ≤ frame.now.pixels }
     requires count { length tris.now ≤ MAX_PRIMITIVES }
     requires threads { (1 ≤ threads) × (threads ≤ MAX_THREADS) }

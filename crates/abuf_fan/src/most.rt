@@ -2,21 +2,20 @@
 ghost use Rattle.std.specs.Prelude.{ℕ, ◌+◌, ◌*◌, ◌<◌, ◌≤◌, IsTrue, ◌↔◌, length};
 ghost use Rattle.abuf_num.specs.declared.limits.TheConstants.{MAX_PIXELS, MAX_PRIMITIVES, MAX_THREADS};
 ghost use Rattle.abuf_raster.specs.Samples.{offsets_of};
-ghost use Rattle.abuf_raster.specs.Region.{IsRegion};
 ghost use Rattle.abuf_fan.specs.Most.{CanCount, IsMost};
 ghost use Rattle.abuf_fan.specs.declared.most.TheConstants.{LITTLE};
 ghost use denote.Param.Send.{IsSync};
 
-use abuf_raster::{Pattern, Region, ScreenTri, most_hits};
+use abuf_raster::{Pattern, Region, ScreenTri, most_hits, region_law};
 use std::thread::{Threads, join};
 
 /// The sum of what each of the triangles has at most.
 fn sum_of(tris: &[ScreenTri], region: Region, pattern: Pattern) -> u64
-    requires region { IsRegion region }
     requires few { length tris.now ≤ MAX_PRIMITIVES }
     ensures bound { IsMost tris.now (offsets_of pattern) region result }
     ensures small { result ≤ length tris.now * MAX_PIXELS }
 {
+    region_law(region);
     let mut sum = 0;
     for t in tris {
         sum += u64::from(most_hits(t, region, pattern));
@@ -29,11 +28,10 @@ const LITTLE: u64 = 4194304;
 
 /// One thread soon has asked so many triangles about the tiles of the region.
 fn is_little(count: usize, region: Region) -> bool
-    requires region { IsRegion region }
     requires few { count ≤ MAX_PRIMITIVES }
     ensures { IsTrue result ↔ (count * (region.w * region.h + 64) ≤ LITTLE) }
 {
-    count as u64 * u64::from(region.w * region.h + 64) <= LITTLE
+    count as u64 * u64::from(region.pixels() + 64) <= LITTLE
 }
 
 /// At least as many as the triangles have fragments in the region, whatever number the first of them has: the sum of what each
@@ -46,7 +44,6 @@ pub fn most_fragments<R: Threads + Sync>(
     pattern: Pattern,
     threads: u32,
 ) -> u64
-    requires region { IsRegion region }
     requires few { length tris.now ≤ MAX_PRIMITIVES }
     requires threads { (1 ≤ threads) × (threads ≤ MAX_THREADS) }
     ensures bound { IsMost tris.now (offsets_of pattern) region result }
@@ -58,16 +55,18 @@ pub fn most_fragments<R: Threads + Sync>(
     let left = threads / 2;
     let right = threads - left;
     let (front, back) = tris.split_at(tris.len() * left as usize / threads as usize);
+    // In a recursion a closure can be lent a struct with a model, and not be given it.
+    let shared = &region;
     let (before, after) = join(
         rt,
         move || -> u64
-            requires { IsSync R.row × CanCount front.now region left }
-            ensures { IsMost front.entry.now (offsets_of pattern) region result × (result ≤ length front.entry.now * MAX_PIXELS) }
-        { most_fragments(rt, front, region, pattern, left) },
+            requires { IsSync R.row × CanCount front.now left }
+            ensures { IsMost front.entry.now (offsets_of pattern) shared.entry.now result × (result ≤ length front.entry.now * MAX_PIXELS) }
+        { most_fragments(rt, front, *shared, pattern, left) },
         move || -> u64
-            requires { IsSync R.row × CanCount back.now region right }
-            ensures { IsMost back.entry.now (offsets_of pattern) region result × (result ≤ length back.entry.now * MAX_PIXELS) }
-        { most_fragments(rt, back, region, pattern, right) },
+            requires { IsSync R.row × CanCount back.now right }
+            ensures { IsMost back.entry.now (offsets_of pattern) shared.entry.now result × (result ≤ length back.entry.now * MAX_PIXELS) }
+        { most_fragments(rt, back, *shared, pattern, right) },
     );
     before + after
 }

@@ -2,7 +2,6 @@
 ghost use Rattle.std.specs.Prelude.{◌≡◌, ℕ, ◌+◌, ◌*◌, ◌≤◌, length, take, drop};
 ghost use Rattle.abuf_num.specs.declared.limits.TheConstants.{MAX_PRIMITIVES};
 ghost use Rattle.abuf_raster.specs.Samples.{offsets_of};
-ghost use Rattle.abuf_raster.specs.Region.{IsRegion};
 ghost use Rattle.abuf_raster.specs.Hits.{all_fragments};
 ghost use Rattle.abuf_frame.specs.Draws.{Draws};
 
@@ -30,7 +29,6 @@ pub(crate) fn draw_part(
     pattern: Pattern,
 )
     requires frame { pass.old.frame ≡ frame.now }
-    requires region { IsRegion region }
     requires pixels { region.w * region.h ≤ frame.now.pixels }
     requires count { first + length tris.now ≤ MAX_PRIMITIVES }
     requires credit { length tris.now * (region.w * region.h) ≤ pass.old.view.credit }

@@ -7,12 +7,9 @@ use abuf_raster::{Pattern, Region, ScreenTri};
 use std::sync::atomic::{AtomicU64, Ordering};
 use std::test::Fail;
 
-const SQUARE: Region = Region {
-    x0: 0,
-    y0: 0,
-    w: 4,
-    h: 4,
-};
+fn square() -> Region {
+    Region::whole_image(4, 4)
+}
 
 // The two halves of a square of 4 by 4 pixels, which meet along its diagonal.
 fn halves() -> Option<[ScreenTri; 2]> {
@@ -26,10 +23,10 @@ fn halves() -> Option<[ScreenTri; 2]> {
 fn no_fewer_than_the_fragments(rt: HostRuntime) -> Result<(), Fail> {
     let halves = halves().ok_or("no triangle")?;
     for threads in 1..4 {
-        let most = most_fragments(&rt, &halves, SQUARE, Pattern::One, threads);
+        let most = most_fragments(&rt, &halves, square(), Pattern::One, threads);
         assert!(rt; 16 <= most && most <= 32, "by {threads} threads");
     }
-    assert!(rt; most_fragments(&rt, &[], SQUARE, Pattern::Eight, 64) == 0);
+    assert!(rt; most_fragments(&rt, &[], square(), Pattern::Eight, 64) == 0);
     Ok(())
 }
 
@@ -52,7 +49,7 @@ fn two_workers_meet(rt: HostRuntime) -> Result<(), Fail> {
         &frame,
         &mut pass,
         &tris,
-        SQUARE,
+        square(),
         Pattern::One,
         2,
         &gate,
@@ -93,7 +90,7 @@ fn every_worker_passes_the_gate_twice(rt: HostRuntime) -> Result<(), Fail> {
             &frame,
             &mut pass,
             &tris,
-            SQUARE,
+            square(),
             Pattern::One,
             threads,
             &gate,

@@ -1,7 +1,6 @@
 // What is drawn, and by which workers.
 ghost use Rattle.std.specs.Prelude.{◌≡◌, ◌+◌, ◌-◌, ◌*◌, ◌/◌, ◌≤◌, length};
 ghost use Rattle.abuf_num.specs.declared.limits.TheConstants.{MAX_PRIMITIVES, MAX_THREADS};
-ghost use Rattle.abuf_raster.specs.Region.{IsRegion};
 ghost use Rattle.abuf_fan.specs.Parts.{parts_of};
 
 use crate::desk::Desk;
@@ -16,7 +15,6 @@ pub(crate) struct Work<'a> {
     pub(crate) tris: &'a [ScreenTri],
     pub(crate) region: Region,
     pub(crate) pattern: Pattern,
-    pub(crate) ghost is_region: { IsRegion region },
     pub(crate) ghost fits: { region.w * region.h ≤ frame.now.pixels },
     pub(crate) ghost few: { length tris.now ≤ MAX_PRIMITIVES },
     pub(crate) ghost parts: { desk.now.parts ≡ parts_of (length tris.now) },

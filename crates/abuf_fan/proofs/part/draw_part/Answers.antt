@@ -1,6 +1,6 @@
 use Rattle.std.proofs.Common.{arith, ℕ, ◌+◌, ◌*◌, ◌≤◌, ◌∙◌, List, ◌++◌, length, drop, append_assoc, sym, subst}
 use Rattle.abuf_raster.specs.declared.pattern.Pattern.{Pattern}
-use Rattle.abuf_raster.specs.declared.region.Region.{Region}
+use Rattle.abuf_raster.specs.Region.{Region}
 use Rattle.abuf_raster.specs.Triangle.{Triangle}
 use Rattle.abuf_frame.specs.Draws.{Draws}
 use Rattle.abuf_raster.specs.Samples.{offsets_of}
