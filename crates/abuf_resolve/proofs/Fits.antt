@@ -7,12 +7,11 @@ use Rattle.std.proofs.lemmas.Nat.{div-add-mod'}
 use Rattle.std.proofs.lemmas.List.Elements.{All-nil, All-cons, All-head, All-tail, All-append}
 use Rattle.std.proofs.lemmas.List.Sorted.{All-permutation, IsPermutation-sym}
 use Rattle.abuf_frame.specs.Draws.{payloads_at}
-use Rattle.abuf_raster.specs.declared.region.Region.{Region}
 use Rattle.abuf_raster.specs.Triangle.{Triangle}
 use Rattle.abuf_raster.specs.Coverage.{mask, covers}
 use Rattle.abuf_raster.specs.Hits.{hit_at, hits, placed}
 use Rattle.abuf_raster.specs.Packing.{unpacked}
-use Rattle.abuf_raster.specs.Region.{IsRegion}
+use Rattle.abuf_raster.specs.Region.{Region, IsRegion}
 use Rattle.abuf_raster.proofs.Bits.{bit_covers}
 use Rattle.abuf_raster.proofs.Masks.{mask_small}
 use Rattle.abuf_resolve.specs.Colour.{triangle_at, numbers}

@@ -6,12 +6,11 @@ use Rattle.std.proofs.lemmas.Nat.{div-add-mod'}
 use Rattle.std.proofs.lemmas.List.Elements.{filter-append}
 use Rattle.std.proofs.lemmas.List.{map-append, append-nil}
 use Rattle.abuf_raster.specs.declared.region.Hit.{Hit}
-use Rattle.abuf_raster.specs.declared.region.Region.{Region}
 use Rattle.abuf_raster.specs.Triangle.{Triangle}
 use Rattle.abuf_raster.specs.Hits.{hit_at, hits, placed, fragments, all_fragments}
 use Rattle.abuf_raster.specs.Coverage.{mask}
 use Rattle.abuf_raster.specs.Packing.{packed}
-use Rattle.abuf_raster.specs.Region.{IsRegion}
+use Rattle.abuf_raster.specs.Region.{Region, IsRegion}
 use Rattle.abuf_resolve.specs.Colour.{triangle_at, numbers}
 use Rattle.abuf_frame.specs.Draws.{payloads_at}
 

@@ -7,12 +7,11 @@ use Rattle.std.proofs.lemmas.Bool.{eqb-true}
 use Rattle.std.proofs.lemmas.List.Elements.{filter-append}
 use Rattle.abuf_num.specs.declared.plain.Paint.{Paint}
 use Rattle.abuf_frame.specs.Draws.{payloads_at}
-use Rattle.abuf_raster.specs.declared.region.Region.{Region}
 use Rattle.abuf_raster.specs.Triangle.{Triangle}
 use Rattle.abuf_raster.specs.Coverage.{covers, mask}
 use Rattle.abuf_raster.specs.Depth.{depth_key}
 use Rattle.abuf_raster.specs.Packing.{unpacked}
-use Rattle.abuf_raster.specs.Region.{IsRegion}
+use Rattle.abuf_raster.specs.Region.{Region, IsRegion}
 use Rattle.abuf_raster.proofs.Masks.{mask_small}
 use Rattle.abuf_resolve.specs.Order.{in_order}
 use Rattle.abuf_resolve.specs.Over.{layered}

@@ -4,7 +4,7 @@ use Rattle.std.specs.List.{All}
 use Rattle.std.proofs.lemmas.List.{map-append}
 use Rattle.std.proofs.lemmas.List.Elements.{All-push}
 use Rattle.abuf_num.specs.declared.plain.PixelSum.{PixelSum}
-use Rattle.abuf_raster.specs.declared.region.Region.{Region}
+use Rattle.abuf_raster.specs.Region.{Region}
 use Rattle.abuf_raster.specs.Samples.{offsets_of}
 use Rattle.abuf_resolve.specs.declared.runs.Resolved.{Resolved}
 use Rattle.abuf_resolve.specs.declared.scene.Scene.{Scene}

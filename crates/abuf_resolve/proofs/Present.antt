@@ -6,11 +6,10 @@ use Rattle.std.proofs.lemmas.List.{get_or-map, length-map}
 use Rattle.std.proofs.lemmas.List.Elements.{All-cons, All-head, All-tail}
 use Rattle.std.proofs.lemmas.List.FromFn.{fill_by_all, length-range_with_len}
 use Rattle.abuf_frame.specs.Draws.{payloads_at}
-use Rattle.abuf_raster.specs.declared.region.Region.{Region}
 use Rattle.abuf_raster.specs.Triangle.{Triangle}
 use Rattle.abuf_raster.specs.Coverage.{mask}
 use Rattle.abuf_raster.specs.Packing.{unpacked}
-use Rattle.abuf_raster.specs.Region.{IsRegion}
+use Rattle.abuf_raster.specs.Region.{Region, IsRegion}
 use Rattle.abuf_raster.proofs.Masks.{mask_small}
 use Rattle.abuf_resolve.specs.Order.{put_in_order, in_order}
 use Rattle.abuf_resolve.specs.Colour.{triangle_at, numbers}

@@ -6,8 +6,7 @@ use Rattle.std.proofs.lemmas.List.Sorted.{sum_by-IsPermutation}
 use Rattle.std.specs.List.Sorted.{IsPermutation}
 use Rattle.abuf_num.specs.declared.plain.Paint.{Paint}
 use Rattle.abuf_frame.specs.Draws.{payloads_at}
-use Rattle.abuf_raster.specs.declared.region.Region.{Region}
-use Rattle.abuf_raster.specs.Region.{IsRegion}
+use Rattle.abuf_raster.specs.Region.{Region, IsRegion}
 use Rattle.abuf_raster.specs.Triangle.{Triangle}
 use Rattle.abuf_resolve.specs.Colour.{colour}
 use Rattle.abuf_resolve.specs.Sums.{plus, summed, sums_at, region_sums}

@@ -2,7 +2,7 @@
 use Rattle.std.specs.Prelude.{◌≡◌, ℕ, ◌+◌, ◌-◌, ◌*◌, ◌/◌, ◌%◌, ◌<◌, min, List, [], length, map, get_or, slice_index_or, Result, IfOk}
 use Rattle.std.specs.List.{range_with_len, All}
 use Rattle.abuf_frame.specs.Closing.{Ended, list_at}
-use Rattle.abuf_raster.specs.declared.region.Region.{Region}
+use Rattle.abuf_raster.specs.Region.{Region}
 use Rattle.abuf_raster.specs.Samples.{offsets_of}
 use Rattle.abuf_resolve.specs.declared.runs.Offset.{Offset}
 use Rattle.abuf_resolve.specs.declared.runs.Resolved.{Resolved}

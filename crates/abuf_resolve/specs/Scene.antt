@@ -3,7 +3,7 @@ use Rattle.std.specs.Prelude.{◌≡◌, ℕ, ◌+◌, ◌/◌, ◌%◌, ◌<◌
 use Rattle.std.specs.List.{fold}
 use Rattle.std.specs.List.Sorted.{IsNonDecreasing}
 use Rattle.abuf_num.specs.declared.plain.PixelSum.{PixelSum}
-use Rattle.abuf_raster.specs.declared.region.Region.{Region}
+use Rattle.abuf_raster.specs.Region.{Region}
 use Rattle.abuf_raster.specs.Samples.{offsets_of}
 use Rattle.abuf_resolve.specs.declared.bounded.Bounded.{Bounded}
 use Rattle.abuf_resolve.specs.declared.scene.Pixel.{Pixel}

@@ -5,7 +5,7 @@ use Rattle.std.specs.List.{filter, range_with_len, All}
 use Rattle.abuf_num.specs.declared.plain.Paint.{Paint}
 use Rattle.abuf_num.specs.declared.plain.PixelSum.{PixelSum}
 use Rattle.abuf_frame.specs.Draws.{payloads_at}
-use Rattle.abuf_raster.specs.declared.region.Region.{Region}
+use Rattle.abuf_raster.specs.Region.{Region}
 use Rattle.abuf_raster.specs.Triangle.{Triangle}
 use Rattle.abuf_raster.specs.Coverage.{covers}
 use Rattle.abuf_raster.specs.Depth.{depth_key}

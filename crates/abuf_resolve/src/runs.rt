@@ -1,7 +1,6 @@
 // The sums of one worker's pixels.
 ghost use Rattle.std.specs.Prelude.{◌≡◌, ◌-◌, ◌*◌, ◌%◌, ◌++◌, ◌∷◌, [], ◌<◌, ◌≤◌, max, length, map, vec_items, IfOk, OnOk};
 ghost use Rattle.std.specs.List.{All};
-ghost use Rattle.abuf_raster.specs.Region.{IsRegion};
 ghost use Rattle.abuf_raster.specs.Samples.{offsets_of};
 ghost use Rattle.abuf_resolve.specs.Laws.{x_at, y_at};
 ghost use Rattle.abuf_resolve.specs.Parts.{HoldEight, IsOffset, IsPart};
@@ -101,7 +100,6 @@ impl<'a, 'b> Scene<'a, 'b> {
         offset: Offset,
         list: &[u64],
     ) -> Result<PixelSum, NoMemory>
-        requires region { IsRegion region }
         requires place { place < region.w * region.h }
         requires offset { IsOffset region.w place offset }
         requires words { All (IsFragmentAt (offsets_of self.now.pattern) self.now.planes (x_at region place) (y_at region place)) list.now }
@@ -109,8 +107,8 @@ impl<'a, 'b> Scene<'a, 'b> {
         ensures small { IfOk result (λ sum. IsSmall (length (offsets_of self.now.pattern)) sum) }
     {
         let at = Pixel {
-            x: region.x0 + offset.column,
-            y: region.y0 + offset.row,
+            x: region.x0() + offset.column,
+            y: region.y0() + offset.row,
         };
         self.pixel_sum(buffers, list, at)
     }
@@ -123,7 +121,6 @@ impl<'a, 'b> Scene<'a, 'b> {
         region: Region,
         share: Share,
     ) -> Result<Resolved, NoMemory>
-        requires region { IsRegion region }
         requires pixels { length closed.now.lists ≡ region.w * region.h }
         requires words { AreFragmentLists (offsets_of self.now.pattern) self.now.planes region closed.now.lists }
         ensures { IfOk result (λ part. IsPart self.now region closed.now.lists (places_of (region.w * region.h) share.threads share.worker) part) }
@@ -148,7 +145,7 @@ impl<'a, 'b> Scene<'a, 'b> {
             let place = share.place(i);
             hold_eight(closed, &mut lists, place, i)?;
             let list = lists[(i % 8) as usize].as_slice();
-            let here = offset_at(region.w, place, i, offset);
+            let here = offset_at(region.w(), place, i, offset);
             offset = here;
             let sum = self.place_sum(&mut buffers, region, place, offset, list)?;
             part.push(sum, list.len())?;

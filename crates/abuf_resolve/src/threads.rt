@@ -2,7 +2,6 @@
 ghost use Rattle.std.specs.Prelude.{◌≡◌, ◌*◌, ◌<◌, ◌≤◌, length, map, Ok, IfOk};
 ghost use Rattle.std.specs.List.{range_with_len, All};
 ghost use Rattle.abuf_num.specs.declared.limits.TheConstants.{MAX_PIXELS, MAX_PRIMITIVES, MAX_THREADS};
-ghost use Rattle.abuf_raster.specs.Region.{IsRegion};
 ghost use Rattle.abuf_raster.specs.Samples.{offsets_of};
 ghost use Rattle.abuf_resolve.specs.Parts.{AreOfBlock, AreParts, HaveAll, IsPart, joined, longest_in, sums_in};
 ghost use Rattle.abuf_resolve.specs.Scene.{sums_of};
@@ -79,7 +78,6 @@ impl<'a, 'b> Scene<'a, 'b> {
         region: Region,
         parts: Vec<Result<Resolved, NoMemory>>,
     ) -> Result<Resolved, NoMemory>
-        requires region { IsRegion region }
         requires pixels { length closed.now.lists ≡ region.w * region.h }
         requires workers { (1 ≤ length parts.items) × (length parts.items ≤ MAX_THREADS) }
         requires parts { AreParts self.now region closed.now.lists parts.items }
@@ -111,7 +109,6 @@ pub fn resolve<R: Threads + Sync>(
 ) -> Result<List<PixelSum>, NoMemory>
     requires not_full { closed.now.fragments ≤ closed.now.nodes }
     requires threads { (1 ≤ threads) × (threads ≤ MAX_THREADS) }
-    requires region { IsRegion region }
     requires pixels { length closed.now.lists ≡ region.w * region.h }
     requires few { length tris.now ≤ MAX_PRIMITIVES }
     requires paints { length paints.now ≡ length tris.now }
@@ -141,7 +138,6 @@ pub fn resolve_counted<R: Threads + Sync>(
 ) -> Result<Resolved, NoMemory>
     requires not_full { closed.now.fragments ≤ closed.now.nodes }
     requires threads { (1 ≤ threads) × (threads ≤ MAX_THREADS) }
-    requires region { IsRegion region }
     requires pixels { length closed.now.lists ≡ region.w * region.h }
     requires words { AreFragmentLists (offsets_of scene.now.pattern) scene.now.planes region closed.now.lists }
     ensures value { IfOk result (λ all. all.sums ≡ sums_of scene.now region closed.now.lists) }

@@ -3,7 +3,6 @@ ghost use Rattle.std.specs.Prelude.{◌≡◌, ◌*◌, ◌≤◌, ◌<◌, true
 ghost use Rattle.std.specs.List.{All};
 ghost use Rattle.abuf_raster.specs.Samples.{offsets_of};
 ghost use Rattle.abuf_raster.specs.Coverage.{covers};
-ghost use Rattle.abuf_raster.specs.Region.{IsRegion};
 ghost use Rattle.abuf_resolve.specs.Words.{IsFragmentAt, AreFragmentLists};
 
 use crate::{Planes, Resolved, Scene, over, resolve, resolve_counted};
@@ -23,19 +22,9 @@ const PATTERNS: [Pattern; 5] = [
 ];
 
 /// Nine columns and three rows, away from the corner.
-const REGION: Region = Region {
-    x0: 2,
-    y0: 1,
-    w: 9,
-    h: 3,
-};
-
-const ONE_PIXEL: Region = Region {
-    x0: 0,
-    y0: 0,
-    w: 1,
-    h: 1,
-};
+fn nine_by_three() -> Region {
+    Region::new(2, 1, 9, 3)
+}
 
 const WHITE: [u16; 3] = [65535, 65535, 65535];
 
@@ -118,14 +107,13 @@ fn fragments_of(
     region: Region,
 ) -> Result<Vec<(u32, u64)>, NoMemory>
     requires few { length tris.now ≤ 64 }
-    requires region { IsRegion region }
     ensures { IfOk result (λ items. All (λ item. item.0 < region.w * region.h) items.items) }
 {
     let mut items = Vec::new(alloc);
     for n in (0..tris.len()).rev() {
-        for place in 0..region.w * region.h {
-            let x = region.x0 + place % region.w;
-            let y = region.y0 + place / region.w;
+        for place in 0..region.pixels() {
+            let x = region.x0() + place % region.w();
+            let y = region.y0() + place / region.w();
             let mask = mask_at(&tris[n], x, y, pattern);
             if mask != 0 {
                 let prim = n as u32;
@@ -138,14 +126,13 @@ fn fragments_of(
 
 // A closed frame of the region with these fragments.
 fn frame_of(alloc: Global, items: &[(u32, u64)], region: Region) -> Result<Closed, Fail>
-    requires region { IsRegion region }
     requires items { All (λ item. item.0 < region.w * region.h) items.now }
     ensures { IfOk result (λ closed. (length closed.lists ≡ region.w * region.h) × (closed.fragments ≤ closed.nodes)) }
 {
     if items.len() > 4096 {
         return Err("too many".into());
     }
-    let (frame, mut pass) = Frame::start(alloc, region.w * region.h, 4096)?;
+    let (frame, mut pass) = Frame::start(alloc, region.pixels(), 4096)?;
     pass.insert_all(&frame, items);
     let closed = frame.close(pass);
     if closed.full().is_some() {
@@ -192,13 +179,12 @@ fn holds_fragments(
     region: Region,
     pattern: Pattern,
 ) -> Result<bool, NoMemory>
-    requires region { IsRegion region }
     requires pixels { length closed.now.lists ≡ region.w * region.h }
     ensures { IfOk result (λ b. b ≡ true → AreFragmentLists (offsets_of pattern) tris.now region closed.now.lists) }
 {
     for place in 0..closed.pixels() {
-        let x = region.x0 + place % region.w;
-        let y = region.y0 + place / region.w;
+        let x = region.x0() + place % region.w();
+        let y = region.y0() + place / region.w();
         let list = closed.list(alloc, place)?;
         if !are_fragments(tris, list.as_slice(), x, y, pattern) {
             return Ok(false);
@@ -223,7 +209,6 @@ fn resolved<R: Threads + Sync>(
     case: &Case,
     threads: u32,
 ) -> Result<Resolved, Fail>
-    requires region { IsRegion case.now.region }
     requires threads { (1 ≤ threads) × (threads ≤ 64) }
 {
     let Case {
@@ -268,7 +253,7 @@ fn sums_of_two<R: Threads + Sync>(
         tris,
         paints,
         pattern,
-        region: ONE_PIXEL,
+        region: Region::whole_image(1, 1),
     };
     let all = resolved(rt, alloc, &case, 2)?;
     match all.sums.as_slice().first() {
@@ -331,7 +316,7 @@ fn sums_are_those_of_the_triangles(rt: HostRuntime) -> Result<(), Fail> {
             tris: &tris,
             paints: &paints,
             pattern,
-            region: REGION,
+            region: nine_by_three(),
         };
         let one = resolved(&rt, rt.alloc(), &case, 1)?;
         let three = resolved(&rt, rt.alloc(), &case, 3)?;
@@ -355,12 +340,7 @@ fn pixels_without_fragments(rt: HostRuntime) -> Result<(), Fail> {
         tris: &[],
         paints: &[],
         pattern: Pattern::Sixteen,
-        region: Region {
-            x0: 0,
-            y0: 0,
-            w: 41,
-            h: 9,
-        },
+        region: Region::whole_image(41, 9),
     };
     for threads in 1..9 {
         let all = resolved(&rt, rt.alloc(), &case, threads)?;

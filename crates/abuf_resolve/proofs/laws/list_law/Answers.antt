@@ -15,5 +15,5 @@ returns c = λ background paints.
     let same = all_fragments_are os c.args.triangles.now c.args.region in
     let words = subst (λ (es : List (ℕ × ℕ)). IsPermutation c.args.words.now (payloads_at c.args.place es)) same c.requires.words in
     list_in_order os background c.args.triangles.now paints c.args.region c.args.place c.args.sample c.args.words.now
-    (offsets_few c.args.pattern) c.requires.sample (omega arith) c.requires.region c.requires.place
+    (offsets_few c.args.pattern) c.requires.sample (omega arith) c.region_law.ensures c.requires.place
     (Alike-permutation (payloads_at c.args.place (all_hits os c.args.triangles.now c.args.region)) c.args.words.now (IsPermutation-sym _ _ words))

@@ -22,17 +22,17 @@ returns c =
     let limit : length tris ≤ 2 ^ 24 = omega arith in
     let are = subst (λ (es : List (ℕ × ℕ)). AreWordsAt es p words) (all_fragments_are os tris r) c.requires.words in
     let alike = Alike-drawn (all_hits os tris r) are.entries words p are.drawn are.here in
-    let count : length words ≡ length (present os tris (r.x0 + p % r.w) (r.y0 + p / r.w)) = count_is os tris r p words few limit c.requires.region c.requires.place alike in
-    let fit = words_fit tris limit os few r c.requires.region p words are in
+    let count : length words ≡ length (present os tris (r.x0 + p % r.w) (r.y0 + p / r.w)) = count_is os tris r p words few limit c.region_law.ensures c.requires.place alike in
+    let fit = words_fit tris limit os few r c.region_law.ensures p words are in
     let x : ℕ = r.x0 + p % r.w in
     let y : ℕ = r.y0 + p / r.w in
     record {
-      fragments = pixel_is os tris r p words few limit c.requires.region c.requires.place are;
+      fragments = pixel_is os tris r p words few limit c.region_law.ensures c.requires.place are;
       count = count;
       most = omega (arith, count, present_few os tris (r.x0 + p % r.w) (r.y0 + p / r.w));
-      layers = λ k l. layers_are os tris r p k words few l limit c.requires.region c.requires.place alike;
+      layers = λ k l. layers_are os tris r p k words few l limit c.region_law.ensures c.requires.place alike;
       told = λ k l.
-          ap (map layer_of) (layers_are os tris r p k words few l limit c.requires.region c.requires.place alike)
+          ap (map layer_of) (layers_are os tris r p k words few l limit c.region_law.ensures c.requires.place alike)
           ∙ told_are tris os few x y k l (layers os tris x y k) (layers_below tris os few x y k l limit);
       fit = fit;
       ordered_fit = All-in_order (IsFragmentAt os tris (r.x0 + p % r.w) (r.y0 + p / r.w)) nat_lt words fit;

@@ -77,6 +77,6 @@ loop-i-preserved c =
       last = λ h.
           let next : place_at share.threads share.worker (i + 1) ≡ place + 1 = omega (arith, beside share.threads share.worker i h, c.place-place.ensures) in
           let back : place_at share.threads share.worker (i + 1) - 1 ≡ place = omega (arith, next) in
-          (omega (arith, next), rw back c.offset_at-here.ensures);
+          (omega (arith, next), rw (back, ← c.w.ensures.value) c.offset_at-here.ensures);
       eight = c.hold_eight.ensures.length;
     }
