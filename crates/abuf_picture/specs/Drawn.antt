@@ -8,7 +8,7 @@ use Rattle.abuf_frame.specs.Views.{IsSettled, IsWhole}
 use Rattle.abuf_frame.specs.declared.look.Look.{Look}
 use Rattle.abuf_frame.specs.declared.look.Look.TheVariants as look
 use Rattle.abuf_raster.specs.declared.pattern.Pattern.{Pattern}
-use Rattle.abuf_raster.specs.declared.region.Region.{Region}
+use Rattle.abuf_raster.specs.Region.{Region}
 use Rattle.abuf_raster.specs.Triangle.{Triangle}
 use Rattle.abuf_resolve.specs.Words.{AreWordsAt}
 use Rattle.abuf_picture.specs.Picture.{IsFrameOf, fragments, total}

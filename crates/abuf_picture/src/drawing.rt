@@ -29,10 +29,10 @@ pub(crate) fn draw_pass<R: Threads + Sync, G: Gate + Sync>(
     rt: &R,
     alloc: Global,
     primitives: &Primitives,
-    target: Target,
+    target: &Target,
     gate: &G,
 ) -> Result<(Frame, Pass), NoMemory>
-    ensures { IfOk result (λ p. IsDrawn primitives.now.triangles.now target.pattern target.region target.nodes p.0 p.1) }
+    ensures { IfOk result (λ p. IsDrawn primitives.now.triangles.now target.now.pattern target.now.region target.now.nodes p.0 p.1) }
 {
     let Target {
         region,
@@ -40,9 +40,9 @@ pub(crate) fn draw_pass<R: Threads + Sync, G: Gate + Sync>(
         nodes,
         threads,
         ..
-    } = target;
+    } = *target;
     let most = most_fragments(rt, primitives.triangles, region, pattern, threads);
-    let (frame, mut pass) = Frame::start(alloc, region.w * region.h, nodes_for(most, nodes))?;
+    let (frame, mut pass) = Frame::start(alloc, region.pixels(), nodes_for(most, nodes))?;
     let drawn = draw_all(
         rt,
         alloc,
@@ -66,13 +66,13 @@ pub(crate) fn draw_pass<R: Threads + Sync, G: Gate + Sync>(
 /// Closes the frame of a drawing, as one of the target's nodes.
 pub(crate) fn close_drawn(
     primitives: &Primitives,
-    target: Target,
+    target: &Target,
     frame: Frame,
     pass: Pass,
 ) -> Closed
-    requires { IsDrawn primitives.now.triangles.now target.pattern target.region target.nodes frame pass }
-    ensures frame { IsFrameOf primitives.now.triangles.now target.pattern target.region target.nodes result }
-    ensures kept { total primitives.now.triangles.now target.pattern target.region ≤ target.nodes → lost pass.view.entries ≡ 0 }
+    requires { IsDrawn primitives.now.triangles.now target.now.pattern target.now.region target.now.nodes frame pass }
+    ensures frame { IsFrameOf primitives.now.triangles.now target.now.pattern target.now.region target.now.nodes result }
+    ensures kept { total primitives.now.triangles.now target.now.pattern target.now.region ≤ target.now.nodes → lost pass.view.entries ≡ 0 }
 {
     let closed = frame.close(pass);
     match closed.full() {
@@ -87,10 +87,10 @@ pub fn draw<R: Threads + Sync, G: Gate + Sync>(
     rt: &R,
     alloc: Global,
     primitives: &Primitives,
-    target: Target,
+    target: &Target,
     gate: &G,
 ) -> Result<Closed, NoMemory>
-    ensures { IfOk result (IsFrameOf primitives.now.triangles.now target.pattern target.region target.nodes) }
+    ensures { IfOk result (IsFrameOf primitives.now.triangles.now target.now.pattern target.now.region target.now.nodes) }
 {
     let (frame, pass) = draw_pass(rt, alloc, primitives, target, gate)?;
     Ok(close_drawn(primitives, target, frame, pass))

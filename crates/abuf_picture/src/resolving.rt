@@ -21,15 +21,16 @@ pub fn resolve_drawn<R: Threads + Sync>(
     rt: &R,
     alloc: Global,
     primitives: &Primitives,
-    target: Target,
+    target: &Target,
     closed: &Closed,
 ) -> Result<Resolved, NoMemory>
-    requires frame { IsFrameOf primitives.now.triangles.now target.pattern target.region target.nodes closed.now }
+    requires frame { IsFrameOf primitives.now.triangles.now target.now.pattern target.now.region target.now.nodes closed.now }
     requires not_full { closed.now.fragments ≤ closed.now.nodes }
     ensures sums { IfOk result
-        (λ all. all.sums ≡ region_sums (offsets_of target.pattern) target.background primitives.now.triangles.now primitives.now.paints.now target.region) }
-    ensures small { IfOk result (λ all. All (IsSmall (length (offsets_of target.pattern))) all.sums) }
-    ensures longest { IfOk result (λ all. all.longest ≡ longest primitives.now.triangles.now target.pattern target.region) }
+        (λ all. all.sums ≡ region_sums (offsets_of target.now.pattern) target.now.background primitives.now.triangles.now primitives.now.paints.now
+        target.now.region) }
+    ensures small { IfOk result (λ all. All (IsSmall (length (offsets_of target.now.pattern))) all.sums) }
+    ensures longest { IfOk result (λ all. all.longest ≡ longest primitives.now.triangles.now target.now.pattern target.now.region) }
 {
     let triangles = primitives.triangles;
     let paints = primitives.paints;
@@ -39,7 +40,7 @@ pub fn resolve_drawn<R: Threads + Sync>(
         background,
         threads,
         ..
-    } = target;
+    } = *target;
     words_law(closed, triangles, pattern, region);
     sums_law(closed, triangles, paints, pattern, background, region);
     lengths_law(closed, triangles, pattern, region);

@@ -40,12 +40,13 @@ pub fn draw_and_look<R: Threads + Sync, G: Gate + Sync>(
     rt: &R,
     alloc: Global,
     primitives: &Primitives,
-    target: Target,
+    target: &Target,
     place: u32,
     gate: &G,
 ) -> Result<Sight, NoMemory>
-    requires { place < target.region.w * target.region.h }
-    ensures { IfOk result (λ s. IsSightOf primitives.now.triangles.now target.pattern target.region target.nodes place s.entries s.words.items s.closed) }
+    requires { place < target.now.region.w * target.now.region.h }
+    ensures { IfOk result
+        (λ s. IsSightOf primitives.now.triangles.now target.now.pattern target.now.region target.now.nodes place s.entries s.words.items s.closed) }
 {
     one_each_law(primitives.triangles, target.pattern, target.region, place);
     let mut words = vec![in alloc; 0; primitives.triangles.len()]?;

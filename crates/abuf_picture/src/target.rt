@@ -1,7 +1,6 @@
 // What is drawn into.
 ghost use Rattle.std.specs.Prelude.{◌≤◌};
 ghost use Rattle.abuf_num.specs.declared.limits.TheConstants.{MAX_NODES, MAX_THREADS};
-ghost use Rattle.abuf_raster.specs.Region.{IsRegion};
 
 use abuf_raster::{Pattern, Region};
 
@@ -17,7 +16,6 @@ pub struct Target {
     pub nodes: u32,
     /// The number of threads that draw and resolve, from 1 to `MAX_THREADS`.
     pub threads: u32,
-    pub ghost is_region: { IsRegion region },
     pub ghost nodes_within: { (1 ≤ nodes) × (nodes ≤ MAX_NODES) },
     pub ghost threads_within: { (1 ≤ threads) × (threads ≤ MAX_THREADS) },
 }

@@ -28,14 +28,14 @@ fn a_square_is_drawn_looked_at_and_resolved(rt: HostRuntime) -> Result<(), Fail>
         nodes: 16,
         threads: 2,
     };
-    let closed = draw(&rt, alloc, &primitives, target, &OpenGate)?;
+    let closed = draw(&rt, alloc, &primitives, &target, &OpenGate)?;
     assert_eq!(rt; closed.fragments(), 16);
-    let sums = resolve_drawn(&rt, alloc, &primitives, target, &closed)?;
+    let sums = resolve_drawn(&rt, alloc, &primitives, &target, &closed)?;
     assert_eq!(rt; sums.longest, 1);
     for sum in sums.sums.as_slice() {
         assert_eq!(rt; sum.channels, [65535; 3]);
     }
-    let sight = draw_and_look(&rt, alloc, &primitives, target, 0, &OpenGate)?;
+    let sight = draw_and_look(&rt, alloc, &primitives, &target, 0, &OpenGate)?;
     assert_eq!(rt; sight.entries, 16);
     assert_eq!(rt; sight.words.len(), 1);
     Ok(())

@@ -5,7 +5,7 @@ use Rattle.abuf_picture.proofs.drawing.draw_pass.Goals as goal
 
 pub draw_all-drawn-requires-clause-credit : goal.draw_all-drawn-requires-clause-credit
 draw_all-drawn-requires-clause-credit g c κs within =
-    let t = c.args.target in
+    let t = c.args.target.now in
     let p = c.args.primitives.now in
     let credit : c.in_ok-frame.pass.view.credit ≡ 2 ^ 60 = ap (λ (v : View). v.credit) c.in_ok-frame.ensures.3 in
-    omega (arith, credit, enough t.threads (length p.triangles.now) t.region.w t.region.h t.threads_within.1 p.few t.is_region.not_large)
+    omega (arith, credit, enough t.threads (length p.triangles.now) t.region.w t.region.h t.threads_within.1 p.few c.pixels.ensures.region.not_large)

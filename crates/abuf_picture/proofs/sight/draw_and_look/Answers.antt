@@ -12,7 +12,7 @@ use Rattle.abuf_picture.proofs.sight.draw_and_look.Goals as goal
 
 pub returns : goal.returns
 returns g c =
-    let all = fragments c.args.primitives.now.triangles.now c.args.target.pattern c.args.target.region in
+    let all = fragments c.args.primitives.now.triangles.now c.args.target.now.pattern c.args.target.now.region in
     let place : ℕ = c.args.place in
     let drawn = c.in_ok-frame.ensures in
     let counted : View = c.count-entries.new.self.view in
