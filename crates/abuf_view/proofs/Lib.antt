@@ -6,3 +6,4 @@ pub mod Ring
 pub mod Quotients
 pub mod Fans
 pub mod Together
+pub mod Tables

@@ -7,11 +7,13 @@ mod faces;
 pub mod laws;
 mod near_plane;
 mod point;
+mod point_table;
 mod projection;
 mod quaternion;
 mod quotient;
 mod runs;
 mod screen;
+mod short_points;
 #[cfg(test)]
 mod tests;
 mod threads;

@@ -48,7 +48,7 @@ pub struct NearPlane {
 
 impl NearPlane {
     /// The point is at the near plane or behind it, as the camera looks.
-    fn is_inside(self, s: EyePoint) -> bool
+    pub fn is_inside(self, s: EyePoint) -> bool
         ensures value { result ≡ is_inside self.w s }
         ensures inside { IsTrue result ↔ self.w ≤ℤ s.w }
     {

@@ -1,9 +1,7 @@
 // A scene's triangles on the screen.
 ghost use Rattle.std.specs.Prelude.{◌≡◌, ◌≤◌, ◌++◌, All, map, length, option_to_list, OnOk, IfOk, IfSome};
-ghost use Rattle.abuf_view.specs.Camera.{IsBounded, point_of};
 ghost use Rattle.abuf_view.specs.NearPlane.{IsInFront};
 ghost use Rattle.abuf_view.specs.Eye.{IsEye, clipped_by, shown_by};
-ghost use Rattle.abuf_obj.specs.Sound.{IsInRange};
 ghost use Rattle.abuf_scene.specs.Triangles.{IsTriangleInRange};
 ghost use Rattle.abuf_view.specs.Primitives.{prims};
 ghost use Rattle.abuf_num.specs.declared.limits.TheConstants.{MAX_PRIMITIVES, MAX_TRIANGLES};
@@ -11,7 +9,7 @@ ghost use Rattle.abuf_num.specs.declared.limits.TheConstants.{MAX_PRIMITIVES, MA
 use crate::camera::Camera;
 use crate::eye::Eye;
 use crate::near_plane::{EyeTriangle, clip};
-use crate::point::Point3;
+use crate::point::to_point;
 use crate::screen::on_screen;
 use abuf_num::{List, NoMemory, Paint};
 use abuf_raster::ScreenTri;
@@ -25,18 +23,6 @@ pub struct Projected {
     /// Corners in 1/256 pixel, and depth values from 0 to 16777215, which is at the near plane.
     pub tris: List<ScreenTri>,
     pub paints: List<Paint>,
-}
-
-fn to_point(point: [i64; 3]) -> Point3
-    requires { IsInRange point }
-    ensures value { result ≡ point_of point }
-    ensures range { IsBounded result }
-{
-    Point3 {
-        x: point[0],
-        y: point[1],
-        z: point[2],
-    }
 }
 
 impl Projected {

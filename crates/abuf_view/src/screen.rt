@@ -160,15 +160,15 @@ fn depth_value(near_plane: NearPlane, s: EyePoint, reciprocal: u64) -> u32
     }
 }
 
-// A corner on the screen.
+/// A point on the screen, and its depth value.
 #[derive(Clone, Copy)]
-struct ScreenPoint {
-    place: Point,
-    depth: u32,
+pub struct ScreenPoint {
+    pub place: Point,
+    pub depth: u32,
 }
 
-// The corner that the camera sees there. What is divided by its w takes one reciprocal.
-fn corner(screen: Screen, near_plane: NearPlane, s: EyePoint) -> ScreenPoint
+/// The point that the camera sees there. What is divided by its w takes one reciprocal.
+pub fn corner(screen: Screen, near_plane: NearPlane, s: EyePoint) -> ScreenPoint
     requires near_plane { IsNearPlane near_plane.norm near_plane.w }
     requires width { screen.width ≤ MAX_SIDE }
     requires height { screen.height ≤ MAX_SIDE }

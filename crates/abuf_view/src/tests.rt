@@ -4,6 +4,7 @@ ghost use Rattle.abuf_obj.specs.Sound.{IsInRange};
 ghost use Rattle.abuf_scene.specs.Triangles.{IsTriangleInRange};
 ghost use Rattle.abuf_raster.specs.Region.{IsRegion};
 
+use crate::point_table::PointTable;
 use crate::threads::{all_faces, faces_per_run};
 use crate::{Camera, Projected, project, project_faces};
 use abuf_mtl::{Materials, read_mtl};
@@ -260,7 +261,12 @@ fn seen_in_runs<R: Threads + Sync>(
         return None;
     }
     match read_obj(alloc, FIVE) {
-        Ok(obj) => Some(all_faces(rt, alloc, &camera.eye(), &obj, &materials, per_run)),
+        Ok(obj) => {
+            match PointTable::new(rt, alloc, camera.eye(), obj.points.as_slice(), 5, 3) {
+                Ok(table) => Some(all_faces(rt, alloc, &table, &obj, &materials, per_run)),
+                Err(_) => None,
+            }
+        }
         Err(_) => None,
     }
 }

@@ -5,13 +5,13 @@ ghost use Rattle.abuf_obj.specs.Sound.{IsScene};
 ghost use Rattle.abuf_mtl.specs.StandsFor.{StandsFor};
 ghost use Rattle.abuf_scene.specs.Triangles.{triangles_by, unknown_by, triangles, unknown, Tells};
 ghost use Rattle.abuf_scene.specs.Lookup.{look_up};
-ghost use Rattle.abuf_view.specs.Eye.{IsEye, tris_by, paints_by};
+ghost use Rattle.abuf_view.specs.Eye.{tris_by, paints_by};
 ghost use Rattle.abuf_view.specs.Primitives.{prims, HasTriangles, HasPaints};
 ghost use Rattle.abuf_view.specs.Runs.{AreRuns};
 
 use crate::camera::Camera;
-use crate::eye::Eye;
 use crate::faces::project_run;
+use crate::point_table::PointTable;
 use crate::projection::Projected;
 use crate::runs::put_together;
 use abuf_mtl::Materials;
@@ -42,49 +42,49 @@ pub fn faces_per_run(faces: usize, least: usize, threads: u32) -> usize
 fn project_runs<R: Threads + Sync>(
     rt: &R,
     alloc: Global,
-    eye: &Eye,
+    table: &PointTable,
     obj: &Obj,
     materials: &Materials,
     per_run: usize,
 ) -> Result<Vec<Result<Projected, SceneFault>>, NoMemory>
-    requires eye { IsEye eye.now }
+    requires points { table.now.points.now ≡ obj.now.points }
     requires scene { IsScene obj.now }
     requires per_run { 1 ≤ per_run }
-    ensures { IfOk result (λ runs. AreRuns (look_up materials.now) obj.now eye.now per_run obj.now.faces runs.items) }
+    ensures { IfOk result (λ runs. AreRuns (look_up materials.now) obj.now table.now.eye per_run obj.now.faces runs.items) }
 {
     let runs = map_chunks(
         rt,
         alloc,
         obj.faces.as_slice(),
         per_run,
-        &|_, run| project_run(alloc, eye, obj, materials, run),
+        &|_, run| project_run(alloc, table, obj, materials, run),
     )?;
     Ok(runs)
 }
 
-// The primitives of all faces as the eye sees them, by the paints that the materials have. Where one run of so many faces has all
-// of them, no thread is started.
+// The primitives of all faces as the eye of the table sees them, by the paints that the materials have. Where one run of so many
+// faces has all of them, no thread is started.
 pub fn all_faces<R: Threads + Sync>(
     rt: &R,
     alloc: Global,
-    eye: &Eye,
+    table: &PointTable,
     obj: &Obj,
     materials: &Materials,
     per_run: usize,
 ) -> Result<Projected, SceneFault>
-    requires eye { IsEye eye.now }
+    requires points { table.now.points.now ≡ obj.now.points }
     requires scene { IsScene obj.now }
     requires per_run { 1 ≤ per_run }
     ensures fault { IfErr result (Tells (unknown_by (look_up materials.now) obj.now)) }
     ensures known { OnOk result (unknown_by (look_up materials.now) obj.now ≡ None) }
-    ensures tris { IfOk result (λ p. p.tris ≡ tris_by eye.now (triangles_by (look_up materials.now) obj.now)) }
-    ensures paints { IfOk result (λ p. p.paints ≡ paints_by eye.now (triangles_by (look_up materials.now) obj.now)) }
+    ensures tris { IfOk result (λ p. p.tris ≡ tris_by table.now.eye (triangles_by (look_up materials.now) obj.now)) }
+    ensures paints { IfOk result (λ p. p.paints ≡ paints_by table.now.eye (triangles_by (look_up materials.now) obj.now)) }
 {
     let faces = obj.faces.as_slice();
     if faces.len() <= per_run {
-        return project_run(alloc, eye, obj, materials, faces);
+        return project_run(alloc, table, obj, materials, faces);
     }
-    let runs = project_runs(rt, alloc, eye, obj, materials, per_run)?;
+    let runs = project_runs(rt, alloc, table, obj, materials, per_run)?;
     put_together(alloc, runs)
 }
 
@@ -109,8 +109,16 @@ pub fn project_faces<R: Threads + Sync>(
     ensures one_length { IfOk result (λ p. length p.tris ≡ length p.paints) }
     ensures few { IfOk result (λ p. length p.tris ≤ MAX_PRIMITIVES) }
 {
-    let eye = camera.eye();
-    let per_run = faces_per_run(obj.faces.as_slice().len(), LEAST_RUN, threads);
-    let made = all_faces(rt, alloc, &eye, obj, materials, per_run)?;
+    let faces = obj.faces.as_slice().len();
+    let table = PointTable::new(
+        rt,
+        alloc,
+        camera.eye(),
+        obj.points.as_slice(),
+        faces,
+        threads,
+    )?;
+    let per_run = faces_per_run(faces, LEAST_RUN, threads);
+    let made = all_faces(rt, alloc, &table, obj, materials, per_run)?;
     Ok(made)
 }

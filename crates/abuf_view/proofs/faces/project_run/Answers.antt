@@ -10,7 +10,7 @@ use Rattle.abuf_view.proofs.faces.project_run.Goals as goal
 
 pub loop-face-preserved : goal.loop-face-preserved
 loop-face-preserved c =
-    let eye = c.args.eye.now in
+    let eye = c.args.table.now.eye in
     let before = c.loop-face.invariant in
     let done = c.in_ok-push_face.ensures in
     let f = triangles_of (look_up c.args.materials.now) c.args.obj.now in

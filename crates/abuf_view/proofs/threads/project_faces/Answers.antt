@@ -1,4 +1,4 @@
-use Rattle.std.proofs.Common.{◌≡◌, ap, subst, None, arith, refl}
+use Rattle.std.proofs.Common.{◌≡◌, ◌∙◌, ap, subst, None, arith, refl}
 use Rattle.std.proofs.lemmas.Result.{err_from_is_err_and}
 use Rattle.abuf_mtl.specs.Material.{material}
 use Rattle.abuf_scene.specs.Triangles.{Look, triangles, unknown, triangles_by, unknown_by}
@@ -11,7 +11,7 @@ use Rattle.abuf_view.proofs.threads.project_faces.Goals as goal
 pub returns-in_err-made-clause-fault : goal.returns-in_err-made-clause-fault
 unfolding unknown
 returns-in_err-made-clause-fault g c = λ libraries stands.
-    let p = err_from_is_err_and c.from_residual.result c.from_residual.ensures.1 in
+    let p = err_from_is_err_and c.from_residual-in_err-made.result c.from_residual-in_err-made.ensures.1 in
     rw (p.1, p.2) (tells-by (look_up c.args.materials.now) (material libraries) c.args.obj.now _ (look_up-material libraries c.args.materials.now stands) c.in_err-made.ensures.fault)
 
 pub returns-clause-known : goal.returns-clause-known
@@ -22,22 +22,22 @@ returns-clause-known g c = λ libraries stands.
 pub returns-clause-tris : goal.returns-clause-tris
 unfolding triangles
 returns-clause-tris g c = λ libraries stands.
-    joined_tris c.args.camera.now c.eye-eye.result c.eye-eye.ensures.value _ _ (ap (λ (look : Look). triangles_by look c.args.obj.now) (look_up-material libraries c.args.materials.now stands)) _ c.in_ok-made.ensures.tris
+    joined_tris c.args.camera.now c.in_ok-table.table.eye (c.in_ok-table.ensures.eye ∙ c.eye.ensures.value) _ _ (ap (λ (look : Look). triangles_by look c.args.obj.now) (look_up-material libraries c.args.materials.now stands)) _ c.in_ok-made.ensures.tris
 
 pub returns-clause-paints : goal.returns-clause-paints
 unfolding triangles
 returns-clause-paints g c = λ libraries stands.
-    joined_paints c.args.camera.now c.eye-eye.result c.eye-eye.ensures.value _ _ (ap (λ (look : Look). triangles_by look c.args.obj.now) (look_up-material libraries c.args.materials.now stands)) _ c.in_ok-made.ensures.paints
+    joined_paints c.args.camera.now c.in_ok-table.table.eye (c.in_ok-table.ensures.eye ∙ c.eye.ensures.value) _ _ (ap (λ (look : Look). triangles_by look c.args.obj.now) (look_up-material libraries c.args.materials.now stands)) _ c.in_ok-made.ensures.paints
 
 pub returns-clause-one_length : goal.returns-clause-one_length
 returns-clause-one_length g c =
     let k = c.args.camera.now in
     let ts = triangles_by (look_up c.args.materials.now) c.args.obj.now in
-    one_length k ts _ _ (joined_tris k c.eye-eye.result c.eye-eye.ensures.value ts ts refl _ c.in_ok-made.ensures.tris) (joined_paints k c.eye-eye.result c.eye-eye.ensures.value ts ts refl _ c.in_ok-made.ensures.paints)
+    one_length k ts _ _ (joined_tris k c.in_ok-table.table.eye (c.in_ok-table.ensures.eye ∙ c.eye.ensures.value) ts ts refl _ c.in_ok-made.ensures.tris) (joined_paints k c.in_ok-table.table.eye (c.in_ok-table.ensures.eye ∙ c.eye.ensures.value) ts ts refl _ c.in_ok-made.ensures.paints)
 
 pub returns-clause-few : goal.returns-clause-few
 returns-clause-few g c =
     let k = c.args.camera.now in
     let ts = triangles_by (look_up c.args.materials.now) c.args.obj.now in
-    let few = tris_few k ts _ (joined_tris k c.eye-eye.result c.eye-eye.ensures.value ts ts refl _ c.in_ok-made.ensures.tris) in
+    let few = tris_few k ts _ (joined_tris k c.in_ok-table.table.eye (c.in_ok-table.ensures.eye ∙ c.eye.ensures.value) ts ts refl _ c.in_ok-made.ensures.tris) in
     omega (arith, few, triangles_few (look_up c.args.materials.now) c.args.obj.now c.args.obj.now.faces, c.requires.scene.few)
