@@ -12,23 +12,23 @@ use Rattle.abuf_scene.specs.declared.assembly.SceneFault.{SceneFault}
 use Rattle.abuf_scene.specs.declared.assembly.SceneFault.TheVariants.{UnknownMaterial, Memory}
 use Rattle.abuf_scene.specs.declared.triangles.Triangle.{Triangle}
 use Rattle.abuf_view.specs.declared.near_plane.EyeTriangle.{EyeTriangle}
-use Rattle.abuf_view.specs.declared.projection.Projected.{Projected}
+use Rattle.abuf_view.specs.declared.primitive_lists.PrimitiveLists.{PrimitiveLists}
 use Rattle.abuf_view.specs.declared.eye.Eye.{Eye}
 use Rattle.abuf_view.specs.Eye.{clipped_by, shown_by, tris_by, paints_by}
 use Rattle.abuf_view.specs.Runs.{IsRun, AreRuns, unknown_in, tris_of, paints_of, first_fault, IsFirst}
 
 -- A run that was made has no fault, so the first is that of the runs after it.
-pub made_first : (runs rest : List (Result Projected SceneFault)) (run : Result Projected SceneFault) (made : Projected) → runs ≡ run ∷ rest → run ≡ Ok made
+pub made_first : (runs rest : List (Result PrimitiveLists SceneFault)) (run : Result PrimitiveLists SceneFault) (made : PrimitiveLists) → runs ≡ run ∷ rest → run ≡ Ok made
     → first_fault rest ≡ first_fault runs
-made_first runs rest run made is ok = sym (ap first_fault (is ∙ ap (λ (r : Result Projected SceneFault). r ∷ rest) ok))
+made_first runs rest run made is ok = sym (ap first_fault (is ∙ ap (λ (r : Result PrimitiveLists SceneFault). r ∷ rest) ok))
 
 -- A run that was refused has the first fault.
-pub refused_first : (runs rest : List (Result Projected SceneFault)) (run : Result Projected SceneFault) (fault : SceneFault) → runs ≡ run ∷ rest → run ≡ Err fault
+pub refused_first : (runs rest : List (Result PrimitiveLists SceneFault)) (run : Result PrimitiveLists SceneFault) (fault : SceneFault) → runs ≡ run ∷ rest → run ≡ Err fault
     → first_fault runs ≡ Some fault
-refused_first runs rest run fault is err = ap first_fault (is ∙ ap (λ (r : Result Projected SceneFault). r ∷ rest) err)
+refused_first runs rest run fault is err = ap first_fault (is ∙ ap (λ (r : Result PrimitiveLists SceneFault). r ∷ rest) err)
 
 -- What is made of one more run stands last.
-pub one_run : {A : Type 0} (of : Result Projected SceneFault → List A) (before now : List A) (runs : List (Result Projected SceneFault)) (run : Result Projected SceneFault)
+pub one_run : {A : Type 0} (of : Result PrimitiveLists SceneFault → List A) (before now : List A) (runs : List (Result PrimitiveLists SceneFault)) (run : Result PrimitiveLists SceneFault)
     → before ≡ flat_map of runs → now ≡ before ++ of run → now ≡ flat_map of (runs ++ run ∷ [])
 one_run of before now runs run is more =
     more ∙ (ap (λ (l : List _). l ++ of run) is ∙ (ap (λ (l : List _). flat_map of runs ++ l) (sym (append-nil (of run))) ∙ sym (flat_map-append of runs (run ∷ []))))
@@ -59,14 +59,14 @@ module _ (look : Look) (obj : Obj) (eye : Eye) where
   unknown faces = unknown_in look obj.names faces
 
   -- The first worker has the first faces.
-  first_run : (per_run : ℕ) (faces : List Face) (run : Result Projected SceneFault) (runs : List (Result Projected SceneFault))
+  first_run : (per_run : ℕ) (faces : List Face) (run : Result PrimitiveLists SceneFault) (runs : List (Result PrimitiveLists SceneFault))
       → AreRuns look obj eye per_run faces (run ∷ runs) → IsRun look obj eye (take per_run faces) run
   first_run per_run faces run runs are =
       let start : 0 * per_run ≡ 0 = omega arith in
       subst (λ (k : ℕ). IsRun look obj eye (take per_run (drop k faces)) run) start (are.each 0 run (omega arith))
 
   -- The others have the faces after them.
-  later_runs : (per_run : ℕ) (faces : List Face) (run : Result Projected SceneFault) (runs : List (Result Projected SceneFault))
+  later_runs : (per_run : ℕ) (faces : List Face) (run : Result PrimitiveLists SceneFault) (runs : List (Result PrimitiveLists SceneFault))
       → AreRuns look obj eye per_run faces (run ∷ runs) → AreRuns look obj eye per_run (drop per_run faces) runs
   later_runs per_run faces run runs are = record {
     all = omega (arith, are.all, length-drop per_run faces);
@@ -82,7 +82,7 @@ module _ (look : Look) (obj : Obj) (eye : Eye) where
   no_faces (face ∷ faces) per_run few = absurd (omega (arith, few))
 
   -- Where no run was refused, every name of the faces has a material.
-  pub known_all : (per_run : ℕ) (faces : List Face) (runs : List (Result Projected SceneFault)) → AreRuns look obj eye per_run faces runs → first_fault runs ≡ None → unknown faces ≡ None
+  pub known_all : (per_run : ℕ) (faces : List Face) (runs : List (Result PrimitiveLists SceneFault)) → AreRuns look obj eye per_run faces runs → first_fault runs ≡ None → unknown faces ≡ None
   known_all per_run faces [] are none = ap unknown (no_faces faces per_run are.all)
   known_all per_run faces (Ok made ∷ runs) are none =
       ap unknown (sym (take-append-drop per_run faces))
@@ -91,7 +91,7 @@ module _ (look : Look) (obj : Obj) (eye : Eye) where
   known_all per_run faces (Err fault ∷ runs) are none = absurd (none-some fault (sym none))
 
   -- The first refusal of the runs tells the first unknown material of all faces.
-  pub fault_all : (per_run : ℕ) (faces : List Face) (runs : List (Result Projected SceneFault))
+  pub fault_all : (per_run : ℕ) (faces : List Face) (runs : List (Result PrimitiveLists SceneFault))
       → AreRuns look obj eye per_run faces runs → (fault : SceneFault) → first_fault runs ≡ Some fault → Tells (unknown faces) fault
   fault_all per_run faces [] are fault first = absurd (none-some fault first)
   fault_all per_run faces (Ok made ∷ runs) are fault first =
@@ -107,7 +107,7 @@ module _ (look : Look) (obj : Obj) (eye : Eye) where
       let told : Tells (unknown front) fault = subst (Tells (unknown front)) (same_Some refused fault first) (first_run per_run faces (Err refused) runs are).fault in
       subst (λ (o : Option ℕ). Tells o fault) (sym both) (tells_more (unknown front) (unknown back) fault told)
 
-  module _ {A : Type 0} (of : Result Projected SceneFault → List A) (g : Triangle → List A) where
+  module _ {A : Type 0} (of : Result PrimitiveLists SceneFault → List A) (g : Triangle → List A) where
     abbrev made_of : List Face → List A
     made_of faces = flat_map g (flat_map (triangles_of look obj) faces)
 
@@ -118,8 +118,8 @@ module _ (look : Look) (obj : Obj) (eye : Eye) where
         ∙ flat_map-append g (flat_map (triangles_of look obj) xs) (flat_map (triangles_of look obj) ys))
 
     -- What the workers made of their runs, in order, is what is made of all faces.
-    made_all : ((faces : List Face) (p : Projected) → IsRun look obj eye faces (Ok p) → of (Ok p) ≡ made_of faces)
-        → (per_run : ℕ) (faces : List Face) (runs : List (Result Projected SceneFault)) → AreRuns look obj eye per_run faces runs → first_fault runs ≡ None → flat_map of runs ≡ made_of faces
+    made_all : ((faces : List Face) (p : PrimitiveLists) → IsRun look obj eye faces (Ok p) → of (Ok p) ≡ made_of faces)
+        → (per_run : ℕ) (faces : List Face) (runs : List (Result PrimitiveLists SceneFault)) → AreRuns look obj eye per_run faces runs → first_fault runs ≡ None → flat_map of runs ≡ made_of faces
     made_all gives per_run faces [] are none = sym (ap made_of (no_faces faces per_run are.all))
     made_all gives per_run faces (Ok made ∷ runs) are none =
         ap₂ (λ (xs ys : List A). xs ++ ys) (gives (take per_run faces) made (first_run per_run faces (Ok made) runs are)) (made_all gives per_run (drop per_run faces) runs (later_runs per_run faces (Ok made) runs are) none)
@@ -127,17 +127,17 @@ module _ (look : Look) (obj : Obj) (eye : Eye) where
     made_all gives per_run faces (Err fault ∷ runs) are none = absurd (none-some fault (sym none))
 
   -- The runs' primitives in their order are those of all faces, and so are the paints.
-  pub shown_all : (per_run : ℕ) (faces : List Face) (runs : List (Result Projected SceneFault)) → AreRuns look obj eye per_run faces runs → first_fault runs ≡ None
+  pub shown_all : (per_run : ℕ) (faces : List Face) (runs : List (Result PrimitiveLists SceneFault)) → AreRuns look obj eye per_run faces runs → first_fault runs ≡ None
       → flat_map tris_of runs ≡ tris_by eye (flat_map (triangles_of look obj) faces)
   shown_all = made_all tris_of (λ (t : Triangle). map (shown_by eye) (clipped_by eye t)) (λ faces p is. is.tris)
 
   -- The paints of the runs in their order are those of all faces.
-  pub painted_all : (per_run : ℕ) (faces : List Face) (runs : List (Result Projected SceneFault)) → AreRuns look obj eye per_run faces runs → first_fault runs ≡ None
+  pub painted_all : (per_run : ℕ) (faces : List Face) (runs : List (Result PrimitiveLists SceneFault)) → AreRuns look obj eye per_run faces runs → first_fault runs ≡ None
       → flat_map paints_of runs ≡ paints_by eye (flat_map (triangles_of look obj) faces)
   painted_all = made_all paints_of (λ (t : Triangle). map (λ (c : EyeTriangle). t.paint) (clipped_by eye t)) (λ faces p is. is.paints)
 
   -- What is put together of the runs is what one worker would give of all faces.
-  pub together : (per_run : ℕ) (faces : List Face) (runs : List (Result Projected SceneFault)) (all : Result Projected SceneFault) → AreRuns look obj eye per_run faces runs
+  pub together : (per_run : ℕ) (faces : List Face) (runs : List (Result PrimitiveLists SceneFault)) (all : Result PrimitiveLists SceneFault) → AreRuns look obj eye per_run faces runs
       → IfErr all (IsFirst (first_fault runs)) → OnOk all (first_fault runs ≡ None) → IfOk all (λ p. p.tris ≡ flat_map tris_of runs) → IfOk all (λ p. p.paints ≡ flat_map paints_of runs)
       → IsRun look obj eye faces all
   together per_run faces runs (Ok made) are fault none tris paints = record {

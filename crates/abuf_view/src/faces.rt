@@ -1,5 +1,5 @@
 // The primitives of faces, without a list of their triangles.
-ghost use Rattle.std.specs.Prelude.{◌≡◌, ◌+◌, ◌≤◌, ◌<◌, ◌++◌, ◌∷◌, [], All, length, map, flat_map, None, OnOk, IfOk, IfErr};
+ghost use Rattle.std.specs.Prelude.{◌≡◌, ◌+◌, ◌≤◌, ◌<◌, ◌++◌, All, length, map, flat_map, None, OnOk, IfOk, IfErr};
 ghost use Rattle.abuf_obj.specs.Sound.{IsFace};
 ghost use Rattle.abuf_scene.specs.Triangles.{fan, triangle, paint_by, triangles_of, Tells};
 ghost use Rattle.abuf_scene.specs.Lookup.{look_up, line_if_none};
@@ -7,39 +7,14 @@ ghost use Rattle.abuf_view.specs.Eye.{clipped_by, shown_by, tris_by, paints_by};
 ghost use Rattle.abuf_view.specs.Runs.{unknown_in};
 
 use crate::point_table::PointTable;
-use crate::projection::Projected;
+use crate::primitive_lists::PrimitiveLists;
 use abuf_mtl::Materials;
-use abuf_num::{List, NoMemory, Paint};
+use abuf_num::{NoMemory, Paint};
 use abuf_obj::{Face, Obj};
-use abuf_raster::ScreenTri;
 use abuf_scene::{SceneFault, fan_triangle, paint_of};
 use std::alloc::Global;
 
-impl Projected {
-    // No primitives, with room for so many.
-    fn with_room(alloc: Global, count: usize) -> Result<Projected, NoMemory>
-        ensures tris { IfOk result (λ p. p.tris ≡ []) }
-        ensures paints { IfOk result (λ p. p.paints ≡ []) }
-    {
-        let mut tris = Vec::new(alloc);
-        let mut paints = Vec::new(alloc);
-        tris.reserve_exact(count)?;
-        paints.reserve_exact(count)?;
-        Ok(Projected {
-            tris: List::from_vec(tris),
-            paints: List::from_vec(paints),
-        })
-    }
-
-    // Puts one primitive last.
-    fn push(&mut self, triangle: ScreenTri, paint: Paint) -> Result<(), NoMemory>
-        ensures tris { OnOk result (self.new.tris ≡ self.old.tris ++ triangle ∷ []) }
-        ensures paints { OnOk result (self.new.paints ≡ self.old.paints ++ paint ∷ []) }
-    {
-        self.tris.push(triangle)?;
-        self.paints.push(paint)
-    }
-
+impl PrimitiveLists {
     // Puts the primitives of a fan's triangle of the corners 0, i and i + 1 last. Where the table has all three corners, no point is
     // computed.
     fn push_fan_triangle(
@@ -110,7 +85,7 @@ pub fn project_run(
     obj: &Obj,
     materials: &Materials,
     faces: &[Face],
-) -> Result<Projected, SceneFault>
+) -> Result<PrimitiveLists, SceneFault>
     requires points { table.now.points.now ≡ obj.now.points }
     requires faces { All (IsFace (length obj.now.points) (length obj.now.names)) faces.now }
     ensures fault { IfErr result (Tells (unknown_in (look_up materials.now) obj.now.names faces.now)) }
@@ -118,7 +93,7 @@ pub fn project_run(
     ensures tris { IfOk result (λ p. p.tris ≡ tris_by table.now.eye (flat_map (triangles_of (look_up materials.now) obj.now) faces.now)) }
     ensures paints { IfOk result (λ p. p.paints ≡ paints_by table.now.eye (flat_map (triangles_of (look_up materials.now) obj.now) faces.now)) }
 {
-    let mut made = Projected::with_room(alloc, faces.len())?;
+    let mut made = PrimitiveLists::with_room(alloc, faces.len())?;
     for face in faces {
         made.push_face(table, obj, materials, face)?;
     }

@@ -2,13 +2,13 @@
 ghost use Rattle.std.specs.Prelude.{◌≡◌, ◌++◌, flat_map, None, OnOk, IfOk, IfErr};
 ghost use Rattle.abuf_view.specs.Runs.{tris_of, paints_of, first_fault, IsFirst};
 
-use crate::projection::Projected;
+use crate::primitive_lists::PrimitiveLists;
 use abuf_num::{List, NoMemory};
 use abuf_scene::SceneFault;
 use std::alloc::Global;
 
 // How many primitives the runs have together. It decides only how much memory is taken at once, so no clause tells it.
-fn primitives_in(runs: &[Result<Projected, SceneFault>]) -> usize {
+fn primitives_in(runs: &[Result<PrimitiveLists, SceneFault>]) -> usize {
     let mut count: usize = 0;
     for run in runs {
         if let Ok(made) = run {
@@ -35,8 +35,8 @@ fn append<T: Drop>(items: &mut Vec<T>, run: Vec<T>, count: usize) -> Result<(), 
 // The primitives of all runs, in the order of the runs, or the refusal of the first that was refused.
 pub fn put_together(
     alloc: Global,
-    runs: Vec<Result<Projected, SceneFault>>,
-) -> Result<Projected, SceneFault>
+    runs: Vec<Result<PrimitiveLists, SceneFault>>,
+) -> Result<PrimitiveLists, SceneFault>
     ensures fault { IfErr result (IsFirst (first_fault runs.items)) }
     ensures known { OnOk result (first_fault runs.items ≡ None) }
     ensures tris { IfOk result (λ p. p.tris ≡ flat_map tris_of runs.items) }
@@ -50,7 +50,7 @@ pub fn put_together(
         append(&mut tris, made.tris.into_vec(), count)?;
         append(&mut paints, made.paints.into_vec(), count)?;
     }
-    Ok(Projected {
+    Ok(PrimitiveLists {
         tris: List::from_vec(tris),
         paints: List::from_vec(paints),
     })

@@ -1,6 +1,6 @@
 // The primitives of a file's faces, on threads.
 ghost use Rattle.std.specs.Prelude.{◌≡◌, ◌*◌, ◌≤◌, ◌<◌, All, List as Items, ℕ, length, map, None, OnOk, IfOk, IfErr};
-ghost use Rattle.abuf_num.specs.declared.limits.TheConstants.{MAX_PRIMITIVES, MAX_THREADS};
+ghost use Rattle.abuf_num.specs.declared.limits.TheConstants.{MAX_THREADS};
 ghost use Rattle.abuf_obj.specs.Sound.{IsScene};
 ghost use Rattle.abuf_mtl.specs.StandsFor.{StandsFor};
 ghost use Rattle.abuf_scene.specs.Triangles.{triangles_by, unknown_by, triangles, unknown, Tells};
@@ -12,6 +12,7 @@ ghost use Rattle.abuf_view.specs.Runs.{AreRuns};
 use crate::camera::Camera;
 use crate::faces::project_run;
 use crate::point_table::PointTable;
+use crate::primitive_lists::PrimitiveLists;
 use crate::projection::Projected;
 use crate::runs::put_together;
 use abuf_mtl::Materials;
@@ -46,7 +47,7 @@ fn project_runs<R: Threads + Sync>(
     obj: &Obj,
     materials: &Materials,
     per_run: usize,
-) -> Result<Vec<Result<Projected, SceneFault>>, NoMemory>
+) -> Result<Vec<Result<PrimitiveLists, SceneFault>>, NoMemory>
     requires points { table.now.points.now ≡ obj.now.points }
     requires scene { IsScene obj.now }
     requires per_run { 1 ≤ per_run }
@@ -71,7 +72,7 @@ pub fn all_faces<R: Threads + Sync>(
     obj: &Obj,
     materials: &Materials,
     per_run: usize,
-) -> Result<Projected, SceneFault>
+) -> Result<PrimitiveLists, SceneFault>
     requires points { table.now.points.now ≡ obj.now.points }
     requires scene { IsScene obj.now }
     requires per_run { 1 ≤ per_run }
@@ -106,8 +107,6 @@ pub fn project_faces<R: Threads + Sync>(
     ensures known { (libraries : Items (Items ℕ)) → StandsFor libraries materials.now → OnOk result (unknown libraries obj.now ≡ None) }
     ensures tris { (libraries : Items (Items ℕ)) → StandsFor libraries materials.now → HasTriangles result (prims camera.now (triangles libraries obj.now)) }
     ensures paints { (libraries : Items (Items ℕ)) → StandsFor libraries materials.now → HasPaints result (prims camera.now (triangles libraries obj.now)) }
-    ensures one_length { IfOk result (λ p. length p.tris ≡ length p.paints) }
-    ensures few { IfOk result (λ p. length p.tris ≤ MAX_PRIMITIVES) }
 {
     let faces = obj.faces.as_slice().len();
     let table = PointTable::new(
@@ -120,5 +119,5 @@ pub fn project_faces<R: Threads + Sync>(
     )?;
     let per_run = faces_per_run(faces, LEAST_RUN, threads);
     let made = all_faces(rt, alloc, &table, obj, materials, per_run)?;
-    Ok(made)
+    Ok(made.into_projected())
 }

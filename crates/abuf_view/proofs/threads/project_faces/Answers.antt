@@ -1,4 +1,4 @@
-use Rattle.std.proofs.Common.{◌≡◌, ◌∙◌, ap, subst, None, arith, refl}
+use Rattle.std.proofs.Common.{◌≡◌, ◌∙◌, sym, ap, subst, None, arith, refl}
 use Rattle.std.proofs.lemmas.Result.{err_from_is_err_and}
 use Rattle.abuf_mtl.specs.Material.{material}
 use Rattle.abuf_scene.specs.Triangles.{Look, triangles, unknown, triangles_by, unknown_by}
@@ -22,21 +22,21 @@ returns-clause-known g c = λ libraries stands.
 pub returns-clause-tris : goal.returns-clause-tris
 unfolding triangles
 returns-clause-tris g c = λ libraries stands.
-    joined_tris c.args.camera.now c.in_ok-table.table.eye (c.in_ok-table.ensures.eye ∙ c.eye.ensures.value) _ _ (ap (λ (look : Look). triangles_by look c.args.obj.now) (look_up-material libraries c.args.materials.now stands)) _ c.in_ok-made.ensures.tris
+    c.into_projected.ensures.tris ∙ joined_tris c.args.camera.now c.in_ok-table.table.eye (c.in_ok-table.ensures.eye ∙ c.eye.ensures.value) _ _ (ap (λ (look : Look). triangles_by look c.args.obj.now) (look_up-material libraries c.args.materials.now stands)) _ c.in_ok-made.ensures.tris
 
 pub returns-clause-paints : goal.returns-clause-paints
 unfolding triangles
 returns-clause-paints g c = λ libraries stands.
-    joined_paints c.args.camera.now c.in_ok-table.table.eye (c.in_ok-table.ensures.eye ∙ c.eye.ensures.value) _ _ (ap (λ (look : Look). triangles_by look c.args.obj.now) (look_up-material libraries c.args.materials.now stands)) _ c.in_ok-made.ensures.paints
+    c.into_projected.ensures.paints ∙ joined_paints c.args.camera.now c.in_ok-table.table.eye (c.in_ok-table.ensures.eye ∙ c.eye.ensures.value) _ _ (ap (λ (look : Look). triangles_by look c.args.obj.now) (look_up-material libraries c.args.materials.now stands)) _ c.in_ok-made.ensures.paints
 
-pub returns-clause-one_length : goal.returns-clause-one_length
-returns-clause-one_length g c =
+pub into_projected-requires-clause-painted : goal.into_projected-requires-clause-painted
+into_projected-requires-clause-painted g c =
     let k = c.args.camera.now in
     let ts = triangles_by (look_up c.args.materials.now) c.args.obj.now in
-    one_length k ts _ _ (joined_tris k c.in_ok-table.table.eye (c.in_ok-table.ensures.eye ∙ c.eye.ensures.value) ts ts refl _ c.in_ok-made.ensures.tris) (joined_paints k c.in_ok-table.table.eye (c.in_ok-table.ensures.eye ∙ c.eye.ensures.value) ts ts refl _ c.in_ok-made.ensures.paints)
+    sym (one_length k ts _ _ (joined_tris k c.in_ok-table.table.eye (c.in_ok-table.ensures.eye ∙ c.eye.ensures.value) ts ts refl _ c.in_ok-made.ensures.tris) (joined_paints k c.in_ok-table.table.eye (c.in_ok-table.ensures.eye ∙ c.eye.ensures.value) ts ts refl _ c.in_ok-made.ensures.paints))
 
-pub returns-clause-few : goal.returns-clause-few
-returns-clause-few g c =
+pub into_projected-requires-clause-few : goal.into_projected-requires-clause-few
+into_projected-requires-clause-few g c =
     let k = c.args.camera.now in
     let ts = triangles_by (look_up c.args.materials.now) c.args.obj.now in
     let few = tris_few k ts _ (joined_tris k c.in_ok-table.table.eye (c.in_ok-table.ensures.eye ∙ c.eye.ensures.value) ts ts refl _ c.in_ok-made.ensures.tris) in

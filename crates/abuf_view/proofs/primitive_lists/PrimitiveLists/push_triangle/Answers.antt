@@ -3,8 +3,8 @@ use Rattle.abuf_view.specs.declared.near_plane.EyeTriangle.{EyeTriangle}
 use Rattle.abuf_view.specs.NearPlane.{clipped}
 use Rattle.abuf_view.specs.Eye.{clipped_by, shown_by, eye_point_by}
 use Rattle.abuf_view.proofs.Joining.{both_pushed}
-use Rattle.abuf_view.proofs.projection.Projected.push_triangle.Goals as goal
-use Rattle.abuf_view.proofs.projection.Projected.push_triangle.Goals.{After-clip-first}
+use Rattle.abuf_view.proofs.primitive_lists.PrimitiveLists.push_triangle.Goals as goal
+use Rattle.abuf_view.proofs.primitive_lists.PrimitiveLists.push_triangle.Goals.{After-clip-first}
 
 parts : (c : After-clip-first) → option_to_list c.clip-first.result.0 ++ option_to_list c.clip-first.result.1 ≡ clipped_by c.args.eye.now c.args.t.now
 parts c =

@@ -4,7 +4,7 @@ use Rattle.abuf_scene.specs.declared.triangles.Triangle.{Triangle}
 use Rattle.abuf_view.specs.declared.near_plane.EyeTriangle.{EyeTriangle}
 use Rattle.abuf_view.specs.Eye.{clipped_by, shown_by}
 use Rattle.abuf_view.proofs.Fans.{one_more}
-use Rattle.abuf_view.proofs.projection.Projected.push_fan.Goals as goal
+use Rattle.abuf_view.proofs.primitive_lists.PrimitiveLists.push_fan.Goals as goal
 
 pub loop-i-preserved : goal.loop-i-preserved
 loop-i-preserved c =

@@ -4,7 +4,7 @@ use Rattle.abuf_raster.specs.Triangle.{Triangle as OnScreen}
 use Rattle.abuf_scene.specs.declared.triangles.Triangle.{Triangle}
 use Rattle.abuf_view.specs.declared.near_plane.EyeTriangle.{EyeTriangle}
 use Rattle.abuf_view.specs.Eye.{clipped_by}
-use Rattle.abuf_view.proofs.projection.Projected.push_fan_triangle.Goals as goal
+use Rattle.abuf_view.proofs.primitive_lists.PrimitiveLists.push_fan_triangle.Goals as goal
 
 pub returns-in-Some-clause-tris : goal.returns-in-Some-clause-tris
 returns-in-Some-clause-tris c =

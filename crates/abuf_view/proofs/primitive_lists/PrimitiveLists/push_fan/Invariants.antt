@@ -2,7 +2,7 @@ use Rattle.std.proofs.Common.{◌≡◌, ◌≤◌, ◌-◌, ◌++◌, map}
 use Rattle.std.specs.List.{range_with_len}
 use Rattle.abuf_scene.specs.Triangles.{triangle}
 use Rattle.abuf_view.specs.Eye.{tris_by, paints_by}
-use Rattle.abuf_view.proofs.projection.Projected.push_fan.Given as goal
+use Rattle.abuf_view.proofs.primitive_lists.PrimitiveLists.push_fan.Given as goal
 
 abbrev pub invariant-loop-i : goal.invariant-loop-i
 invariant-loop-i l = record {

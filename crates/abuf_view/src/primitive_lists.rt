@@ -1,0 +1,94 @@
+// Primitives while they are made.
+ghost use Rattle.std.specs.Prelude.{◌≡◌, ◌≤◌, ◌++◌, ◌∷◌, [], map, length, option_to_list, OnOk, IfOk, IfSome};
+ghost use Rattle.abuf_num.specs.declared.limits.TheConstants.{MAX_PRIMITIVES};
+ghost use Rattle.abuf_scene.specs.Triangles.{IsTriangleInRange};
+ghost use Rattle.abuf_view.specs.Eye.{IsEye, clipped_by, shown_by};
+ghost use Rattle.abuf_view.specs.NearPlane.{IsInFront};
+
+use crate::eye::Eye;
+use crate::near_plane::{EyeTriangle, clip};
+use crate::point::to_point;
+use crate::projection::Projected;
+use crate::screen::on_screen;
+use abuf_num::{List, NoMemory, Paint};
+use abuf_raster::ScreenTri;
+use abuf_scene::Triangle;
+use std::alloc::Global;
+
+/// The triangles on the screen that there are so far, and their paints. [`Projected`] is what they become.
+#[derive(Drop)]
+pub struct PrimitiveLists {
+    pub tris: List<ScreenTri>,
+    pub paints: List<Paint>,
+}
+
+impl PrimitiveLists {
+    /// No primitives, with room for so many.
+    pub fn with_room(alloc: Global, count: usize) -> Result<PrimitiveLists, NoMemory>
+        ensures tris { IfOk result (λ p. p.tris ≡ []) }
+        ensures paints { IfOk result (λ p. p.paints ≡ []) }
+    {
+        let mut tris = Vec::new(alloc);
+        let mut paints = Vec::new(alloc);
+        tris.reserve_exact(count)?;
+        paints.reserve_exact(count)?;
+        Ok(PrimitiveLists {
+            tris: List::from_vec(tris),
+            paints: List::from_vec(paints),
+        })
+    }
+
+    /// Puts one primitive last.
+    pub fn push(&mut self, triangle: ScreenTri, paint: Paint) -> Result<(), NoMemory>
+        ensures tris { OnOk result (self.new.tris ≡ self.old.tris ++ triangle ∷ []) }
+        ensures paints { OnOk result (self.new.paints ≡ self.old.paints ++ paint ∷ []) }
+    {
+        self.tris.push(triangle)?;
+        self.paints.push(paint)
+    }
+
+    /// Puts the part of a triangle last, if there is one.
+    fn push_part(
+        &mut self,
+        eye: &Eye,
+        part: Option<EyeTriangle>,
+        paint: Paint,
+    ) -> Result<(), NoMemory>
+        requires eye { IsEye eye.now }
+        requires part { IfSome part (IsInFront eye.now.near_plane.norm eye.now.near_plane.w) }
+        ensures tris { OnOk result (self.new.tris ≡ self.old.tris ++ map (shown_by eye.now) (option_to_list part)) }
+        ensures paints { OnOk result (self.new.paints ≡ self.old.paints ++ map (λ _. paint) (option_to_list part)) }
+    {
+        match part {
+            None => Ok(()),
+            Some(corners) => self.push(on_screen(eye.screen, eye.near_plane, corners), paint),
+        }
+    }
+
+    /// Puts the primitives of a triangle last.
+    pub fn push_triangle(&mut self, eye: &Eye, t: &Triangle) -> Result<(), NoMemory>
+        requires eye { IsEye eye.now }
+        requires range { IsTriangleInRange t.now }
+        ensures tris { OnOk result (self.new.tris ≡ self.old.tris ++ map (shown_by eye.now) (clipped_by eye.now t.now)) }
+        ensures paints { OnOk result (self.new.paints ≡ self.old.paints ++ map (λ _. t.now.paint) (clipped_by eye.now t.now)) }
+    {
+        let a = eye.sees(to_point(t.a));
+        let b = eye.sees(to_point(t.b));
+        let c = eye.sees(to_point(t.c));
+        let (first, second) = clip(eye.near_plane, a, b, c);
+        self.push_part(eye, first, t.paint)?;
+        self.push_part(eye, second, t.paint)?;
+        Ok(())
+    }
+
+    /// All primitives, one paint for each.
+    pub fn into_projected(self) -> Projected
+        requires few { length self.tris ≤ MAX_PRIMITIVES }
+        requires painted { length self.paints ≡ length self.tris }
+        ensures tris { result.tris ≡ self.tris }
+        ensures paints { result.paints ≡ self.paints }
+    {
+        let PrimitiveLists { tris, paints } = self;
+        Projected { tris, paints }
+    }
+}
