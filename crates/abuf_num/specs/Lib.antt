@@ -3,5 +3,5 @@ pub mod Decimal
 pub mod Paints
 pub mod Parts
 pub mod Size
-pub mod Fixed
+pub mod Leading
 pub mod Texts

@@ -2,9 +2,9 @@
 ghost use Rattle.std.specs.Prelude.{◌≡◌, ◌≤◌, ◌<◌, ◌*◌, ◌+◌, ◌^◌, ◌⊎◌, ◌-ℤ◌, position, length, option_map, IfSome, true, pos};
 ghost use Rattle.abuf_num.specs.Parts.{number_view, HasDigits};
 ghost use Rattle.abuf_num.specs.Size.{result_of};
-ghost use Rattle.abuf_num.specs.Decimal.{is_mark, is_point, all_digits, cut_by, cut_to, exponent_of, exponent_value, fraction_of, mantissa_of, number_of, spelled_from, digits_value, or_zero, scaled};
+ghost use Rattle.abuf_num.specs.Decimal.{is_mark, is_point, all_digits, cut_by, cut_to, exponent_of, exponent_value, fraction_of, mantissa_of, number_of, spelled_from, digits_value, or_zero, nearest_to, in_range, scaled};
 
-use crate::fixed::fixed_point;
+use crate::leading::leading_number;
 use crate::sign::{begins_negative, strip_sign};
 use crate::size::size;
 
@@ -22,12 +22,12 @@ pub enum NumFault {
 
 // The parts of a number's text, by bytes that are digits.
 #[derive(Clone, Copy)]
-struct Parts<'a> {
-    negative: bool,
-    whole: &'a [u8],
-    fraction: &'a [u8],
-    exponent_negative: bool,
-    exponent: &'a [u8],
+pub struct Parts<'a> {
+    pub negative: bool,
+    pub whole: &'a [u8],
+    pub fraction: &'a [u8],
+    pub exponent_negative: bool,
+    pub exponent: &'a [u8],
 }
 
 /// The text has no byte but digits.
@@ -178,6 +178,21 @@ impl Parts<'_> {
             (0, fraction - exponent)
         }
     }
+
+    /// `k` times the number, whose digits without the point spell `digits`, rounded and in range.
+    #[inline(always)]
+    pub fn result(&self, digits: u128, k: u32) -> Result<i64, NumFault>
+        requires digits { HasDigits self.now }
+        requires few { length self.now.whole.now + length self.now.fraction.now ≤ 30 }
+        requires short { length self.now.exponent.now ≤ 3 }
+        requires value { digits ≡ digits_value (number_view self.now) }
+        requires small { digits < 10 ^ 30 }
+        requires most { k ≤ 65536 }
+        ensures { result ≡ in_range (nearest_to (number_view self.now) k) }
+    {
+        let (up, down) = self.moves();
+        with_sign(self.negative, size(digits * u128::from(k), up, down))
+    }
 }
 
 fn with_sign(negative: bool, size: Option<u32>) -> Result<i64, NumFault>
@@ -202,11 +217,7 @@ fn scaled_by_parts(text: &[u8], k: u32) -> Result<i64, NumFault>
     if parts.whole.len() + parts.fraction.len() > 30 || parts.exponent.len() > 3 {
         return Err(NumFault::Digits);
     }
-    let (up, down) = parts.moves();
-    with_sign(
-        parts.negative,
-        size(parts.digits_value() * u128::from(k), up, down),
-    )
+    parts.result(parts.digits_value(), k)
 }
 
 /// The number that the text is, times `k`, rounded to the nearest whole number, halves away from
@@ -218,11 +229,8 @@ pub fn scaled(text: &[u8], k: u32) -> Result<i64, NumFault>
     requires most { k ≤ 65536 }
     ensures { result ≡ scaled text.now k }
 {
-    match fixed_point(text) {
-        Some(number) => with_sign(
-            begins_negative(text),
-            size(u128::from(number.digits) * u128::from(k), 0, number.places),
-        ),
-        None => scaled_by_parts(text, k),
+    match leading_number(text, k) {
+        Some(number) if number.length == text.len() => Ok(number.value),
+        _ => scaled_by_parts(text, k),
     }
 }

@@ -1,5 +1,5 @@
 // Values worked by hand.
-use crate::{List, NumFault, floor_div, round_div, scaled};
+use crate::{List, NumFault, floor_div, leading_number, round_div, scaled};
 use std::test::Fail;
 
 #[test]
@@ -32,6 +32,29 @@ fn texts_and_their_values(rt: HostRuntime) {
     ];
     for (text, want) in rows {
         assert!(rt; scaled(text, 65536) == want);
+    }
+}
+
+#[test]
+fn numbers_at_the_start_of_a_text(rt: HostRuntime) {
+    let rows: [(&[u8], Option<(i64, usize)>); 10] = [
+        (b"-1.5 2", Some((-98304, 4))),
+        (b"+.5", Some((32768, 3))),
+        (b"2.\t", Some((131072, 2))),
+        (b"12e-1x", Some((78643, 5))),
+        (b"1E+01,", Some((655360, 5))),
+        (b"0.12345678901234567890", Some((8091, 19))),
+        (b"1e", None),
+        (b"-. 1", None),
+        (b"32768", None),
+        (b"", None),
+    ];
+    for (text, want) in rows {
+        let got = match leading_number(text, 65536) {
+            Some(number) => Some((number.value, number.length)),
+            None => None,
+        };
+        assert!(rt; got == want);
     }
 }
 

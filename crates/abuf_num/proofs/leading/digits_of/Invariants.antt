@@ -1,6 +1,6 @@
 use Rattle.std.proofs.Common.{◌≡◌, ◌<◌, ◌+◌, ◌^◌, take, true}
 use Rattle.abuf_num.specs.Decimal.{spelled_from, all_digits}
-use Rattle.abuf_num.proofs.fixed.leading_digits.Given as goal
+use Rattle.abuf_num.proofs.leading.digits_of.Given as goal
 
 abbrev pub invariant-loop-b : goal.invariant-loop-b
 invariant-loop-b l = record {

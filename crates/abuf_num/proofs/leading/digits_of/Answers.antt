@@ -4,7 +4,7 @@ use Rattle.std.proofs.lemmas.Bool.Decides.{nat_tests}
 use Rattle.abuf_num.specs.Decimal.{is_digit}
 use Rattle.std.proofs.lemmas.Grind.{common_steps}
 use Rattle.abuf_num.proofs.Powers.{pow_le, digit_fits}
-use Rattle.abuf_num.proofs.fixed.leading_digits.Goals as goal
+use Rattle.abuf_num.proofs.leading.digits_of.Goals as goal
 
 pub overflow_mul-value : goal.overflow_mul-value
 overflow_mul-value c = omega (arith, pow_le (c.args.places + c.loop-b.b-index) 18 (omega arith))
