@@ -1,8 +1,8 @@
 // Numbers at the start of a text, as exporters write them: of few digits. They are read in one pass, in 64 bits.
-ghost use Rattle.std.specs.Prelude.{◌≡◌, ◌≤◌, ◌<◌, ◌+◌, ◌^◌, take, length, IfSome, true, Ok, unsigned_abs};
+ghost use Rattle.std.specs.Prelude.{◌≡◌, ◌≤◌, ◌<◌, ◌+◌, ◌^◌, take, length, slice_index, IfSome, true, false, Ok, unsigned_abs};
 ghost use Rattle.std.specs.List.{list_all};
 ghost use Rattle.abuf_num.specs.declared.limits.TheConstants.{MAX_COORDINATE};
-ghost use Rattle.abuf_num.specs.Decimal.{is_mark, all_digits, spelled_from, number_of, digits_value, scaled};
+ghost use Rattle.abuf_num.specs.Decimal.{is_digit, is_mark, all_digits, spelled_from, number_of, digits_value, scaled};
 ghost use Rattle.abuf_num.specs.Parts.{number_view, HasDigits};
 ghost use Rattle.abuf_num.specs.Leading.{is_number_byte, IsMantissa, IsExponent};
 
@@ -60,12 +60,13 @@ fn front(text: &[u8], most: usize) -> &[u8]
     }
 }
 
-// The digits at the start of a short text, after a number of so many places. 64 bits hold every number of 19 digits.
+// All digits at the start of a short text, after a number of so many places. 64 bits hold every number of 19 digits.
 #[inline(always)]
 fn digits_of(from: u64, places: usize, text: &[u8]) -> LeadingDigits
     requires before { from < 10 ^ places }
     requires short { places + length text.now ≤ 19 }
     ensures count { result.count ≤ length text.now }
+    ensures all { result.count < length text.now → is_digit (slice_index text.now result.count) ≡ false }
     ensures digits { all_digits (take result.count text.now) ≡ true }
     ensures value { result.value ≡ spelled_from from (take result.count text.now) }
     ensures small { result.value < 10 ^ (places + result.count) }
@@ -82,13 +83,14 @@ fn digits_of(from: u64, places: usize, text: &[u8]) -> LeadingDigits
     LeadingDigits { count, value }
 }
 
-/// At most so many digits, from the start of a text, after a number of so many places. There may be more digits behind them.
+/// The digits at the start of a text, up to `most` of them, after a number of so many places.
 #[inline(always)]
 pub fn leading_digits(from: u64, places: usize, most: usize, text: &[u8]) -> LeadingDigits
     requires before { from < 10 ^ places }
     requires short { places + most ≤ 19 }
     ensures count { result.count ≤ length text.now }
     ensures few { result.count ≤ most }
+    ensures all { result.count < most → result.count < length text.now → is_digit (slice_index text.now result.count) ≡ false }
     ensures digits { all_digits (take result.count text.now) ≡ true }
     ensures value { result.value ≡ spelled_from from (take result.count text.now) }
     ensures small { result.value < 10 ^ (places + result.count) }
