@@ -18,8 +18,6 @@ pub struct Primitives<'a> {
 impl<'a> Primitives<'a> {
     /// Those of a scene that is on the screen.
     pub fn of(shown: &'a Projected) -> Primitives<'a>
-        requires few { length shown.now.tris ≤ MAX_PRIMITIVES }
-        requires painted { length shown.now.paints ≡ length shown.now.tris }
         ensures triangles { result.triangles.now ≡ shown.now.tris }
         ensures paints { result.paints.now ≡ shown.now.paints }
     {
