@@ -1,6 +1,6 @@
 // An image rendered band by band.
-ghost use Rattle.std.specs.Prelude.{◌≡◌, ◌≤◌, length};
-ghost use Rattle.abuf_num.specs.declared.limits.TheConstants.{MAX_NODES, MAX_PRIMITIVES, MAX_THREADS};
+ghost use Rattle.std.specs.Prelude.{◌≡◌, ◌≤◌};
+ghost use Rattle.abuf_num.specs.declared.limits.TheConstants.{MAX_NODES, MAX_THREADS};
 ghost use Rattle.abuf_raster.specs.Region.{IsImageSize};
 ghost use Rattle.abuf_band.specs.Answers.{Banded, IsAnswer, IsBandAnswer};
 
@@ -52,8 +52,6 @@ pub fn render_bands<R: Threads + Sync>(
     threads: u32,
     bands: u32,
 ) -> Result<List<PixelSum>, BandFault>
-    requires few { length shown.now.tris ≤ MAX_PRIMITIVES }
-    requires painted { length shown.now.paints ≡ length shown.now.tris }
     requires size { IsImageSize width height }
     requires nodes { (1 ≤ nodes) × (nodes ≤ MAX_NODES) }
     requires threads { (1 ≤ threads) × (threads ≤ MAX_THREADS) }

@@ -1,6 +1,7 @@
 // Two triangles that share a diagonal, over 4 times 4 pixels. Together they cover each pixel once, so each row has 4 fragments;
 // the lower one alone covers one pixel of the first row, and one more in each next row.
-ghost use Rattle.std.specs.Prelude.{◌≡◌, length, IfOk};
+ghost use Rattle.std.specs.Prelude.{◌≤◌, length};
+ghost use Rattle.abuf_num.specs.declared.limits.TheConstants.{MAX_PRIMITIVES};
 
 use crate::{BandFault, render_bands};
 use abuf_num::{List, NoMemory, Paint};
@@ -16,8 +17,7 @@ const WHITE: Paint = Paint {
 
 // The triangles in white.
 fn in_white(alloc: Global, triangles: Vec<ScreenTri>) -> Result<Projected, NoMemory>
-    ensures triangles { IfOk result (λ shown. shown.tris ≡ triangles.items) }
-    ensures paints { IfOk result (λ shown. length shown.paints ≡ length triangles.items) }
+    requires { length triangles.items ≤ MAX_PRIMITIVES }
 {
     let paints = vec![in alloc; WHITE; triangles.len()]?;
     Ok(Projected {
