@@ -1,7 +1,7 @@
 // The sums of all pixels, peeled row by row on threads.
 ghost use Rattle.std.specs.Prelude.{◌≡◌, ◌/◌, ◌%◌, ◌<◌, ◌≤◌, [], length, map, slice_index_or, Ok, IfOk};
 ghost use Rattle.std.specs.List.{All};
-ghost use Rattle.abuf_num.specs.declared.limits.TheConstants.{MAX_PRIMITIVES, MAX_THREADS};
+ghost use Rattle.abuf_num.specs.declared.limits.TheConstants.{MAX_THREADS};
 ghost use Rattle.abuf_raster.specs.Region.{IsImageSize, whole_image};
 ghost use Rattle.abuf_raster.specs.Samples.{offsets_of};
 ghost use Rattle.abuf_resolve.specs.Sums.{region_sums, IsSmall};
@@ -80,9 +80,9 @@ impl<'a, 'b> Scene<'a, 'b> {
 }
 
 /// For each pixel of an image, in order, the sums over the samples of the pattern: per channel the sum of the samples' colours.
-/// There is a paint for each of at most `MAX_PRIMITIVES` primitives; the image is 1 to `MAX_SIDE` pixels wide and high, with at
-/// most `MAX_PIXELS` in all. Each row is a layer of its own, which takes primitives until none is left. The rows are shared among 1 to 64 workers in
-/// turn, and the sums are the same for every number of them. An error means that memory ran out.
+/// The image is 1 to `MAX_SIDE` pixels wide and high, with at most `MAX_PIXELS` in all. Each row is a layer of its own, which takes
+/// primitives until none is left. The rows are shared among 1 to 64 workers in turn, and the sums are the same for every number of
+/// them. An error means that memory ran out.
 pub fn peel<R: Threads + Sync>(
     rt: &R,
     alloc: Global,
@@ -93,8 +93,6 @@ pub fn peel<R: Threads + Sync>(
     background: [u16; 3],
     threads: u32,
 ) -> Result<List<PixelSum>, NoMemory>
-    requires few { length shown.now.tris ≤ MAX_PRIMITIVES }
-    requires paints { length shown.now.paints ≡ length shown.now.tris }
     requires size { IsImageSize width height }
     requires threads { (1 ≤ threads) × (threads ≤ MAX_THREADS) }
     ensures value { IfOk result (λ sums. sums ≡ region_sums (offsets_of pattern) background shown.now.tris shown.now.paints (whole_image width height)) }
