@@ -2,8 +2,7 @@
 use Rattle.std.specs.Prelude.{◌≡◌, ◌≤◌, ◌<◌, ◌+◌, ℕ, List, take, length, slice_index_or, Option, Result, Ok, Err}
 use Rattle.std.specs.List.{All, concat}
 use Rattle.std.specs.Io.KnownBytes.{Appends}
-use Rattle.abuf_num.specs.declared.limits.TheConstants.{MAX_THREADS, MAX_TRIANGLES}
-use Rattle.abuf_scene.specs.Triangles.{IsTriangleInRange}
+use Rattle.abuf_num.specs.declared.limits.TheConstants.{MAX_THREADS}
 use Rattle.abuf_scene.specs.declared.triangles.Triangle.{Triangle}
 use Rattle.abuf_sequence.specs.declared.fault.ImageFault.{ImageFault}
 use Rattle.abuf_sequence.specs.declared.fault.SequenceFault.{SequenceFault}
@@ -14,12 +13,11 @@ use Rattle.abuf_io.specs.Sinks.{Taken}
 use Rattle.abuf_sequence.specs.Sequences.{IsPlan, images, sound_count, IsSequenceAnswer}
 use Rattle.abuf_sequence.specs.Single.{AreBytes, IsDrawAnswer}
 
-module _ (plan : Plan) (triangles : List Triangle) (shots : List Shot) where
-  -- What the drawing of shot k by so many threads asks.
-  abbrev pub MayDraw : ℕ → ℕ → Type 0
-  MayDraw threads k = All IsTriangleInRange triangles × (length triangles ≤ MAX_TRIANGLES) × All IsShot shots × (k < length shots) × IsPlan plan
-      × (1 ≤ threads) × (threads ≤ MAX_THREADS)
+-- What the drawing of shot k by so many threads asks.
+abbrev pub MayDraw : Plan → List Shot → ℕ → ℕ → Type 0
+MayDraw plan shots threads k = All IsShot shots × (k < length shots) × IsPlan plan × (1 ≤ threads) × (threads ≤ MAX_THREADS)
 
+module _ (plan : Plan) (triangles : List Triangle) (shots : List Shot) where
   -- What drawing gives for each of these shots, in their order.
   pub record AreDrawn (drawn : List (Result (List ℕ) ImageFault)) : Type 0 where
     pub count : length drawn ≡ length shots

@@ -1,9 +1,8 @@
 // One image of a sequence.
-ghost use Rattle.std.specs.Prelude.{◌≡◌, ◌≤◌, length, MatchOption};
+ghost use Rattle.std.specs.Prelude.{◌≡◌, ◌≤◌, MatchOption};
 ghost use Rattle.std.specs.List.{All};
-ghost use Rattle.abuf_num.specs.declared.limits.TheConstants.{MAX_THREADS, MAX_TRIANGLES};
+ghost use Rattle.abuf_num.specs.declared.limits.TheConstants.{MAX_THREADS};
 ghost use Rattle.abuf_raster.specs.Region.{whole_image};
-ghost use Rattle.abuf_scene.specs.Triangles.{IsTriangleInRange};
 ghost use Rattle.abuf_sequence.specs.Paths.{IsShot};
 ghost use Rattle.abuf_sequence.specs.Sequences.{IsPlan, camera_of};
 ghost use Rattle.abuf_sequence.specs.Single.{AreBytes, AreSums, IsDrawAnswer};
@@ -69,8 +68,6 @@ fn sums_of<R: Threads + Sync>(
     plan: &Plan,
     threads: u32,
 ) -> Result<List<PixelSum>, ImageFault>
-    requires near { All IsTriangleInRange scene.now.triangles }
-    requires few { length scene.now.triangles ≤ MAX_TRIANGLES }
     requires plan { IsPlan plan.now }
     requires shot { IsShot shot }
     requires threads { (1 ≤ threads) × (threads ≤ MAX_THREADS) }
@@ -101,8 +98,6 @@ pub(crate) fn image_of<R: Threads + Sync>(
     plan: &Plan,
     threads: u32,
 ) -> Result<List<u8>, ImageFault>
-    requires near { All IsTriangleInRange scene.now.triangles }
-    requires few { length scene.now.triangles ≤ MAX_TRIANGLES }
     requires plan { IsPlan plan.now }
     requires shot { IsShot shot }
     requires threads { (1 ≤ threads) × (threads ≤ MAX_THREADS) }

@@ -1,9 +1,8 @@
 // Paths, and sequences of a triangle that covers the upper left of an image, or seen from behind the upper right.
 ghost use Rattle.std.specs.Prelude.{◌≡◌, ◌≤◌, length, true, IfOk};
 ghost use Rattle.std.specs.List.{All};
-ghost use Rattle.abuf_num.specs.declared.limits.TheConstants.{MAX_NODES, MAX_THREADS, MAX_TRIANGLES};
+ghost use Rattle.abuf_num.specs.declared.limits.TheConstants.{MAX_NODES, MAX_THREADS};
 ghost use Rattle.abuf_io.specs.Plans.{IsPlan as IsSinkPlan};
-ghost use Rattle.abuf_scene.specs.Triangles.{IsTriangleInRange};
 ghost use Rattle.abuf_sequence.specs.Sequences.{IsPlan};
 
 use crate::{PathFault, PathWhy, Plan, SequenceFault, Shot, read_path, sequence};
@@ -96,10 +95,7 @@ fn the_image_past_the_last_is_refused(rt: HostRuntime) -> Result<(), Fail> {
 }
 
 // A white triangle over the upper left half of the screen.
-fn scene(alloc: Global) -> Result<Scene, NoMemory>
-    ensures near { IfOk result (λ scene. All IsTriangleInRange scene.triangles) }
-    ensures few { IfOk result (λ scene. length scene.triangles ≤ MAX_TRIANGLES) }
-{
+fn scene(alloc: Global) -> Result<Scene, NoMemory> {
     let mut triangles = List::new(alloc);
     triangles.push(Triangle {
         a: [-262144, 262144, 0],

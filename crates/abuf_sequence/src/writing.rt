@@ -1,8 +1,7 @@
 // The images of a sequence, several drawn at once, and written one after another.
 ghost use Rattle.std.specs.Prelude.{◌≡◌, ◌+◌, ◌<◌, ◌≤◌, length, IfOk};
 ghost use Rattle.std.specs.List.{All};
-ghost use Rattle.abuf_num.specs.declared.limits.TheConstants.{MAX_IMAGES, MAX_TRIANGLES};
-ghost use Rattle.abuf_scene.specs.Triangles.{IsTriangleInRange};
+ghost use Rattle.abuf_num.specs.declared.limits.TheConstants.{MAX_IMAGES};
 ghost use Rattle.abuf_sequence.specs.Paths.{IsShot};
 ghost use Rattle.abuf_io.specs.Sinks.{sink_change};
 ghost use Rattle.abuf_sequence.specs.Sequences.{IsPlan, IsSequenceAnswer};
@@ -46,8 +45,6 @@ fn draw_batch<R: Threads + Sync>(
     shots: &[Shot],
     plan: &Plan,
 ) -> Result<Vec<Result<List<u8>, ImageFault>>, NoMemory>
-    requires near { All IsTriangleInRange scene.now.triangles }
-    requires few { length scene.now.triangles ≤ MAX_TRIANGLES }
     requires shots { All IsShot shots.now }
     requires some { (1 ≤ length shots.now) × (length shots.now ≤ plan.now.threads) }
     requires plan { IsPlan plan.now }
@@ -59,7 +56,7 @@ fn draw_batch<R: Threads + Sync>(
         alloc,
         shots.len(),
         &|k|
-            requires { IsSync R.row × MayDraw plan.now scene.now.triangles shots.now threads k }
+            requires { IsSync R.row × MayDraw plan.now shots.now threads k }
         { image_of(rt, alloc, scene, shots[k], plan, threads) },
     )?;
     Ok(drawn)
@@ -112,8 +109,6 @@ pub fn sequence<R: Threads + Sync, O: Sink>(
     plan: &Plan,
     out: &mut O,
 ) -> Result<(), SequenceFault>
-    requires near { All IsTriangleInRange scene.now.triangles }
-    requires few { length scene.now.triangles ≤ MAX_TRIANGLES }
     requires shots { (length shots.now ≤ MAX_IMAGES) × All IsShot shots.now }
     requires plan { IsPlan plan.now }
     ensures answer { IsSequenceAnswer plan.now scene.now.triangles shots.now (sink_change O.taken O.faults out.old out.new) result }
