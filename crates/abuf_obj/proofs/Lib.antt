@@ -1,6 +1,5 @@
 pub mod Digits
-pub mod FewPlaces
-pub mod Indices
+pub mod Leading
 pub mod Joining
 pub mod Late
 pub mod Reading

@@ -7,5 +7,5 @@ pub mod Scene
 pub mod Places
 pub mod Sound
 pub mod Taking
-pub mod Few
+pub mod LeadingElement
 pub mod Corners

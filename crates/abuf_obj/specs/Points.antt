@@ -11,6 +11,11 @@ unless_fault (Err fault) = None
 abbrev pub coordinate : List ℕ → Option ℤ
 coordinate text = unless_fault (scaled text 65536)
 
+-- the number that the first argument is
+abbrev pub first_coordinate : List (List ℕ) → Option ℤ
+first_coordinate [] = None
+first_coordinate (x ∷ more) = coordinate x
+
 abbrev pub point_from : Option ℤ → Option ℤ → Option ℤ → Option (List ℤ)
 point_from (Some x) (Some y) (Some z) = Some (x ∷ y ∷ z ∷ [])
 point_from (Some x) (Some y) None = None

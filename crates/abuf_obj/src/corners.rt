@@ -1,30 +1,55 @@
 // The corners of a face.
-ghost use Rattle.std.specs.Prelude.{◌≡◌, ◌≤◌, length, map, None, Some, option_map, IfErr, IfOk, OnOk};
+ghost use Rattle.std.specs.Prelude.{◌≡◌, ◌≤◌, [], length, map, None, Some, option_map, IfErr, IfOk, IfSome, IsTrue, OnOk};
 ghost use Rattle.abuf_num.specs.declared.limits.TheConstants.{MAX_ELEMENTS};
 ghost use Rattle.abuf_obj.specs.Elements.{places_of};
 ghost use Rattle.abuf_obj.specs.Faults.{TellsWhy};
-ghost use Rattle.abuf_obj.specs.Few.{elements_of};
-ghost use Rattle.abuf_obj.specs.Corners.{corners_why};
+ghost use Rattle.abuf_obj.specs.Corners.{corners_why, AreCorners};
 ghost use Rattle.abuf_obj.specs.Places.{clamped};
 
-use crate::element::{count, places};
+use crate::element::{count, next_place, places};
 use crate::fault::{ObjFault, Why};
-use crate::few::Few;
-use abuf_num::List;
 use abuf_num::limits::MAX_ELEMENTS;
+use abuf_num::{List, NoMemory};
 use abuf_text::Statement;
 use std::alloc::Global;
 
-// The places of three or four elements.
-fn few_corners(alloc: Global, line: u32, above: u32, few: Few) -> Result<List<u32>, ObjFault>
-    ensures fault { IfErr result (TellsWhy line (corners_why above (elements_of few.entry))) }
-    ensures ok { OnOk result (corners_why above (elements_of few.entry) ≡ None) }
-    ensures value { IfOk result (λ list. Some list ≡ option_map (map clamped) (places_of above (elements_of few.entry))) }
-    ensures count { IfOk result (λ list. length list ≡ length (elements_of few.entry)) }
+// No element is left.
+fn is_end(elements: &Statement) -> bool
+    ensures { IsTrue result → elements.now ≡ [] }
 {
-    match few.places(alloc, above)? {
-        Some(corners) => Ok(corners),
-        None => Err(Why::BadIndex.at(line)),
+    elements.text().is_empty()
+}
+
+// The places of three or four elements, which nearly all faces have; none where they are more or fewer, or where one has no place.
+// They need no count of their own.
+fn few_corners(
+    alloc: Global,
+    above: u32,
+    mut elements: Statement,
+) -> Result<Option<List<u32>>, NoMemory>
+    ensures { IfOk result (λ found. IfSome found (λ list. AreCorners above elements.entry list)) }
+{
+    let Some(first) = next_place(&mut elements, above) else {
+        return Ok(None);
+    };
+    let Some(second) = next_place(&mut elements, above) else {
+        return Ok(None);
+    };
+    let Some(third) = next_place(&mut elements, above) else {
+        return Ok(None);
+    };
+    if is_end(&elements) {
+        let places = vec![in alloc; first, second, third]?;
+        return Ok(Some(List::from_vec(places)));
+    }
+    let Some(fourth) = next_place(&mut elements, above) else {
+        return Ok(None);
+    };
+    if is_end(&elements) {
+        let places = vec![in alloc; first, second, third, fourth]?;
+        Ok(Some(List::from_vec(places)))
+    } else {
+        Ok(None)
     }
 }
 
@@ -67,8 +92,8 @@ pub fn corners(
     ensures least { OnOk result (3 ≤ length elements.entry) }
     ensures most { OnOk result (length elements.entry ≤ MAX_ELEMENTS) }
 {
-    match Few::of(elements.again()) {
-        Some(few) => few_corners(alloc, line, above, few),
+    match few_corners(alloc, above, elements.again())? {
+        Some(corners) => Ok(corners),
         None => many_corners(alloc, line, above, elements),
     }
 }

@@ -1,9 +1,11 @@
 // The elements of an `f` line.
-ghost use Rattle.std.specs.Prelude.{◌≡◌, ◌≤◌, ◌<◌, ◌^◌, Some, length, map, min, position, option_map, take, IfOk, IfSome};
+ghost use Rattle.std.specs.Prelude.{◌≡◌, ◌≤◌, ◌<◌, ℕ, Some, true, length, map, min, position, option_map, take, drop, IfOk, IfSome};
+ghost use Rattle.std.specs.List.{list_all};
 ghost use Rattle.abuf_obj.specs.Elements.{spelled_from, spelled, is_negative, without_minus, is_slash, before_slash, after_slash, is_unused_index, is_normal, is_texture_and_normal, from_last, from_first, place_of_index, place_of, places_of};
+ghost use Rattle.abuf_obj.specs.LeadingElement.{is_index_byte, is_element_byte, place_by, first_place, IsIndex};
 ghost use Rattle.abuf_obj.specs.Places.{clamped};
 
-use abuf_num::{List, NoMemory};
+use abuf_num::{List, NoMemory, leading_digits};
 use abuf_text::Statement;
 use std::alloc::Global;
 
@@ -137,8 +139,8 @@ fn place_of_index(above: u32, text: &[u8]) -> Option<u32>
     }
 }
 
-// The place of an element's point, by the parts of the element.
-fn place_by_parts(above: u32, text: &[u8]) -> Option<u32>
+// The place of an element's point.
+fn place(above: u32, text: &[u8]) -> Option<u32>
     ensures { result ≡ option_map clamped (place_of above text.now) }
 {
     let (index, behind) = split_slash(text);
@@ -149,49 +151,131 @@ fn place_by_parts(above: u32, text: &[u8]) -> Option<u32>
     }
 }
 
-// Up to ten digits at the start of a text, and the number that they spell.
+// An index at the start of a text: its sign, the number that its digits spell, and how many bytes it takes.
 #[derive(Clone, Copy)]
-struct Leading {
-    count: usize,
+struct Index {
+    negative: bool,
     value: u64,
+    length: usize,
 }
 
-fn leading_digits(text: &[u8]) -> Leading
-    ensures count { result.count ≤ length text.now }
-    ensures few { result.count ≤ 10 }
-    ensures value { spelled_from 0 (take result.count text.now) ≡ Some result.value }
-    ensures small { result.value < 10 ^ 10 }
-{
-    let mut count = 0;
-    let mut value = 0;
-    for b in text {
-        if *b < 48 || 57 < *b || count == 10 {
-            return Leading { count, value };
-        }
-        value = 10 * value + u64::from(*b - 48);
-        count += 1;
-    }
-    Leading { count, value }
+// The place of an element's point at the start of a text, and how many bytes the element takes.
+#[derive(Clone, Copy)]
+struct Element {
+    place: u32,
+    length: usize,
 }
 
-/// The place of an element's point. An index that begins with a digit, as nearly all do, is read in one pass.
-pub fn place(above: u32, text: &[u8]) -> Option<u32>
-    ensures { result ≡ option_map clamped (place_of above text.now) }
+#[inline(always)]
+fn leading_index(text: &[u8]) -> Option<Index>
+    ensures within { IfSome result (λ i. i.length ≤ length text.now) }
+    ensures index { IfSome result (λ i. IsIndex i (take i.length text.now)) }
 {
-    let index = leading_digits(text);
-    if index.count == 0 {
-        return place_by_parts(above, text);
+    let unsigned = without_minus(text);
+    let digits = leading_digits(0, 0, 10, unsigned);
+    if digits.count == 0 {
+        return None;
     }
-    if index.count == text.len() {
-        return from_first(index.value);
+    Some(Index {
+        negative: begins_negative(text),
+        value: digits.value,
+        length: text.len() - unsigned.len() + digits.count,
+    })
+}
+
+// How many bytes an index at the start of a text takes that isn't used, or none.
+#[inline(always)]
+fn leading_unused(text: &[u8]) -> usize
+    ensures within { result ≤ length text.now }
+    ensures unused { is_unused_index (take result text.now) ≡ true }
+    ensures bytes { list_all is_index_byte (take result text.now) ≡ true }
+{
+    match leading_index(text) {
+        Some(index) => index.length,
+        None => 0,
     }
-    if text[index.count] != b'/' {
-        return place_by_parts(above, text);
-    }
-    if is_texture_and_normal(Some(&text[index.count + 1..])) {
-        from_first(index.value)
+}
+
+// How many bytes a texture's index and a normal's take behind the first slash.
+#[inline(always)]
+fn leading_texture_and_normal(text: &[u8]) -> usize
+    ensures within { result ≤ length text.now }
+    ensures unused { is_texture_and_normal (Some (take result text.now)) ≡ true }
+    ensures bytes { list_all is_element_byte (take result text.now) ≡ true }
+{
+    let texture = leading_unused(text);
+    if texture < text.len() && text[texture] == b'/' {
+        texture + 1 + leading_unused(&text[texture + 1..])
     } else {
-        None
+        texture
+    }
+}
+
+// How many bytes an element takes that begins with an index of so many.
+#[inline(always)]
+fn element_length(text: &[u8], index: usize) -> usize
+    requires within { index ≤ length text.now }
+    requires some { 0 < index }
+    requires bytes { list_all is_index_byte (take index text.now) ≡ true }
+    ensures within { result ≤ length text.now }
+    ensures some { 0 < result }
+    ensures place { (above : ℕ) → place_of above (take result text.now) ≡ place_of_index above (take index text.now) }
+    ensures bytes { list_all is_element_byte (take result text.now) ≡ true }
+{
+    if index < text.len() && text[index] == b'/' {
+        index + 1 + leading_texture_and_normal(&text[index + 1..])
+    } else {
+        index
+    }
+}
+
+// The place of the point with this index.
+#[inline(always)]
+fn place_at(above: u32, negative: bool, value: u64) -> Option<u32>
+    ensures { result ≡ option_map clamped (place_by above negative value) }
+{
+    if negative {
+        from_last(above, value)
+    } else {
+        from_first(value)
+    }
+}
+
+#[inline(always)]
+fn leading_element(above: u32, text: &[u8]) -> Option<Element>
+    ensures within { IfSome result (λ e. e.length ≤ length text.now) }
+    ensures some { IfSome result (λ e. 0 < e.length) }
+    ensures place { IfSome result (λ e. option_map clamped (place_of above (take e.length text.now)) ≡ Some e.place) }
+    ensures bytes { IfSome result (λ e. list_all is_element_byte (take e.length text.now) ≡ true) }
+{
+    let Some(index) = leading_index(text) else {
+        return None;
+    };
+    match place_at(above, index.negative, index.value) {
+        Some(place) => Some(Element {
+            place,
+            length: element_length(text, index.length),
+        }),
+        None => None,
+    }
+}
+
+/// The place of the first element's point. Where it stands in the usual form, its end is found as it is read; else it is cut first.
+#[inline(always)]
+pub fn next_place<'a>(elements: &mut Statement<'a>, above: u32) -> Option<u32>
+    ensures value { result ≡ option_map clamped (first_place above elements.old) }
+    ensures rest { IfSome result (λ _. elements.new ≡ drop 1 elements.old) }
+{
+    let text = elements.text();
+    if let Some(element) = leading_element(above, text) {
+        if let Some(behind) = Statement::behind(text, element.length) {
+            *elements = behind;
+            return Some(element.place);
+        }
+    }
+    match elements.next() {
+        Some(element) => place(above, element),
+        None => None,
     }
 }
 
@@ -200,15 +284,15 @@ pub fn places(
     alloc: Global,
     above: u32,
     count: u32,
-    elements: Statement,
+    mut elements: Statement,
 ) -> Result<Option<List<u32>>, NoMemory>
     requires { length elements ≡ count }
     ensures value { IfOk result (λ places. places ≡ option_map (map clamped) (places_of above elements.entry)) }
     ensures count { IfOk result (λ places. IfSome places (λ list. length list ≡ count)) }
 {
     let mut list = Vec::with_capacity(alloc, count as usize)?;
-    for element in elements {
-        match place(above, element) {
+    for _i in 0..count {
+        match next_place(&mut elements, above) {
             Some(place) => list.push(place)?,
             None => return Ok(None),
         }

@@ -1,5 +1,5 @@
 // The kind of a line.
-ghost use Rattle.std.specs.Prelude.{◌≡◌};
+ghost use Rattle.std.specs.Prelude.{◌≡◌, ◌<◌, length, slice_index, IsTrue};
 ghost use Rattle.std.specs.List.{list_any, list_all};
 ghost use Rattle.std.specs.Str.{bytes_eq};
 ghost use Rattle.abuf_text.specs.Statement.{statement, arguments};
@@ -72,12 +72,35 @@ impl Keyword {
     }
 }
 
-/// The kind of a line, and its arguments.
+// The text begins with this byte.
+#[inline(always)]
+fn begins_with(text: &[u8], byte: u8) -> bool
+    ensures { IsTrue result → (0 < length text.now) × (slice_index text.now 0 ≡ byte) }
+{
+    match text.first() {
+        Some(b) => *b == byte,
+        None => false,
+    }
+}
+
+/// The kind of a line, and its arguments. The lines of points and faces, which nearly all are, are told by their first two bytes.
+#[inline(always)]
 pub fn split_line(line: &[u8]) -> (Keyword, Statement)
     ensures keyword { result.0 ≡ keyword_of (statement line.now) }
     ensures arguments { result.1 ≡ arguments line.now }
 {
     let mut statement = Statement::new(line);
+    let text = statement.text();
+    if begins_with(text, b'v') {
+        if let Some(arguments) = Statement::behind(text, 1) {
+            return (Keyword::Vertex, arguments);
+        }
+    }
+    if begins_with(text, b'f') {
+        if let Some(arguments) = Statement::behind(text, 1) {
+            return (Keyword::Face, arguments);
+        }
+    }
     match statement.next() {
         Some(token) => (Keyword::read(token), statement),
         None => (Keyword::Passed, statement),

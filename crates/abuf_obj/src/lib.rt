@@ -10,7 +10,6 @@ mod corners;
 mod element;
 mod face;
 mod fault;
-mod few;
 mod keyword;
 mod points;
 mod reader;

@@ -1,10 +1,10 @@
 // The point of a `v` line.
-ghost use Rattle.std.specs.Prelude.{◌≡◌, ◌≤◌, All, IfSome, unsigned_abs};
+ghost use Rattle.std.specs.Prelude.{◌≡◌, ◌≤◌, All, IfSome, drop, unsigned_abs};
 ghost use Rattle.abuf_num.specs.declared.limits.TheConstants.{MAX_COORDINATE};
-ghost use Rattle.abuf_obj.specs.Points.{coordinate, point_from, point_of};
+ghost use Rattle.abuf_obj.specs.Points.{coordinate, first_coordinate, point_of};
 ghost use Rattle.abuf_obj.specs.Sound.{IsInRange};
 
-use abuf_num::scaled;
+use abuf_num::{leading_number, scaled};
 use abuf_text::Statement;
 
 // A number in units of 1/65536.
@@ -15,16 +15,23 @@ fn coordinate(text: &[u8]) -> Option<i64>
     scaled(text, 65536).ok()
 }
 
-fn three(x: Option<i64>, y: Option<i64>, z: Option<i64>) -> Option<[i64; 3]>
-    requires x { IfSome x (λ x. unsigned_abs x ≤ MAX_COORDINATE) }
-    requires y { IfSome y (λ y. unsigned_abs y ≤ MAX_COORDINATE) }
-    requires z { IfSome z (λ z. unsigned_abs z ≤ MAX_COORDINATE) }
-    ensures value { result ≡ point_from x y z }
-    ensures near { IfSome result IsInRange }
+// The first argument as a coordinate. Where it stands in the usual form, its end is found as it is read; else it is cut first.
+#[inline(always)]
+fn next_coordinate<'a>(arguments: &mut Statement<'a>) -> Option<i64>
+    ensures value { result ≡ first_coordinate arguments.old }
+    ensures near { IfSome result (λ z. unsigned_abs z ≤ MAX_COORDINATE) }
+    ensures rest { IfSome result (λ _. arguments.new ≡ drop 1 arguments.old) }
 {
-    match (x, y, z) {
-        (Some(x), Some(y), Some(z)) => Some([x, y, z]),
-        _ => None,
+    let text = arguments.text();
+    if let Some(number) = leading_number(text, 65536) {
+        if let Some(behind) = Statement::behind(text, number.length) {
+            *arguments = behind;
+            return Some(number.value);
+        }
+    }
+    match arguments.next() {
+        Some(token) => coordinate(token),
+        None => None,
     }
 }
 
@@ -33,14 +40,14 @@ pub fn point(mut arguments: Statement) -> Option<[i64; 3]>
     ensures value { result ≡ point_of arguments.entry }
     ensures near { IfSome result IsInRange }
 {
-    let Some(x) = arguments.next() else {
+    let Some(x) = next_coordinate(&mut arguments) else {
         return None;
     };
-    let Some(y) = arguments.next() else {
+    let Some(y) = next_coordinate(&mut arguments) else {
         return None;
     };
-    match arguments.next() {
-        Some(z) => three(coordinate(x), coordinate(y), coordinate(z)),
+    match next_coordinate(&mut arguments) {
+        Some(z) => Some([x, y, z]),
         None => None,
     }
 }

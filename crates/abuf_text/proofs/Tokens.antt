@@ -1,10 +1,12 @@
 -- The statement of a line, one after another.
-use Rattle.std.proofs.Common.{ℕ, ◌≡◌, ◌+◌, ◌<◌, ◌∷◌, [], true, false, List, length, filter, suc, refl, sym, ap, ◌∙◌, subst, arith, ⊎_elim}
-use Rattle.std.specs.List.{slice_split, position_or_len, onto_first}
+use Rattle.std.proofs.Common.{◌++◌, ◌≤◌, ◌-◌, ap₂, take, drop, drop-cons, get_or, ℕ, ◌≡◌, ◌+◌, ◌<◌, ◌∷◌, [], true, false, List, length, filter, suc, refl, sym, ap, ◌∙◌, subst, arith, ⊎_elim}
+use Rattle.std.specs.List.{slice_split, position_or_len, onto_first, list_any}
+use Rattle.std.proofs.Math.Seq.{take-append_seam, drop-append_seam, take-length}
+use Rattle.std.proofs.lemmas.List.{length-drop, take-append-drop}
 use Rattle.std.proofs.lemmas.Bool.{cases_Bool}
 use Rattle.std.proofs.lemmas.Bool.Decides.{nat_tests}
 use Rattle.std.proofs.lemmas.List.Splits.{slice_split-cons_yes, slice_split-cons_no}
-use Rattle.abuf_text.specs.Statement.{tokens, statement, before_comment, is_space, is_some_text, is_comment}
+use Rattle.abuf_text.specs.Statement.{tokens, statement, before_comment, is_space, is_some_text, is_comment, IsPlain}
 use Rattle.abuf_text.specs.Rest.{trim_start, first_token, after_token, is_text}
 
 one_more : (n : ℕ) → 1 + n ≡ suc n
@@ -116,3 +118,61 @@ statement-nil = statement-none [] refl
 
 pub statement-trim_none : (text : List ℕ) → length text ≡ 0 → statement text ≡ []
 statement-trim_none text none = ap statement (nil_is text none) ∙ statement-nil
+
+pub statement-trim_start : (bs : List ℕ) → statement (trim_start bs) ≡ statement bs
+statement-trim_start bs = ap before_comment (tokens-trim_start bs)
+
+-- where no byte is a space, neither the first is, nor one of the others
+record Spaceless (b : ℕ) (bs : List ℕ) : Type 0 where
+  first : is_space b ≡ false
+  others : list_any is_space bs ≡ false
+
+spaceless : (b : ℕ) (bs : List ℕ) → list_any is_space (b ∷ bs) ≡ false → Spaceless b bs
+spaceless b bs none =
+    ⊎_elim
+    (λ (blank : is_space b ≡ true). absurd (let clash : true ≡ false = sym (let e : list_any is_space (b ∷ bs) ≡ true = rw blank refl in e) ∙ none in cc))
+    (λ (text : is_space b ≡ false). record { first = text; others = sym (let e : list_any is_space (b ∷ bs) ≡ list_any is_space bs = rw text refl in e) ∙ none })
+    (cases_Bool (is_space b))
+
+-- it begins with a space, if it has a byte
+abbrev pub BeginsSpaced : List ℕ → Type 0
+BeginsSpaced [] = Unit {0}
+BeginsSpaced (b ∷ bs) = is_space b ≡ true
+
+-- the first space stands behind bytes that are none
+space_behind : (xs ys : List ℕ) → list_any is_space xs ≡ false → BeginsSpaced ys → position_or_len is_space (xs ++ ys) ≡ length xs
+space_behind [] [] none spaced = refl
+space_behind [] (y ∷ ys) none spaced = rw spaced refl
+space_behind (b ∷ bs) ys none spaced =
+    let at = spaceless b bs none in
+    rw at.first (rw (space_behind bs ys at.others spaced) (one_more (length bs)))
+
+-- a token that begins no comment, and the statement behind it
+pub statement-plain : (xs ys : List ℕ) → IsPlain xs → BeginsSpaced ys → statement (xs ++ ys) ≡ xs ∷ statement ys
+statement-plain [] ys plain spaced = absurd (let some : 0 < 0 = plain.some in omega arith)
+statement-plain (b ∷ bs) ys plain spaced =
+    let all = (b ∷ bs) ++ ys in
+    let here : position_or_len is_space all ≡ length (b ∷ bs) = space_behind (b ∷ bs) ys plain.spaces spaced in
+    let trim : trim_start all ≡ all = trim-text b (bs ++ ys) (spaceless b bs plain.spaces).first in
+    let first : first_token all ≡ b ∷ bs = ap (λ (n : ℕ). take n all) here ∙ take-append_seam (b ∷ bs) ys in
+    let after : after_token all ≡ ys = ap (λ (n : ℕ). drop n all) here ∙ drop-append_seam (b ∷ bs) ys in
+    let some : 0 < length (trim_start all) = subst (λ (t : List ℕ). 0 < length t) (sym trim) (omega arith) in
+    let comment : is_comment (first_token (trim_start all)) ≡ false = ap (λ (t : List ℕ). is_comment (first_token t)) trim ∙ ap is_comment first ∙ plain.comment in
+    statement-first all some comment ∙ ap (λ (t : List ℕ). first_token t ∷ statement (after_token t)) trim ∙ ap₂ (λ (t u : List ℕ). t ∷ statement u) first after
+
+module _ (text : List ℕ) (count : ℕ) (plain : IsPlain (take count text)) where
+  cut : BeginsSpaced (drop count text) → statement text ≡ take count text ∷ statement (drop count text)
+  cut spaced = ap statement (sym (take-append-drop count text)) ∙ statement-plain (take count text) (drop count text) plain spaced
+
+  -- the token is the whole text
+  pub behind-end : count ≡ length text → statement text ≡ take count text ∷ statement []
+  behind-end end =
+      let none : drop count text ≡ [] = nil_is (drop count text) (length-drop count text ∙ omega arith) in
+      cut (subst BeginsSpaced (sym none) tt) ∙ ap (λ (t : List ℕ). take count text ∷ statement t) none
+
+  -- a space stands behind the token
+  pub behind-space : count < length text → is_space (get_or text count 0) ≡ true → statement text ≡ take count text ∷ statement (take (length text - count) (drop count text))
+  behind-space within space =
+      let next = drop-cons text count 0 within in
+      let end : take (length text - count) (drop count text) ≡ drop count text = ap (λ (n : ℕ). take n (drop count text)) (sym (length-drop count text)) ∙ take-length (drop count text) in
+      cut (subst BeginsSpaced (sym next) space) ∙ ap (λ (t : List ℕ). take count text ∷ statement t) (sym end)

@@ -1,6 +1,6 @@
 -- What a line says, in Wavefront OBJ and MTL: a keyword and its arguments, divided by white space.
-use Rattle.std.specs.Prelude.{◌==◌, ◌||◌, ℕ, Bool, nat_lt, List, length, filter, slice_index, drop}
-use Rattle.std.specs.List.{slice_split, before_first}
+use Rattle.std.specs.Prelude.{◌==◌, ◌||◌, ◌≡◌, ◌<◌, ℕ, Bool, false, nat_lt, List, length, filter, slice_index, drop}
+use Rattle.std.specs.List.{slice_split, before_first, list_any}
 
 -- a space, a tab or a carriage return
 abbrev pub is_space : ℕ → Bool
@@ -29,3 +29,9 @@ statement line = before_comment (tokens line)
 -- what follows the keyword
 abbrev pub arguments : List ℕ → List (List ℕ)
 arguments line = drop 1 (statement line)
+
+-- bytes of one token that begins no comment
+pub record IsPlain (text : List ℕ) : Type 0 where
+  pub some : 0 < length text
+  pub spaces : list_any is_space text ≡ false
+  pub comment : is_comment text ≡ false

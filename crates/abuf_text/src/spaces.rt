@@ -5,7 +5,7 @@ ghost use Rattle.abuf_text.specs.Statement.{is_space};
 ghost use Rattle.abuf_text.specs.Rest.{is_text, trim_start, trim_end, first_token, after_token, rest};
 
 // A space, a tab or a carriage return.
-fn is_space(b: u8) -> bool
+pub fn is_space(b: u8) -> bool
     ensures { result ≡ is_space b }
 {
     b == b' ' || b == b'\t' || b == b'\r'

@@ -1,9 +1,9 @@
 // What a line says.
-ghost use Rattle.std.specs.Prelude.{◌≡◌, List, length};
+ghost use Rattle.std.specs.Prelude.{◌≡◌, ◌≤◌, ◌∷◌, [], List, length, take, IfSome};
 ghost use Rattle.std.specs.Iterator.{YieldsFirstBy, item_count};
-ghost use Rattle.abuf_text.specs.Statement.{statement, is_comment};
+ghost use Rattle.abuf_text.specs.Statement.{statement, is_comment, is_space, IsPlain};
 
-use crate::spaces::{split_token, trim_start};
+use crate::spaces::{is_space, split_token, trim_start};
 use std::marker::Model;
 
 /// The tokens of a line that are still to come, up to a comment: first the keyword, then its arguments.
@@ -29,6 +29,34 @@ impl<'a> Statement<'a> {
         ensures { result ≡ statement line.now }
     {
         Statement { left: line }
+    }
+
+    /// The bytes that are left, from the first token on. A reader that knows how its token begins reads it from here, and goes on
+    /// [behind](Statement::behind) it, so that each byte is read once.
+    #[inline(always)]
+    pub fn text(&self) -> &'a [u8]
+        ensures left { statement result.now ≡ self.now }
+        ensures none { length result.now ≡ 0 → self.now ≡ [] }
+    {
+        trim_start(self.left)
+    }
+
+    /// What these bytes say behind a first token of so many bytes; none where the token is longer.
+    #[inline(always)]
+    pub fn behind(text: &'a [u8], count: usize) -> Option<Statement<'a>>
+        requires within { count ≤ length text.now }
+        requires token { IsPlain (take count text.now) }
+        ensures { IfSome result (λ s. statement text.now ≡ take count text.now ∷ s) }
+    {
+        if count == text.len() {
+            Some(Statement { left: &[] })
+        } else if is_space(text[count]) {
+            Some(Statement {
+                left: &text[count..],
+            })
+        } else {
+            None
+        }
     }
 
     /// The same tokens once more, for a caller that counts before it reads.

@@ -23,6 +23,18 @@ fn comment_ends_the_arguments(rt: HostRuntime) {
 }
 
 #[test]
+fn a_token_is_passed_by_its_length(rt: HostRuntime) {
+    let text = Statement::new(b" \tab 1 ").text();
+    assert!(rt; text == b"ab 1 ".as_slice());
+    match Statement::behind(text, 2) {
+        Some(mut tokens) => assert!(rt; tokens.next() == Some(b"1".as_slice())),
+        None => assert!(rt; false),
+    }
+    assert!(rt; Statement::behind(text, 1).is_none());
+    assert!(rt; Statement::behind(b"ab", 2).is_some());
+}
+
+#[test]
 fn rest_is_one_name(rt: HostRuntime) {
     assert!(rt; rest(b" usemtl\t dark  red # two\t\r") == b"dark  red # two".as_slice());
     assert!(rt; rest(b"usemtl \t") == b"".as_slice());

@@ -1,20 +1,45 @@
-use Rattle.std.proofs.Common.{◌∙◌, ◌∷◌, [], sym, ap, List, ℕ, arith, length, length-append}
+use Rattle.std.proofs.Common.{◌∙◌, ◌++◌, ◌∷◌, ◌≡◌, ◌<◌, None, Some, [], sym, ap, List, ℕ, arith, length, drop, length-append}
 use Rattle.abuf_obj.specs.Elements.{places_of}
-use Rattle.abuf_obj.proofs.Joining.{joined, places-first}
+use Rattle.abuf_obj.proofs.Joining.{joined, places-next, places-stop, one-less, places-end, places-fail}
 use Rattle.abuf_obj.proofs.element.places.Goals as goal
 
-pub loop-element-preserved : goal.loop-element-preserved
-loop-element-preserved c = record {
-  value =
-      ap (λ (list : List ℕ). joined list (places_of c.args.above c.next.new.self)) c.in_ok-push-in-Some-place.ensures.items
-      ∙ places-first c.args.above c.in-Some.element.now c.next.new.self c.loop-element.list.items c.in-Some-place.place (sym c.place.ensures ∙ c.in-Some-place.is)
-      ∙ ap (λ (rest : List (List ℕ)). joined c.loop-element.list.items (places_of c.args.above rest)) (sym c.in-Some.ensures.steps)
-      ∙ c.loop-element.invariant.value;
-  count = omega (
-    arith,
-    c.loop-element.invariant.count,
-    ap length c.in_ok-push-in-Some-place.ensures.items,
-    length-append c.loop-element.list.items (c.in-Some-place.place ∷ []),
-    ap length c.in-Some.ensures.steps,
-  );
+pub loop-i-init : goal.loop-i-init
+loop-i-init c = record {
+  value = ap (λ (list : List ℕ). joined list (places_of c.args.above c.args.elements)) c.in_ok-list.ensures.items;
+  count = omega (arith, ap length c.in_ok-list.ensures.items, c.requires);
+  index = ap length c.in_ok-list.ensures.items;
 }
+
+pub loop-i-preserved : goal.loop-i-preserved
+loop-i-preserved c =
+    let is = sym c.next_place.ensures.value ∙ c.in-Some.is in
+    record {
+      value =
+          ap (λ (list : List ℕ). joined list (places_of c.args.above c.next_place.new.elements)) c.in_ok-push-in-Some.ensures.items
+          ∙ ap (λ (rest : List (List ℕ)). joined (c.loop-i.list.items ++ c.in-Some.place ∷ []) (places_of c.args.above rest)) c.in-Some.ensures.rest
+          ∙ places-next c.args.above c.loop-i.elements c.loop-i.list.items c.in-Some.place is
+          ∙ c.loop-i.invariant.value;
+      count = omega (
+        arith,
+        c.loop-i.invariant.count,
+        ap length c.in_ok-push-in-Some.ensures.items,
+        length-append c.loop-i.list.items (c.in-Some.place ∷ []),
+        one-less c.args.above c.loop-i.elements c.in-Some.place is,
+        ap length c.in-Some.ensures.rest,
+      );
+      index = omega (arith, c.loop-i.invariant.index, ap length c.in_ok-push-in-Some.ensures.items, length-append c.loop-i.list.items (c.in-Some.place ∷ []));
+    }
+
+pub returns-in-None-clause-value : goal.returns-in-None-clause-value
+returns-in-None-clause-value c =
+    let some : 0 < length c.loop-i.elements = omega (arith, c.loop-i.invariant.count, c.loop-i.invariant.index) in
+    let none : places_of c.args.above c.loop-i.elements ≡ None = places-stop c.args.above c.loop-i.elements some (sym c.next_place.ensures.value ∙ c.in-None.is) in
+    places-fail c.args.above c.loop-i.elements c.args.elements c.loop-i.list.items none c.loop-i.invariant.value
+
+pub returns-clause-value : goal.returns-clause-value
+returns-clause-value c =
+    ap Some c.from_vec.ensures
+    ∙ places-end c.args.above c.loop-i.elements c.args.elements c.loop-i.list.items (omega (arith, c.loop-i.invariant.count, c.loop-i.invariant.index, c.loop-i-test.false)) c.loop-i.invariant.value
+
+pub returns-clause-count : goal.returns-clause-count
+returns-clause-count c = omega (arith, c.loop-i.invariant.count, c.loop-i.invariant.index, c.loop-i-test.false, ap length c.from_vec.ensures)

@@ -3,8 +3,9 @@ use Rattle.abuf_obj.specs.Elements.{places_of}
 use Rattle.abuf_obj.proofs.Joining.{joined}
 use Rattle.abuf_obj.proofs.element.places.Given as goal
 
-abbrev pub invariant-loop-element : goal.invariant-loop-element
-invariant-loop-element l = record {
-  value : joined l.list.items (places_of l.above l.element-iterator) ≡ joined [] (places_of l.above l.fn.elements);
-  count : length l.list.items + length l.element-iterator ≡ l.count;
+abbrev pub invariant-loop-i : goal.invariant-loop-i
+invariant-loop-i l = record {
+  value : joined l.list.items (places_of l.above l.elements) ≡ joined [] (places_of l.above l.fn.elements);
+  count : length l.list.items + length l.elements ≡ l.count;
+  index : length l.list.items ≡ l._i;
 }
