@@ -6,12 +6,11 @@ use Rattle.std.proofs.lemmas.Nat.{div-add-mod', div-mul-add, mod-mul-add, div_be
 use Rattle.std.proofs.lemmas.List.Elements.{All-nil, All-cons}
 use Rattle.std.proofs.lemmas.List.Sorted.{All-permutation, IsPermutation-sym, list_any-IsPermutation}
 use Rattle.abuf_raster.specs.declared.region.Hit.{Hit}
-use Rattle.abuf_raster.specs.declared.region.Region.{Region}
 use Rattle.abuf_raster.specs.declared.pattern.Pattern.{Pattern}
 use Rattle.abuf_raster.specs.Triangle.{Triangle}
 use Rattle.abuf_raster.specs.Coverage.{covers, mask}
 use Rattle.abuf_raster.specs.Hits.{hit_at, hits, IsHitIn}
-use Rattle.abuf_raster.specs.Region.{IsRegion, place_of}
+use Rattle.abuf_raster.specs.Region.{Region, IsRegion, place_of}
 use Rattle.abuf_raster.specs.Samples.{offsets_of}
 use Rattle.abuf_raster.proofs.Bits.{bit_covers, none_covered}
 use Rattle.abuf_peel.specs.Layers.{count_of, size_of, sample_at}

@@ -3,11 +3,10 @@ use Rattle.std.specs.Prelude.{◌≡◌, ℕ, zero, suc, ◌+◌, ◌*◌, ◌/�
 use Rattle.std.specs.List.{range_with_len}
 use Rattle.abuf_num.specs.declared.plain.Paint.{Paint}
 use Rattle.abuf_num.specs.declared.plain.PixelSum.{PixelSum}
-use Rattle.abuf_raster.specs.declared.region.Region.{Region}
 use Rattle.abuf_raster.specs.declared.pattern.Pattern.{Pattern}
 use Rattle.abuf_raster.specs.Triangle.{Triangle}
 use Rattle.abuf_raster.specs.Samples.{offsets_of}
-use Rattle.abuf_raster.specs.Region.{IsRegion}
+use Rattle.abuf_raster.specs.Region.{Region}
 use Rattle.abuf_resolve.specs.Over.{layered}
 use Rattle.abuf_resolve.specs.Colour.{colour, layers, paint_at}
 use Rattle.abuf_resolve.specs.Sums.{summed}
@@ -45,7 +44,6 @@ peeled_of r pattern from colours = record { region = r; pattern = pattern; from 
 
 -- What the parts of a layer keep to.
 pub record IsLayer (r : Region) (pattern : Pattern) (words found : List ℕ) (colours : List (List ℕ)) : Type 0 where
-  pub region : IsRegion r
   pub from_size : length words ≡ count_of r pattern
   pub best_size : length found ≡ count_of r pattern
   pub colours_size : length colours ≡ count_of r pattern

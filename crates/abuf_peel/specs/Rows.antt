@@ -3,8 +3,7 @@ use Rattle.std.specs.Prelude.{◌≡◌, ℕ, ◌+◌, ◌-◌, ◌*◌, ◌/◌
 use Rattle.std.specs.List.{range_with_len, flat_map, All}
 use Rattle.abuf_num.specs.declared.list.NoMemory.{NoMemory}
 use Rattle.abuf_num.specs.declared.plain.PixelSum.{PixelSum}
-use Rattle.abuf_raster.specs.declared.region.Region.{Region}
-use Rattle.abuf_raster.specs.Region.{whole_image}
+use Rattle.abuf_raster.specs.Region.{Region, rectangle, whole_image}
 use Rattle.abuf_raster.specs.Samples.{offsets_of}
 use Rattle.abuf_resolve.specs.Sums.{region_sums, IsSmall}
 use Rattle.abuf_peel.specs.declared.scene.Scene.{Scene}
@@ -12,7 +11,7 @@ use Rattle.abuf_peel.specs.Members.{HaveAll}
 
 -- One row of pixels.
 abbrev pub row_of : ℕ → ℕ → Region
-row_of width y = record { x0 = 0; y0 = y; w = width; h = 1 }
+row_of width y = rectangle 0 y width 1
 
 -- The row of a worker with this number.
 abbrev pub row_at : ℕ → ℕ → ℕ → ℕ
@@ -24,7 +23,7 @@ row_count height threads worker = (height + threads - 1 - worker) / threads
 
 -- From one row of a worker on, the rows of the image down to the 16th of the worker's, or to the last of all.
 abbrev pub block_at : ℕ → ℕ → ℕ → ℕ → Region
-block_at width height threads y = record { x0 = 0; y0 = y; w = width; h = min (15 * threads + 1) (height - y) }
+block_at width height threads y = rectangle 0 y width (min (15 * threads + 1) (height - y))
 
 -- Among these are all primitives that cover a sample of a region of the scene's image.
 abbrev pub HaveAllIn : Scene → Region → List ℕ → Type 0

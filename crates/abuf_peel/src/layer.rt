@@ -2,7 +2,6 @@
 ghost use Rattle.std.specs.Prelude.{◌≡◌, ◌≤◌, false, true, length, IfOk};
 ghost use Rattle.std.specs.List.{All};
 ghost use Rattle.abuf_num.specs.declared.limits.TheConstants.{MAX_PRIMITIVES};
-ghost use Rattle.abuf_raster.specs.Region.{IsRegion};
 ghost use Rattle.abuf_resolve.specs.Sums.{IsSmall};
 ghost use Rattle.abuf_peel.specs.Layers.{NoneLeft, OneStepMore, SomeLeft, StandsForNone, Takes, layer_sums, size_of, started};
 ghost use Rattle.abuf_peel.specs.Members.{HaveLeft};
@@ -46,7 +45,6 @@ impl Layer {
         pattern: Pattern,
         background: [u16; 3],
     ) -> Result<Layer, NoMemory>
-        requires { IsRegion region }
         ensures value { IfOk result (λ l. l ≡ started region pattern background) }
         ensures layers { IfOk result (StandsForNone background) }
     {
@@ -60,10 +58,9 @@ impl Layer {
         pattern: Pattern,
         background: [u16; 3],
     ) -> Result<Layer, NoMemory>
-        requires { IsRegion region }
         ensures { IfOk result (λ l. l ≡ started region pattern background) }
     {
-        let count = (region.w * region.h) as usize * pattern.size() as usize;
+        let count = region.pixels() as usize * pattern.size() as usize;
         let from = vec![in alloc; 0; count]?;
         let best = vec![in alloc; NO_WORD; count]?;
         let colours = vec![in alloc; background; count]?;
@@ -74,6 +71,13 @@ impl Layer {
             best,
             colours,
         })
+    }
+
+    /// Its region.
+    pub(crate) fn region(&self) -> Region
+        ensures { result ≡ self.now.region }
+    {
+        self.region
     }
 
     /// Every sample takes the lowest primitive above the last one taken that covers it, by its depth key there and then by its
@@ -124,7 +128,11 @@ impl Layer {
         ensures value { IfOk result (λ sums. sums ≡ layer_sums self.now) }
         ensures small { IfOk result (λ sums. All (IsSmall (size_of self.now.pattern)) sums) }
     {
-        let pixels = self.region.w * self.region.h;
-        layer_sums(alloc, &self.colours, self.pattern.size(), pixels)
+        layer_sums(
+            alloc,
+            &self.colours,
+            self.pattern.size(),
+            self.region.pixels(),
+        )
     }
 }

@@ -2,7 +2,6 @@
 ghost use Rattle.std.specs.Prelude.{◌≡◌, ◌<◌, ◌≤◌, length, IfOk};
 ghost use Rattle.std.specs.List.{range_with_len, All};
 ghost use Rattle.abuf_num.specs.declared.limits.TheConstants.{MAX_PRIMITIVES};
-ghost use Rattle.abuf_raster.specs.Region.{IsRegion};
 ghost use Rattle.abuf_raster.specs.Samples.{offsets_of};
 ghost use Rattle.abuf_peel.specs.Members.{Keep, KeepOne};
 
@@ -26,7 +25,6 @@ pub(crate) fn numbers(alloc: Global, count: usize) -> Result<Vec<u32>, NoMemory>
 impl<'a, 'b> Scene<'a, 'b> {
     /// Puts the primitive of this number last, where its box meets the region.
     fn keep_one(&self, members: &mut Vec<u32>, n: u32, region: Region) -> Result<(), NoMemory>
-        requires region { IsRegion region }
         requires known { n < length self.now.tris.now }
         ensures known { All (λ m. m < length self.now.tris.now) members.old.items → All (λ m. m < length self.now.tris.now) members.new.items }
         ensures kept { IfOk result (λ _. KeepOne (offsets_of self.now.pattern) self.now.tris.now region n members.old.items members.new.items) }
@@ -44,8 +42,7 @@ impl<'a, 'b> Scene<'a, 'b> {
         among: &[u32],
         region: Region,
     ) -> Result<(), NoMemory>
-        requires region { IsRegion region }
-        requires known { All (λ n. n < length self.now.tris.now) among.now }
+        requires { All (λ n. n < length self.now.tris.now) among.now }
         ensures { IfOk result (λ _. Keep (offsets_of self.now.pattern) self.now.tris.now region among.now members.new.items) }
     {
         members.clear();

@@ -2,7 +2,6 @@
 ghost use Rattle.std.specs.Prelude.{◌≡◌, ◌+◌, ◌-◌, ◌*◌, ◌/◌, ◌%◌, ◌<◌, ◌≤◌, length, IfOk};
 ghost use Rattle.std.specs.List.{range_with_len};
 ghost use Rattle.abuf_num.specs.declared.limits.TheConstants.{MAX_SIDE, MAX_THREADS};
-ghost use Rattle.abuf_raster.specs.Region.{IsRegion};
 ghost use Rattle.abuf_raster.specs.Samples.{offsets_of};
 ghost use Rattle.abuf_peel.specs.Layers.{AreWhole, StandsFor};
 ghost use Rattle.abuf_peel.specs.Members.{HaveAll};
@@ -12,7 +11,7 @@ use crate::layer::Layer;
 use crate::members::numbers;
 use crate::scene::Scene;
 use abuf_num::{List, NoMemory, PixelSum};
-use abuf_raster::Region;
+use abuf_raster::{Region, region_law};
 use std::alloc::Global;
 
 /// The rows of one of 1 to 64 workers: row after row in turn, since what is drawn often lies in the middle of the image.
@@ -55,13 +54,13 @@ impl<'a, 'b> Scene<'a, 'b> {
     /// Steps until no sample has a primitive left: no more often than there are members. Each step drops members that
     /// are done with, so that later steps offer fewer.
     fn exhaust(&self, layer: &mut Layer, members: &mut Vec<u32>)
-        requires region { IsRegion layer.old.region }
         requires members { HaveAll (offsets_of layer.old.pattern) self.now.tris.now layer.old.region members.old.items }
         requires start { StandsFor self.now.background self.now.tris.now self.now.paints.now 0 layer.old }
         ensures region { layer.new.region ≡ layer.old.region }
         ensures pattern { layer.new.pattern ≡ layer.old.pattern }
         ensures whole { AreWhole self.now.background self.now.tris.now self.now.paints.now layer.new }
     {
+        region_law(layer.region());
         for _n in 0..members.len() {
             if !layer.step_over(self.tris, self.paints, members) {
                 return;
@@ -92,29 +91,18 @@ impl<'a, 'b> Scene<'a, 'b> {
     /// One row of pixels.
     fn row_of(&self, y: u32) -> Region
         requires { y < self.now.height }
-        ensures value { result ≡ row_of self.now.width y }
-        ensures region { IsRegion result }
+        ensures { result ≡ row_of self.now.width y }
     {
-        Region {
-            x0: 0,
-            y0: y,
-            w: self.width,
-            h: 1,
-        }
+        Region::new(0, y, self.width, 1)
     }
 
     /// The rows from one of a worker's down to its 16th from there on.
     fn block_at(&self, share: Share, y: u32) -> Region
         requires { y < self.now.height }
-        ensures value { result ≡ block_at self.now.width self.now.height share.threads y }
-        ensures region { IsRegion result }
+        ensures { result ≡ block_at self.now.width self.now.height share.threads y }
     {
-        Region {
-            x0: 0,
-            y0: y,
-            w: self.width,
-            h: (15 * share.threads + 1).min(self.height - y),
-        }
+        let rows = (15 * share.threads + 1).min(self.height - y);
+        Region::new(0, y, self.width, rows)
     }
 
     /// Finds the primitives that cover a sample of a worker's 16 rows from this one on, where it is the first of 16; else they are

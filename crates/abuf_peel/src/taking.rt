@@ -60,19 +60,19 @@ pub(crate) fn take_words(best: &[u64], from: &mut [u64]) -> bool
 impl Samples {
     /// Every sample takes its next primitive. True exactly where some sample took one.
     pub(crate) fn take_next(
-        self,
+        &self,
         drawn: &Primitives,
         from: &mut [u64],
         best: &mut [u64],
         colours: &mut [[u16; 3]],
     ) -> bool
-        requires from { length from.old ≡ count_of self.region self.pattern }
-        requires best { length best.old ≡ count_of self.region self.pattern }
-        requires colours { length colours.old ≡ count_of self.region self.pattern }
+        requires from { length from.old ≡ count_of self.now.region self.now.pattern }
+        requires best { length best.old ≡ count_of self.now.region self.now.pattern }
+        requires colours { length colours.old ≡ count_of self.now.region self.now.pattern }
         ensures sizes { (length from.new ≡ length from.old) × (length best.new ≡ length best.old) × (length colours.new ≡ length colours.old) }
-        ensures takes { Takes drawn.now.tris.now drawn.now.paints.now (seen_of self from.old colours.old) (seen_of self from.new colours.new) }
-        ensures none { result ≡ false → NoneLeft drawn.now.tris.now (seen_of self from.old colours.old) }
-        ensures some { result ≡ true → SomeLeft drawn.now.tris.now (seen_of self from.old colours.old) }
+        ensures takes { Takes drawn.now.tris.now drawn.now.paints.now (seen_of self.now from.old colours.old) (seen_of self.now from.new colours.new) }
+        ensures none { result ≡ false → NoneLeft drawn.now.tris.now (seen_of self.now from.old colours.old) }
+        ensures some { result ≡ true → SomeLeft drawn.now.tris.now (seen_of self.now from.old colours.old) }
     {
         self.offer_all(drawn.tris, from, best);
         take_colours(drawn.paints, best, colours);
@@ -82,21 +82,21 @@ impl Samples {
     /// The same, where the members are all primitives that a sample still takes. Drops members of which
     /// nothing was left.
     pub(crate) fn take_next_of(
-        self,
+        &self,
         drawn: &Primitives,
         members: &mut Vec<u32>,
         from: &mut [u64],
         best: &mut [u64],
         colours: &mut [[u16; 3]],
     ) -> bool
-        requires members { HaveLeft drawn.now.tris.now self.region self.pattern from.old members.old.items }
-        requires from { length from.old ≡ count_of self.region self.pattern }
-        requires best { length best.old ≡ count_of self.region self.pattern }
-        requires colours { length colours.old ≡ count_of self.region self.pattern }
+        requires members { HaveLeft drawn.now.tris.now self.now.region self.now.pattern from.old members.old.items }
+        requires from { length from.old ≡ count_of self.now.region self.now.pattern }
+        requires best { length best.old ≡ count_of self.now.region self.now.pattern }
+        requires colours { length colours.old ≡ count_of self.now.region self.now.pattern }
         ensures sizes { (length from.new ≡ length from.old) × (length best.new ≡ length best.old) × (length colours.new ≡ length colours.old) }
-        ensures takes { Takes drawn.now.tris.now drawn.now.paints.now (seen_of self from.old colours.old) (seen_of self from.new colours.new) }
-        ensures members { HaveLeft drawn.now.tris.now self.region self.pattern from.new members.new.items }
-        ensures none { result ≡ false → NoneLeft drawn.now.tris.now (seen_of self from.old colours.old) }
+        ensures takes { Takes drawn.now.tris.now drawn.now.paints.now (seen_of self.now from.old colours.old) (seen_of self.now from.new colours.new) }
+        ensures members { HaveLeft drawn.now.tris.now self.now.region self.now.pattern from.new members.new.items }
+        ensures none { result ≡ false → NoneLeft drawn.now.tris.now (seen_of self.now from.old colours.old) }
     {
         let kept = self.offer_members(drawn.tris, members, from, best);
         members.truncate(kept);

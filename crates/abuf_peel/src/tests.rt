@@ -5,13 +5,6 @@ use abuf_raster::{Pattern, Region, ScreenTri};
 use abuf_view::Projected;
 use std::test::Fail;
 
-const ONE_PIXEL: Region = Region {
-    x0: 0,
-    y0: 0,
-    w: 1,
-    h: 1,
-};
-
 const RED: Paint = Paint {
     colour: [65535, 0, 0],
     alpha: 32768,
@@ -35,7 +28,7 @@ fn the_third_step_finds_nothing(rt: HostRuntime) -> Result<(), Fail> {
     let far = ScreenTri::new([0, 1024, 0], [0, 0, 1024], [10, 10, 10]).ok_or("far")?;
     let tris = [near, far];
     let paints = [GREEN, RED];
-    let mut layer = Layer::start(alloc, ONE_PIXEL, Pattern::One, [0; 3])?;
+    let mut layer = Layer::start(alloc, Region::whole_image(1, 1), Pattern::One, [0; 3])?;
     assert!(rt; layer.step(&tris, &paints));
     assert_eq!(rt; layer.sums(alloc)?.as_slice()[0].channels, [32768, 0, 0]);
     assert!(rt; layer.step(&tris, &paints));

@@ -1,8 +1,7 @@
 use Rattle.std.proofs.Common.{◌≡◌, ◌∙◌, ◌+◌, ℕ, suc, refl, sym, subst, arith}
 use Rattle.abuf_raster.proofs.Masks.{offsets_some}
 use Rattle.abuf_raster.specs.declared.pattern.Pattern.{Pattern}
-use Rattle.abuf_raster.specs.declared.region.Region.{Region}
-use Rattle.abuf_raster.specs.Region.{IsRegion}
+use Rattle.abuf_raster.specs.Region.{Region, IsRegion}
 use Rattle.abuf_raster.specs.Samples.{offsets_of}
 use Rattle.abuf_peel.specs.Layers.{next_at, sample_at, size_of, StandsFor}
 use Rattle.abuf_peel.specs.Members.{HaveAll}
@@ -26,7 +25,7 @@ returns-clause-whole c =
     let have : HaveAll (offsets_of c.loop-n.layer.pattern) scene.tris.now c.loop-n.layer.region members =
     subst (λ (p : Pattern). HaveAll (offsets_of p) scene.tris.now c.loop-n.layer.region members) (sym c.loop-n.invariant.pattern)
     (subst (λ (r : Region). HaveAll (offsets_of c.args.layer.now.pattern) scene.tris.now r members) (sym c.loop-n.invariant.region) c.requires.members) in
-    let region : IsRegion c.loop-n.layer.region = subst IsRegion (sym c.loop-n.invariant.region) c.requires.region in
+    let region : IsRegion c.loop-n.layer.region = subst IsRegion (sym c.loop-n.invariant.region) (subst IsRegion c.region.ensures c.region_law.ensures) in
     whole_many scene.background scene.tris.now scene.paints.now (omega (arith, scene.few)) c.loop-n._n c.loop-n.layer
     (λ j m. omega (arith, covering_few (offsets_of c.loop-n.layer.pattern) scene.tris.now c.loop-n.layer.region members (sample_at c.loop-n.layer.region (size_of c.loop-n.layer.pattern) j) have (sample_in c.loop-n.layer.region c.loop-n.layer.pattern j region (offsets_some c.loop-n.layer.pattern) m)))
     c.loop-n.invariant.stands
@@ -47,4 +46,4 @@ pub loop-n-init : goal.loop-n-init
 loop-n-init c =
     let scene = c.args.self.now in
     let l = c.args.layer.now in
-    record { stands = c.requires.start; region = refl; pattern = refl; members = all_left scene.tris.now l.region l.pattern l.from c.args.members.now.items c.requires.region c.requires.members }
+    record { stands = c.requires.start; region = refl; pattern = refl; members = all_left scene.tris.now l.region l.pattern l.from c.args.members.now.items (subst IsRegion c.region.ensures c.region_law.ensures) c.requires.members }

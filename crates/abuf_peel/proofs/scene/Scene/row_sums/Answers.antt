@@ -1,5 +1,5 @@
 use Rattle.std.proofs.Common.{◌≡◌, ◌∙◌, ap, ap₂}
-use Rattle.abuf_raster.specs.declared.region.Region.{Region}
+use Rattle.abuf_raster.specs.Region.{Region}
 use Rattle.abuf_raster.specs.declared.pattern.Pattern.{Pattern}
 use Rattle.abuf_raster.specs.Samples.{offsets_of}
 use Rattle.abuf_resolve.specs.Sums.{region_sums}
@@ -13,7 +13,7 @@ returns-clause-value c =
     let a = c.args in
     let scene = a.self.now in
     let l : Peeled = c.exhaust.new.layer in
-    let region : l.region ≡ row_of scene.width a.y = c.exhaust.ensures.region ∙ (ap (λ (k : Peeled). k.region) c.in_ok-layer.ensures.value ∙ c.row_of-row.ensures.value) in
+    let region : l.region ≡ row_of scene.width a.y = c.exhaust.ensures.region ∙ (ap (λ (k : Peeled). k.region) c.in_ok-layer.ensures.value ∙ c.row_of-row.ensures) in
     let pattern : l.pattern ≡ scene.pattern = c.exhaust.ensures.pattern ∙ ap (λ (k : Peeled). k.pattern) c.in_ok-layer.ensures.value in
     c.in_ok-sums.ensures.value
     ∙ (sums_whole scene.background scene.tris.now scene.paints.now l c.exhaust.ensures.whole

@@ -1,5 +1,5 @@
 use Rattle.std.proofs.Common.{◌≡◌, ◌∙◌, ◌+◌, ◌-◌, ◌%◌, ◌<◌, ℕ, List, ap, sym, subst, arith}
-use Rattle.abuf_raster.specs.declared.region.Region.{Region}
+use Rattle.abuf_raster.specs.Region.{Region}
 use Rattle.abuf_raster.specs.Samples.{offsets_of}
 use Rattle.abuf_peel.specs.Members.{Keep}
 use Rattle.abuf_peel.specs.Rows.{AreRows, HaveAllIn, block_at, row_at, row_of, row_sums}
@@ -15,7 +15,7 @@ row_sums-requires-clause-members c =
     let i = c.loop-i.i in
     let y : ℕ = row_at share.threads share.worker i in
     let below : row_at share.threads share.worker i < scene.height = row_below scene.height share.threads share.worker i share.some (omega (arith, c.count-i-end.ensures)) in
-    let region : c.row_of.result ≡ row_of scene.width (row_at share.threads share.worker i) = c.row_of.ensures.value ∙ ap (row_of scene.width) c.row-y.ensures in
+    let region : c.row_of.result ≡ row_of scene.width (row_at share.threads share.worker i) = c.row_of.ensures ∙ ap (row_of scene.width) c.row-y.ensures in
     let keep : Keep os scene.tris.now (row_of scene.width (row_at share.threads share.worker i)) c.hold_block.new.block.items c.keep.new.members.items =
     subst (λ (r : Region). Keep os scene.tris.now r c.hold_block.new.block.items c.keep.new.members.items) region
     (subst (λ (ns : List ℕ). Keep os scene.tris.now c.row_of.result ns c.keep.new.members.items) c.deref-in-loop-i.ensures.value c.in_ok-keep.ensures) in
