@@ -7,10 +7,10 @@ ghost use Rattle.abuf_raster.specs.Samples.{offsets_of};
 ghost use Rattle.abuf_resolve.specs.Sums.{region_sums, IsSmall};
 ghost use Rattle.abuf_peel.specs.Rows.{AreParts, AreSmall, HaveRows, image_sums, joined, row_in};
 
-use crate::rows::Share;
 use crate::scene::Scene;
 use abuf_num::{List, NoMemory, PixelSum};
 use abuf_raster::Pattern;
+use abuf_resolve::Share;
 use abuf_view::Projected;
 use std::alloc::Global;
 use std::thread::{Threads, map_indices};

@@ -1,7 +1,7 @@
 // The rows of one worker, peeled until nothing is left.
 ghost use Rattle.std.specs.Prelude.{◌≡◌, ◌+◌, ◌-◌, ◌*◌, ◌/◌, ◌%◌, ◌<◌, ◌≤◌, length, IfOk};
 ghost use Rattle.std.specs.List.{range_with_len};
-ghost use Rattle.abuf_num.specs.declared.limits.TheConstants.{MAX_SIDE, MAX_THREADS};
+ghost use Rattle.abuf_num.specs.declared.limits.TheConstants.{MAX_SIDE};
 ghost use Rattle.abuf_raster.specs.Samples.{offsets_of};
 ghost use Rattle.abuf_peel.specs.Layers.{AreWhole, StandsFor};
 ghost use Rattle.abuf_peel.specs.Members.{HaveAll};
@@ -12,42 +12,23 @@ use crate::members::numbers;
 use crate::scene::Scene;
 use abuf_num::{List, NoMemory, PixelSum};
 use abuf_raster::{Region, region_law};
+use abuf_resolve::Share;
 use std::alloc::Global;
 
-/// The rows of one of 1 to 64 workers: row after row in turn, since what is drawn often lies in the middle of the image.
-#[derive(Clone, Copy)]
-pub(crate) struct Share {
-    pub(crate) threads: u32,
-    pub(crate) worker: u32,
-    pub(crate) ghost some: { worker < threads },
-    pub(crate) ghost few: { threads ≤ MAX_THREADS },
+/// How many of so many rows a worker has: row after row in turn, since what is drawn often lies in the middle of the image.
+fn row_count(height: u32, share: Share) -> u32
+    requires { height ≤ MAX_SIDE }
+    ensures { result ≡ row_count height share.threads share.worker }
+{
+    (height + share.threads - 1 - share.worker) / share.threads
 }
 
-impl Share {
-    /// Those of this worker, of so many workers.
-    pub(crate) fn new(threads: u32, worker: u32) -> Share
-        requires some { worker < threads }
-        requires few { threads ≤ MAX_THREADS }
-        ensures { (result.threads ≡ threads) × (result.worker ≡ worker) }
-    {
-        Share { threads, worker }
-    }
-
-    /// How many of so many rows it has.
-    fn count(self, height: u32) -> u32
-        requires { height ≤ MAX_SIDE }
-        ensures { result ≡ row_count height self.threads self.worker }
-    {
-        (height + self.threads - 1 - self.worker) / self.threads
-    }
-
-    /// Its row with this number.
-    fn row(self, i: u32) -> u32
-        requires { i < MAX_SIDE }
-        ensures { result ≡ row_at self.threads self.worker i }
-    {
-        i * self.threads + self.worker
-    }
+/// The worker's row with this number.
+fn row_at(share: Share, i: u32) -> u32
+    requires { i < MAX_SIDE }
+    ensures { result ≡ row_at share.threads share.worker i }
+{
+    i * share.threads + share.worker
 }
 
 impl<'a, 'b> Scene<'a, 'b> {
@@ -121,7 +102,7 @@ impl<'a, 'b> Scene<'a, 'b> {
         ensures { IfOk result (λ _. HaveBlock self.now share.threads share.worker i block.new.items) }
     {
         if i % 16 == 0 {
-            self.keep(block, all, self.block_at(share, share.row(i)))?;
+            self.keep(block, all, self.block_at(share, row_at(share, i)))?;
         }
         Ok(())
     }
@@ -134,8 +115,8 @@ impl<'a, 'b> Scene<'a, 'b> {
         let mut block = Vec::new(alloc);
         let mut members = Vec::new(alloc);
         let mut rows = List::new(alloc);
-        for i in 0..share.count(self.height) {
-            let y = share.row(i);
+        for i in 0..row_count(self.height, share) {
+            let y = row_at(share, i);
             self.hold_block(&mut block, &all, share, i)?;
             self.keep(&mut members, &block, self.row_of(y))?;
             rows.push(self.row_sums(alloc, &mut members, y)?)?;

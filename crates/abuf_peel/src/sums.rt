@@ -1,25 +1,12 @@
 // The sums of the samples' colours.
 ghost use Rattle.std.specs.Prelude.{◌≡◌, ◌+◌, ◌*◌, ◌<◌, ◌≤◌, [], length, map, slice_index_or, IfOk};
 ghost use Rattle.std.specs.List.{range_with_len, All};
-ghost use Rattle.abuf_resolve.specs.Sums.{plus, IsSmall};
+ghost use Rattle.abuf_resolve.specs.Sums.{IsSmall};
 ghost use Rattle.abuf_peel.specs.Layers.{sum_of_place};
 
 use abuf_num::{List, NoMemory, PixelSum};
+use abuf_resolve::plus;
 use std::alloc::Global;
-
-/// The sums with one more colour.
-fn plus(sum: PixelSum, colour: [u16; 3]) -> PixelSum
-    requires { IsSmall 16 sum }
-    ensures { result ≡ plus sum colour }
-{
-    PixelSum {
-        channels: [
-            sum.channels[0] + u32::from(colour[0]),
-            sum.channels[1] + u32::from(colour[1]),
-            sum.channels[2] + u32::from(colour[2]),
-        ],
-    }
-}
 
 /// The colour of one sample.
 fn colour_at(colours: &[[u16; 3]], i: usize) -> [u16; 3]

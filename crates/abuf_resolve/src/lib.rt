@@ -30,7 +30,9 @@ mod tests;
 mod threads;
 
 pub use fold::{laid_over, over, sample_colour};
+pub use pixels::plus;
 pub use planes::Planes;
 pub use runs::Resolved;
 pub use scene::{Pixel, Scene};
+pub use shares::Share;
 pub use threads::{resolve, resolve_counted};

@@ -42,8 +42,8 @@ impl Buffers {
 /// No colours summed yet.
 const NOTHING: PixelSum = PixelSum { channels: [0; 3] };
 
-/// The sums with one more colour.
-fn plus(sum: PixelSum, colour: [u16; 3]) -> PixelSum
+/// The sums of at most 16 colours, with one more.
+pub fn plus(sum: PixelSum, colour: [u16; 3]) -> PixelSum
     requires { IsSmall 16 sum }
     ensures { result ≡ plus sum colour }
 {
