@@ -6,7 +6,7 @@ use Rattle.std.proofs.lemmas.Simd.{map-map}
 use Rattle.std.proofs.lemmas.List.Elements.{filter_map-append}
 use Rattle.std.proofs.lemmas.Nat.{div-mul-add, mod-mul-add, div-add-mod', mod_below}
 use Rattle.abuf_num.specs.declared.plain.Paint.{Paint}
-use Rattle.abuf_raster.specs.declared.region.Region.{Region}
+use Rattle.abuf_raster.specs.Region.{Region, rectangle}
 use Rattle.abuf_raster.specs.declared.region.Hit.{Hit}
 use Rattle.abuf_raster.specs.Triangle.{Triangle}
 use Rattle.abuf_raster.specs.Coverage.{mask}
@@ -28,10 +28,6 @@ row_down rows w p some =
     let below : p % w < w = mod_below p w some in
     let whole : rows * w + p ≡ (rows + p / w) * w + p % w = omega (arith, parts) in
     (ap (λ (k : ℕ). k % w) whole ∙ mod-mul-add (rows + p / w) w (p % w) below, ap (λ (k : ℕ). k / w) whole ∙ div-mul-add (rows + p / w) w (p % w) below)
-
--- The pixels of h rows, from row y on, and of w columns, from column x on.
-abbrev pub region : ℕ → ℕ → ℕ → ℕ → Region
-region x y w h = record { x0 = x; y0 = y; w = w; h = h }
 
 -- What a triangle has at a pixel.
 abbrev hit_of : Triangle → ℕ → List (ℤ × ℤ) → ℕ × ℕ → Option Hit
@@ -88,13 +84,13 @@ module _ (x y w : ℕ) (some : 0 < w) where
 
   -- So do the sums of the pixels,
   pub sums_stacked : (offsets : List (ℤ × ℤ)) (background : List ℕ) (triangles : List Triangle) (paints : List Paint) (upper rows : ℕ)
-      → region_sums offsets background triangles paints (region x y w upper) ++ region_sums offsets background triangles paints (region x (y + upper) w rows)
-      ≡ region_sums offsets background triangles paints (region x y w (upper + rows))
+      → region_sums offsets background triangles paints (rectangle x y w upper) ++ region_sums offsets background triangles paints (rectangle x (y + upper) w rows)
+      ≡ region_sums offsets background triangles paints (rectangle x y w (upper + rows))
   sums_stacked offsets background triangles paints upper rows = map_stacked (λ (p : ℕ × ℕ). sums_at offsets background triangles paints p.0 p.1) upper rows
 
   -- the hits of a triangle,
   hits_stacked : (t : Triangle) (n : ℕ) (offsets : List (ℤ × ℤ)) (upper rows : ℕ)
-      → hits t n offsets (region x y w upper) ++ hits t n offsets (region x (y + upper) w rows) ≡ hits t n offsets (region x y w (upper + rows))
+      → hits t n offsets (rectangle x y w upper) ++ hits t n offsets (rectangle x (y + upper) w rows) ≡ hits t n offsets (rectangle x y w (upper + rows))
   hits_stacked t n offsets upper rows =
       let pixel : ℕ → ℕ → ℕ × ℕ = λ (top place : ℕ). (x + place % w, top + place / w) in
       let hit : ℕ × ℕ → Option Hit = hit_of t n offsets in
@@ -104,17 +100,17 @@ module _ (x y w : ℕ) (some : 0 < w) where
 
   -- and the fragments of all triangles, as to their number.
   pub fragments_stacked : (triangles : List Triangle) (n : ℕ) (offsets : List (ℤ × ℤ)) (upper rows : ℕ)
-      → length (all_fragments triangles n offsets (region x y w upper)) + length (all_fragments triangles n offsets (region x (y + upper) w rows))
-      ≡ length (all_fragments triangles n offsets (region x y w (upper + rows)))
+      → length (all_fragments triangles n offsets (rectangle x y w upper)) + length (all_fragments triangles n offsets (rectangle x (y + upper) w rows))
+      ≡ length (all_fragments triangles n offsets (rectangle x y w (upper + rows)))
   fragments_stacked [] n offsets upper rows = refl
   fragments_stacked (t ∷ ts) n offsets upper rows =
-      let top : Region = region x y w upper in
-      let bottom : Region = region x (y + upper) w rows in
+      let top : Region = rectangle x y w upper in
+      let bottom : Region = rectangle x (y + upper) w rows in
       omega (
         arith,
         first_rest t ts n offsets top,
         first_rest t ts n offsets bottom,
-        first_rest t ts n offsets (region x y w (upper + rows)),
+        first_rest t ts n offsets (rectangle x y w (upper + rows)),
         length-append (hits t n offsets top) (hits t n offsets bottom),
         ap length (hits_stacked t n offsets upper rows),
         fragments_stacked ts (n + 1) offsets upper rows,

@@ -5,19 +5,18 @@ use Rattle.std.proofs.lemmas.List.FromFn.{sum_by-map-range_with_len_more}
 use Rattle.abuf_num.specs.declared.plain.Paint.{Paint}
 use Rattle.abuf_num.specs.declared.plain.PixelSum.{PixelSum}
 use Rattle.abuf_raster.specs.declared.pattern.Pattern.{Pattern}
-use Rattle.abuf_raster.specs.declared.region.Region.{Region}
-use Rattle.abuf_raster.specs.Region.{IsImageSize, whole_image}
+use Rattle.abuf_raster.specs.Region.{Region, rectangle, IsImageSize, whole_image}
 use Rattle.abuf_raster.specs.Samples.{offsets_of}
 use Rattle.abuf_raster.specs.Triangle.{Triangle}
 use Rattle.abuf_resolve.specs.Sums.{region_sums}
 use Rattle.abuf_picture.specs.Picture.{total}
 use Rattle.abuf_band.specs.Bands.{band_region, band_total, band_totals, first_row}
 use Rattle.abuf_band.proofs.Rows.{first_row_rises, first_row_zero, first_row_all}
-use Rattle.abuf_band.proofs.Stacked.{region, sums_stacked, fragments_stacked}
+use Rattle.abuf_band.proofs.Stacked.{sums_stacked, fragments_stacked}
 
 -- The rows above band k.
 abbrev pub above : ℕ → ℕ → ℕ → ℕ → Region
-above width height bands k = region 0 0 width (first_row height bands k)
+above width height bands k = rectangle 0 0 width (first_row height bands k)
 
 module _ (width height bands : ℕ) (size : IsImageSize width height) (some : 1 ≤ bands) (few : bands ≤ height) where
   -- An image has a column at least.
@@ -26,15 +25,15 @@ module _ (width height bands : ℕ) (size : IsImageSize width height) (some : 1 
 
   -- Those above the first band after the last are the image.
   pub above_all : above width height bands bands ≡ whole_image width height
-  above_all = ap (region 0 0 width) (first_row_all height bands some)
+  above_all = ap (rectangle 0 0 width) (first_row_all height bands some)
 
   -- Band k stands right below those above it.
-  below : (k : ℕ) → band_region width height bands k ≡ region 0 (0 + first_row height bands k) width (first_row height bands (k + 1) - first_row height bands k)
-  below k = ap (λ (y : ℕ). region 0 y width (first_row height bands (k + 1) - first_row height bands k)) (let e : first_row height bands k ≡ 0 + first_row height bands k = omega arith in e)
+  below : (k : ℕ) → band_region width height bands k ≡ rectangle 0 (0 + first_row height bands k) width (first_row height bands (k + 1) - first_row height bands k)
+  below k = ap (λ (y : ℕ). rectangle 0 y width (first_row height bands (k + 1) - first_row height bands k)) (let e : first_row height bands k ≡ 0 + first_row height bands k = omega arith in e)
 
   -- With it they are those above the next.
-  next : (k : ℕ) → region 0 0 width (first_row height bands k + (first_row height bands (k + 1) - first_row height bands k)) ≡ above width height bands (k + 1)
-  next k = ap (region 0 0 width) (let e : first_row height bands k + (first_row height bands (k + 1) - first_row height bands k) ≡ first_row height bands (k + 1) = omega (arith, first_row_rises height bands k some few) in e)
+  next : (k : ℕ) → rectangle 0 0 width (first_row height bands k + (first_row height bands (k + 1) - first_row height bands k)) ≡ above width height bands (k + 1)
+  next k = ap (rectangle 0 0 width) (let e : first_row height bands k + (first_row height bands (k + 1) - first_row height bands k) ≡ first_row height bands (k + 1) = omega (arith, first_row_rises height bands k some few) in e)
 
   module _ (offsets : List (ℤ × ℤ)) (background : List ℕ) (triangles : List Triangle) (paints : List Paint) where
     abbrev sums_of : Region → List PixelSum
@@ -58,8 +57,8 @@ module _ (width height bands : ℕ) (size : IsImageSize width height) (some : 1 
     -- No rows have no fragments.
     total_none : total triangles pattern (above width height bands 0) ≡ 0
     total_none =
-        let none : total triangles pattern (region 0 0 width 0) ≡ 0 = omega (arith, fragments_stacked 0 0 width wide triangles 0 (offsets_of pattern) 0 0) in
-        ap (λ (h : ℕ). total triangles pattern (region 0 0 width h)) (first_row_zero height bands) ∙ none
+        let none : total triangles pattern (rectangle 0 0 width 0) ≡ 0 = omega (arith, fragments_stacked 0 0 width wide triangles 0 (offsets_of pattern) 0 0) in
+        ap (λ (h : ℕ). total triangles pattern (rectangle 0 0 width h)) (first_row_zero height bands) ∙ none
 
     -- The totals of the first k bands add up to that of the rows above band k.
     total_above : (k : ℕ) → sum (map (band_total triangles pattern width height bands) (range_with_len 0 k)) ≡ total triangles pattern (above width height bands k)

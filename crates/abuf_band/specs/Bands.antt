@@ -2,7 +2,7 @@
 use Rattle.std.specs.Prelude.{ℕ, ◌+◌, ◌-◌, ◌*◌, ◌/◌, nat_lt, List, map, position, Option}
 use Rattle.std.specs.List.{range_with_len}
 use Rattle.abuf_raster.specs.declared.pattern.Pattern.{Pattern}
-use Rattle.abuf_raster.specs.declared.region.Region.{Region}
+use Rattle.abuf_raster.specs.Region.{Region, rectangle}
 use Rattle.abuf_raster.specs.Triangle.{Triangle}
 use Rattle.abuf_picture.specs.Picture.{total}
 
@@ -13,12 +13,7 @@ first_row height bands k = k * height / bands
 
 -- The pixels of band k.
 abbrev pub band_region : ℕ → ℕ → ℕ → ℕ → Region
-band_region width height bands k = record {
-  x0 = 0;
-  y0 = first_row height bands k;
-  w = width;
-  h = first_row height bands (k + 1) - first_row height bands k;
-}
+band_region width height bands k = rectangle 0 (first_row height bands k) width (first_row height bands (k + 1) - first_row height bands k)
 
 -- How many fragments all triangles have in band k.
 abbrev pub band_total : List Triangle → Pattern → ℕ → ℕ → ℕ → ℕ → ℕ

@@ -1,7 +1,7 @@
 // The pixels of a band.
 ghost use Rattle.std.specs.Prelude.{◌≡◌, ◌<◌, ◌≤◌};
 ghost use Rattle.abuf_num.specs.declared.limits.TheConstants.{MAX_SIDE};
-ghost use Rattle.abuf_raster.specs.Region.{IsImageSize, IsRegion};
+ghost use Rattle.abuf_raster.specs.Region.{IsImageSize};
 ghost use Rattle.abuf_band.specs.Bands.{band_region, first_row};
 
 use abuf_raster::Region;
@@ -22,15 +22,9 @@ pub(crate) fn band_region(width: u32, height: u32, bands: u32, band: u32) -> Reg
     requires size { IsImageSize width height }
     requires bands { (1 ≤ bands) × (bands ≤ height) }
     requires band { band < bands }
-    ensures value { result ≡ band_region width height bands band }
-    ensures region { IsRegion result }
+    ensures { result ≡ band_region width height bands band }
 {
     let from = first_row(height, bands, band);
     let to = first_row(height, bands, band + 1);
-    Region {
-        x0: 0,
-        y0: from,
-        w: width,
-        h: to - from,
-    }
+    Region::new(0, from, width, to - from)
 }

@@ -19,10 +19,10 @@ fn band_sums<R: Threads + Sync>(
     rt: &R,
     alloc: Global,
     primitives: &Primitives,
-    target: Target,
+    target: &Target,
     number: u32,
 ) -> Result<List<PixelSum>, BandFault>
-    ensures { IsBandAnswer primitives.now.triangles.now primitives.now.paints.now target number result }
+    ensures { IsBandAnswer primitives.now.triangles.now primitives.now.paints.now target.now number result }
 {
     let closed = draw(rt, alloc, primitives, target, &OpenGate)?;
     if let Some(full) = closed.full() {
@@ -69,7 +69,7 @@ pub fn render_bands<R: Threads + Sync>(
             nodes,
             threads,
         };
-        let more = band_sums(rt, alloc, &primitives, target, band + 1)?;
+        let more = band_sums(rt, alloc, &primitives, &target, band + 1)?;
         sums.extend_from_slice(more.as_slice())?;
     }
     Ok(List::from_vec(sums))

@@ -77,14 +77,14 @@ fn sums_of<R: Threads + Sync>(
     let target = target_of(plan, threads);
     let shown = project(alloc, scene, &camera)?;
     let primitives = Primitives::of(&shown);
-    let closed = draw(rt, alloc, &primitives, target, &OpenGate)?;
+    let closed = draw(rt, alloc, &primitives, &target, &OpenGate)?;
     if let Some(full) = closed.full() {
         return Err(ImageFault::Full {
             fragments: full.fragments,
             nodes: full.nodes,
         });
     }
-    let resolved = resolve_drawn(rt, alloc, &primitives, target, &closed)?;
+    let resolved = resolve_drawn(rt, alloc, &primitives, &target, &closed)?;
     Ok(resolved.sums)
 }
 

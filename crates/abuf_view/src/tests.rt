@@ -2,7 +2,6 @@
 ghost use Rattle.std.specs.Prelude.{◌≤◌, All, IfOk, length, unsigned_abs};
 ghost use Rattle.abuf_obj.specs.Sound.{IsInRange};
 ghost use Rattle.abuf_scene.specs.Triangles.{IsTriangleInRange};
-ghost use Rattle.abuf_raster.specs.Region.{IsRegion};
 
 use crate::point_table::PointTable;
 use crate::threads::{all_faces, faces_per_run};
@@ -67,9 +66,7 @@ fn covering(shown: &Projected, x: u32, y: u32) -> u32
 }
 
 // How many pixels of the region the first primitive covers with this depth key.
-fn pixels_at(shown: &Projected, region: Region, depth: u32) -> u32
-    requires { IsRegion region }
-{
+fn pixels_at(shown: &Projected, region: Region, depth: u32) -> u32 {
     let mut count: u32 = 0;
     if let Some(triangle) = shown.tris.as_slice().first() {
         for hit in TileWalk::new(triangle, 0, region, Pattern::One) {
@@ -87,12 +84,9 @@ fn front() -> Option<Camera> {
     Camera::new(4, 4, [1, 0, 0, 0], [0, 0, -262144], 65536, 8192)
 }
 
-const FOUR_BY_FOUR: Region = Region {
-    x0: 0,
-    y0: 0,
-    w: 4,
-    h: 4,
-};
+fn four_by_four() -> Region {
+    Region::whole_image(4, 4)
+}
 
 // The corners are (0, 0), (1024, 0) and (0, 1024) on the screen, so that the diagonal runs through centres and is a right
 // edge.
@@ -110,7 +104,7 @@ fn upper_left_half_is_covered(rt: HostRuntime) -> Result<(), Fail> {
             assert!(rt; (covering(&shown, x, y) == 1) == (x + y < 3));
         }
     }
-    assert!(rt; pixels_at(&shown, FOUR_BY_FOUR, 524287) == 6);
+    assert!(rt; pixels_at(&shown, four_by_four(), 524287) == 6);
     Ok(())
 }
 
@@ -160,12 +154,7 @@ fn far_corners_on_the_near_plane(rt: HostRuntime) -> Result<(), Fail> {
     let b = point(2147418112, -2147418112, 258048);
     let c = point(0, 2147418112, 258048);
     let shown = shown_by(rt.alloc(), &camera, a, b, c)?;
-    let column = Region {
-        x0: 0,
-        y0: 0,
-        w: 1,
-        h: 4096,
-    };
+    let column = Region::whole_image(1, 4096);
     assert!(rt; pixels_at(&shown, column, 16777215) == 4096);
     Ok(())
 }
@@ -225,7 +214,7 @@ fn faces_have_the_paint_of_their_material(rt: HostRuntime) -> Result<(), Fail> {
                     assert!(rt; covering(&shown, x, y) == 1);
                 }
             }
-            assert!(rt; pixels_at(&shown, FOUR_BY_FOUR, 524287) == 6);
+            assert!(rt; pixels_at(&shown, four_by_four(), 524287) == 6);
         }
         _ => assert!(rt; false),
     }

@@ -3,7 +3,7 @@ use Rattle.std.specs.List.{All}
 use Rattle.std.proofs.lemmas.List.Elements.{All-append}
 use borrow.Author.Count.{below_more}
 use Rattle.abuf_num.specs.declared.plain.PixelSum.{PixelSum}
-use Rattle.abuf_raster.specs.declared.region.Region.{Region}
+use Rattle.abuf_raster.specs.Region.{Region}
 use Rattle.abuf_raster.specs.Samples.{offsets_of}
 use Rattle.abuf_raster.specs.Triangle.{Triangle}
 use Rattle.abuf_resolve.specs.Sums.{IsSmall, region_sums}
@@ -20,7 +20,7 @@ returns-in_err-more g c =
     let a = c.args in
     let image : Banded = record { width = a.width; height = a.height; pattern = a.pattern; background = a.background; bands = a.bands; nodes = a.nodes } in
     let why : IsAnswer a.shown.now.tris a.shown.now.paints image (Err c.in_err-more.field-0.0) =
-    stopped _ _ c.of-primitives.ensures.triangles a.shown.now.paints image _ c.loop-band.band c.in_err-more.field-0.0 c.band_region.ensures.value refl refl c.loop-band-test.true c.loop-band.invariant.fit c.in_err-more.ensures in
+    stopped _ _ c.of-primitives.ensures.triangles a.shown.now.paints image _ c.loop-band.band c.in_err-more.field-0.0 c.band_region.ensures refl refl c.loop-band-test.true c.loop-band.invariant.fit c.in_err-more.ensures in
     search rules
 
 pub loop-band-preserved : goal.loop-band-preserved
@@ -33,7 +33,7 @@ loop-band-preserved g c =
     let old : List PixelSum = c.loop-band.sums.items in
     let more : List PixelSum = c.in_ok-more.more in
     let drawn = rw (c.of-primitives.ensures.triangles, c.of-primitives.ensures.paints) at c.in_ok-more.ensures in
-    let here : c.band_region.result ≡ band_region a.width a.height a.bands band = c.band_region.ensures.value in
+    let here : c.band_region.result ≡ band_region a.width a.height a.bands band = c.band_region.ensures in
     let more_are : more ≡ sums_of (band_region a.width a.height a.bands band) = drawn.are ∙ ap sums_of here in
     let new : List PixelSum = c.extend_from_slice.new.self.items in
     let grown : new ≡ old ++ more = subst (λ (xs : List PixelSum). new ≡ old ++ xs) c.as_slice.ensures c.in_ok-extend_from_slice.ensures.items in
