@@ -1,7 +1,6 @@
 -- The images of a sequence.
 use Rattle.std.specs.Prelude.{◌≤◌, ◌+◌, All, ℕ, List, length, slice_index}
-use Rattle.abuf_num.specs.declared.limits.TheConstants.{MAX_TRIANGLES, MAX_IMAGES}
-use Rattle.abuf_scene.specs.Triangles.{IsTriangleInRange}
+use Rattle.abuf_num.specs.declared.limits.TheConstants.{MAX_IMAGES}
 use Rattle.abuf_scene.specs.declared.triangles.Triangle.{Triangle}
 use Rattle.abuf_sequence.specs.declared.path.Shot.{Shot}
 use Rattle.abuf_sequence.specs.declared.plan.Plan.{Plan}
@@ -17,10 +16,9 @@ pub record Images : Type 0 where
   pub triangles : List Triangle
   pub shots : List Shot
 
--- Triangles, shots and a plan of which images can be made.
-abbrev pub AreSound : Plan → List Triangle → List Shot → Type 0
-AreSound plan triangles shots =
-    All IsTriangleInRange triangles × (length triangles ≤ MAX_TRIANGLES) × All IsShot shots × (length shots ≤ MAX_IMAGES) × IsPlan plan
+-- Shots and a plan of which images can be made.
+abbrev pub AreSound : Plan → List Shot → Type 0
+AreSound plan shots = All IsShot shots × (length shots ≤ MAX_IMAGES) × IsPlan plan
 
 -- The plan of a job: its shots have turns and shifts of their own in place of the camera's.
 abbrev pub plan_of : Job → Plan

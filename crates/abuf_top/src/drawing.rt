@@ -1,6 +1,5 @@
 // What is drawn, once the words, the scene and its libraries are read.
-ghost use Rattle.std.specs.Prelude.{◌≡◌, ◌≤◌, length};
-ghost use Rattle.abuf_num.specs.declared.limits.TheConstants.{MAX_PRIMITIVES};
+ghost use Rattle.std.specs.Prelude.{◌≡◌};
 ghost use Rattle.abuf_raster.specs.Region.{IsRegion};
 ghost use Rattle.abuf_cli.specs.Sound.{IsJob};
 ghost use Rattle.abuf_top.specs.Image.{region_of, DrawsOnce};
@@ -19,8 +18,6 @@ pub struct Drawing {
 }
 
 impl Model for Drawing {
-    ghost use Rattle.std.specs.Prelude.{◌≡◌, ◌≤◌, length};
-    ghost use Rattle.abuf_num.specs.declared.limits.TheConstants.{MAX_PRIMITIVES};
     ghost use Rattle.abuf_cli.specs.Sound.{IsJob};
     ghost use Rattle.abuf_top.specs.Image.{Drawing, DrawsOnce};
 
@@ -28,7 +25,7 @@ impl Model for Drawing {
 
     ghost view = { λ d. record { job = d.job; triangles = d.shown.tris; paints = d.shown.paints } };
 
-    ghost invariant = { λ d. IsJob d.job × DrawsOnce d.job.what × (length d.shown.tris ≤ MAX_PRIMITIVES) × (length d.shown.paints ≡ length d.shown.tris) };
+    ghost invariant = { λ d. IsJob d.job × DrawsOnce d.job.what };
 }
 
 impl Drawing {
@@ -36,8 +33,6 @@ impl Drawing {
     pub fn new(job: Job, shown: Projected) -> Drawing
         requires job { IsJob job }
         requires once { DrawsOnce job.what }
-        requires few { length shown.tris ≤ MAX_PRIMITIVES }
-        requires painted { length shown.paints ≡ length shown.tris }
         ensures { result ≡ record { job = job; triangles = shown.tris; paints = shown.paints } }
     {
         Drawing { job, shown }
@@ -54,8 +49,6 @@ impl Drawing {
     pub fn shown(&self) -> &Projected
         ensures triangles { result.now.tris ≡ self.now.triangles }
         ensures paints { result.now.paints ≡ self.now.paints }
-        ensures few { length result.now.tris ≤ MAX_PRIMITIVES }
-        ensures painted { length result.now.paints ≡ length result.now.tris }
     {
         &self.shown
     }

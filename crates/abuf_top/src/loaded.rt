@@ -16,11 +16,9 @@ pub struct Loaded {
 }
 
 impl Loaded {
-    ghost use Rattle.std.specs.Prelude.{◌≡◌, ◌≤◌, All, List as Items, ℕ, length, IfOk, IfErr};
-    ghost use Rattle.abuf_num.specs.declared.limits.TheConstants.{MAX_PRIMITIVES, MAX_TRIANGLES};
+    ghost use Rattle.std.specs.Prelude.{List as Items, ℕ, IfErr};
     ghost use Rattle.abuf_cli.specs.Sound.{IsJob};
     ghost use Rattle.abuf_obj.specs.Sound.{IsScene};
-    ghost use Rattle.abuf_scene.specs.Triangles.{IsTriangleInRange};
     ghost use Rattle.abuf_mtl.specs.StandsFor.{StandsFor};
     ghost use Rattle.abuf_top.specs.Prepared.{Prepares, Assembles};
     ghost use Rattle.abuf_top.specs.Stopped.{HasReadCause};
@@ -38,8 +36,6 @@ impl Loaded {
         ensures told { (libraries : Items (Items ℕ)) → StandsFor libraries self.materials
             → Prepares (drawing_verdict job.now (material_verdict self.obj libraries)) ⊥ job.now result }
         ensures cause { IfErr result (HasReadCause ⊥) }
-        ensures one_length { IfOk result (λ p. length p.tris ≡ length p.paints) }
-        ensures few { IfOk result (λ p. length p.tris ≤ MAX_PRIMITIVES) }
     {
         let shown = project_faces(
             rt,
@@ -57,8 +53,6 @@ impl Loaded {
         requires scene { IsScene self.obj }
         ensures told { (libraries : Items (Items ℕ)) → StandsFor libraries self.materials → Assembles (material_verdict self.obj libraries) ⊥ result }
         ensures cause { IfErr result (HasReadCause ⊥) }
-        ensures near { IfOk result (λ scene. All IsTriangleInRange scene.triangles) }
-        ensures few { IfOk result (λ scene. length scene.triangles ≤ MAX_TRIANGLES) }
     {
         let scene = assemble(alloc, &self.obj, &self.materials)?;
         Ok(scene)

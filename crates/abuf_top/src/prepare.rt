@@ -1,7 +1,6 @@
 // What is to be drawn: all that comes before the drawing.
-ghost use Rattle.std.specs.Prelude.{◌≡◌, ◌⊎◌, ◌≤◌, ◌+◌, length, map, option_map, IfOk, IfErr, IfSome, MatchOption, Ok};
+ghost use Rattle.std.specs.Prelude.{◌≡◌, ◌⊎◌, ◌≤◌, ◌+◌, map, option_map, IfOk, IfErr, IfSome, MatchOption, Ok};
 ghost use Rattle.std.specs.String.{string_bytes};
-ghost use Rattle.abuf_num.specs.declared.limits.TheConstants.{MAX_PRIMITIVES};
 ghost use Rattle.abuf_io.specs.Causes.{Rose};
 ghost use Rattle.abuf_cli.specs.Jobs.{job};
 ghost use Rattle.abuf_cli.specs.Sound.{IsJob};
@@ -44,8 +43,6 @@ fn primitives_of<R: Threads + Sync, S: Source, H: Shelf>(
         (source_change S.left S.faults scene.old scene.new) (shelf_change H.tells H.holds H.calls H.faults shelf.old shelf.new) }
     ensures most { IfSome (most_for_load job.now.what (S.left scene.old)) (λ n. H.calls shelf.new ≤ H.calls shelf.old + n) }
     ensures source { LoadNeedsNoSource job.now.what → IsUncalled (source_change S.left S.faults scene.old scene.new) }
-    ensures one_length { IfOk result (λ p. length p.tris ≡ length p.paints) }
-    ensures few { IfOk result (λ p. length p.tris ≤ MAX_PRIMITIVES) }
 {
     let loaded = load(alloc, job, scene, shelf)?;
     loaded.project(rt, alloc, job)

@@ -45,21 +45,18 @@ impl Model for Images {
 
     ghost view = { λ i. record { plan = i.plan; triangles = i.scene.triangles; shots = i.shots } };
 
-    ghost invariant = { λ i. AreSound i.plan i.scene.triangles i.shots };
+    ghost invariant = { λ i. AreSound i.plan i.shots };
 }
 
 impl Images {
     ghost use Rattle.std.specs.Prelude.{◌≡◌, ◌≤◌, All, length, Some};
-    ghost use Rattle.abuf_num.specs.declared.limits.TheConstants.{MAX_TRIANGLES, MAX_IMAGES};
-    ghost use Rattle.abuf_scene.specs.Triangles.{IsTriangleInRange};
+    ghost use Rattle.abuf_num.specs.declared.limits.TheConstants.{MAX_IMAGES};
     ghost use Rattle.abuf_sequence.specs.Paths.{IsShot};
     ghost use Rattle.abuf_sequence.specs.Sequences.{IsPlan, IsSequenceAnswer};
     ghost use Rattle.abuf_io.specs.Sinks.{sink_change};
 
     /// The images of these shots.
     fn new(scene: Scene, shots: List<Shot>, plan: Plan) -> Images
-        requires near { All IsTriangleInRange scene.triangles }
-        requires few { length scene.triangles ≤ MAX_TRIANGLES }
         requires shots { All IsShot shots }
         requires few_shots { length shots ≤ MAX_IMAGES }
         requires plan { IsPlan plan }
