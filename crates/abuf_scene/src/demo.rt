@@ -1,8 +1,9 @@
 // The demonstration scene.
-ghost use Rattle.std.specs.Prelude.{◌≡◌, ◌≤◌, ◌<◌, ◌+◌, ◌^◌, ◌++◌, pos, ◌≤ℤ◌, codes, decimal, OnOk, IfOk};
-ghost use Rattle.abuf_scene.specs.Demo.{step, given, coordinate, face, obj, library};
-ghost use Rattle.abuf_scene.specs.Drawing.{three, vertex_from, lines_from};
+ghost use Rattle.std.specs.Prelude.{◌≡◌, ◌≤◌, ◌<◌, ◌/◌, ◌^◌, ◌++◌, take, length, decimal, OnOk, IfOk};
+ghost use Rattle.abuf_scene.specs.Demo.{step, face, obj, library};
+ghost use Rattle.abuf_scene.specs.Drawing.{three, vertex_from, lines_from, AreDrawn};
 
+use crate::pieces::{Piece, drawn_pieces, put};
 use abuf_num::{List, NoMemory};
 use itoa::Buffer;
 use std::alloc::Global;
@@ -21,41 +22,47 @@ struct Register {
 }
 
 impl Register {
-    // The next number, from -128 to 127.
-    #[tactic(auto, unfolding(crate::specs::Demo::step, crate::specs::Demo::given))]
-    fn draw(&mut self) -> i32
+    // The next number, from 0 to 255, which is 128 above the one that it stands for.
+    #[inline(always)]
+    #[tactic(auto, unfolding(crate::specs::Demo::step))]
+    fn draw(&mut self) -> usize
         ensures register { self.new.s ≡ step self.old.s }
-        ensures value { result ≡ given (step self.old.s) }
+        ensures value { result ≡ step self.old.s / 2 ^ 24 }
+        ensures below { result < 256 }
     {
         self.s = ((1664525 * u64::from(self.s) + 1013904223) % (1 << 32)) as u32;
-        (self.s / (1 << 24)) as i32 - 128
+        (self.s / (1 << 24)) as usize
     }
 }
 
-// Puts a coordinate last, behind some bytes.
-#[tactic(auto, unfolding(crate::specs::Demo::coordinate))]
-fn push_coordinate(out: &mut Vec<u8>, before: &[u8], value: i32) -> Result<(), NoMemory>
-    ensures { OnOk result (out.new.items ≡ out.old.items ++ before.now ++ coordinate value) }
+// Writes the line of a point at the start of a buffer, with the next three numbers, and tells where it ends.
+#[inline(always)]
+fn put_vertex(buf: &mut [u8], pieces: &[Piece], register: &mut Register) -> usize
+    requires room { length buf.old ≡ 32 }
+    requires pieces { AreDrawn pieces.now }
+    requires count { length pieces.now ≡ 256 }
+    ensures register { register.new.s ≡ three register.old.s }
+    ensures line { take result buf.new ≡ vertex_from register.old.s }
+    ensures within { result ≤ length buf.new }
 {
-    let mut buffer = Buffer::new();
-    out.extend_from_slice(before)?;
-    out.extend_from_slice(buffer.format(value).as_bytes())?;
-    out.extend_from_slice(b"e-2")?;
-    Ok(())
+    buf[0] = b'v';
+    let x = put(buf, 1, pieces[register.draw()]);
+    let y = put(buf, x, pieces[register.draw()]);
+    let z = put(buf, y, pieces[register.draw()]);
+    buf[z] = b'\n';
+    z + 1
 }
 
 // Puts the line of a point last, with the next three numbers.
-fn push_vertex(out: &mut Vec<u8>, register: &mut Register) -> Result<(), NoMemory>
+fn push_vertex(out: &mut Vec<u8>, pieces: &[Piece], register: &mut Register) -> Result<(), NoMemory>
+    requires pieces { AreDrawn pieces.now }
+    requires count { length pieces.now ≡ 256 }
     ensures register { register.new.s ≡ three register.old.s }
     ensures line { OnOk result (out.new.items ≡ out.old.items ++ vertex_from register.old.s) }
 {
-    let x = register.draw();
-    let y = register.draw();
-    let z = register.draw();
-    push_coordinate(out, b"v ", x)?;
-    push_coordinate(out, b" ", y)?;
-    push_coordinate(out, b" ", z)?;
-    out.push(b'\n')?;
+    let mut buf = [0; 32];
+    let end = put_vertex(&mut buf, pieces, register);
+    out.extend_from_slice(&buf[..end])?;
     Ok(())
 }
 
@@ -80,13 +87,20 @@ fn push_face(out: &mut Vec<u8>, i: u32) -> Result<(), NoMemory>
 
 // Puts the lines of triangle i last.
 #[tactic(auto, unfolding(crate::specs::Drawing::lines_from))]
-fn push_lines(out: &mut Vec<u8>, register: &mut Register, i: u32) -> Result<(), NoMemory>
+fn push_lines(
+    out: &mut Vec<u8>,
+    pieces: &[Piece],
+    register: &mut Register,
+    i: u32,
+) -> Result<(), NoMemory>
+    requires pieces { AreDrawn pieces.now }
+    requires count { length pieces.now ≡ 256 }
     ensures register { OnOk result (register.new.s ≡ three (three (three register.old.s))) }
     ensures lines { OnOk result (out.new.items ≡ out.old.items ++ lines_from register.old.s i) }
 {
-    push_vertex(out, register)?;
-    push_vertex(out, register)?;
-    push_vertex(out, register)?;
+    push_vertex(out, pieces, register)?;
+    push_vertex(out, pieces, register)?;
+    push_vertex(out, pieces, register)?;
     push_face(out, i)?;
     Ok(())
 }
@@ -95,9 +109,10 @@ fn obj_bytes(alloc: Global, number: u32) -> Result<Vec<u8>, NoMemory>
     ensures { IfOk result (λ out. out.items ≡ obj number) }
 {
     let mut register = Register { s: number };
+    let pieces = drawn_pieces(alloc)?;
     let mut out = Vec::from_slice(alloc, b"mtllib demo.mtl\n")?;
     for i in 0..number {
-        push_lines(&mut out, &mut register, i)?;
+        push_lines(&mut out, pieces.as_slice(), &mut register, i)?;
     }
     Ok(out)
 }

@@ -8,6 +8,7 @@
 mod assembly;
 mod demo;
 mod fans;
+mod pieces;
 mod triangles;
 
 pub use assembly::{SceneFault, assemble};

@@ -1,0 +1,58 @@
+-- Pieces that are written into a buffer.
+use Rattle.std.proofs.Common.{◌≡◌, ◌∙◌, ◌+◌, ◌≤◌, ◌<◌, ◌++◌, ◌∷◌, [], ℕ, suc, ℤ, pos, negsuc, unsigned_abs, List, ap, sym, subst, take, drop, length, get_or, set, arith, length-append, append_assoc, codes, decimal, ⊎_elim}
+use Rattle.std.proofs.Math.Seq.{take-append-add, take-length, take-suc-set, get_or-append_seam}
+use Rattle.std.proofs.Math.ListN.{get_or-append}
+use Rattle.std.proofs.lemmas.Fmt.{length-decimal-le}
+use Rattle.std.proofs.lemmas.Bool.{cases_lt}
+use Rattle.std.proofs.lemmas.List.{length-take-le, take-append-le, take-append-drop}
+use Rattle.std.proofs.lemmas.Simd.{take_more_put_chunk}
+use lib.Lanes.{put_chunk, chunk}
+use Rattle.abuf_scene.specs.Demo.{coordinate}
+use Rattle.abuf_scene.specs.Drawing.{drawn, IsPiece, AreDrawn}
+use Rattle.abuf_scene.specs.declared.pieces.Piece.{Piece}
+
+-- the first bytes of eight that were written stand behind what stood before them
+pub put_is : (at n : ℕ) (buf bytes : List ℕ) → at + 8 ≤ length buf → length bytes ≡ 8 → n ≤ 8 → take (at + n) (put_chunk at buf (chunk 0 8 bytes)) ≡ take at buf ++ take n bytes
+put_is at n buf bytes room size short =
+    let eight : chunk 0 8 bytes ≡ bytes = ap (λ (k : ℕ). take k bytes) (sym size) ∙ take-length bytes in
+    let new = put_chunk at buf bytes in
+    let all : take (at + 8) new ≡ take at buf ++ bytes = take_more_put_chunk at buf bytes (at + 8) (omega arith) room in
+    let first : length (take at buf) ≡ at = length-take-le at buf (omega arith) in
+    let long : at + n ≤ length (take (at + 8) new) = omega (arith, ap (λ (xs : List ℕ). length xs) all, length-append (take at buf) bytes) in
+    ap (λ (xs : List ℕ). take (at + n) (put_chunk at buf xs)) eight
+    ∙ ap (λ (xs : List ℕ). take (at + n) xs) (sym (take-append-drop (at + 8) new))
+    ∙ take-append-le (at + n) (take (at + 8) new) (drop (at + 8) new) long
+    ∙ ap (λ (xs : List ℕ). take (at + n) xs) all
+    ∙ ap (λ (k : ℕ). take (k + n) (take at buf ++ bytes)) (sym first)
+    ∙ take-append-add (take at buf) bytes n
+
+-- a coordinate of at most three digits
+pub coordinate_short : (z : ℤ) → unsigned_abs z ≤ 999 → length (coordinate z) ≤ 7
+unfolding coordinate
+coordinate_short (pos n) small = omega (arith, length-append (decimal n) (codes "e-2"), length-decimal-le 3 n (omega arith) (omega arith) (omega arith))
+coordinate_short (negsuc n) small = omega (arith, length-append (45 ∷ decimal (suc n)) (codes "e-2"), length-decimal-le 3 (suc n) (omega arith) (omega arith) (omega arith))
+
+-- the line of a point, by pieces
+pub point_is : (x y z : List ℕ) → codes "v " ++ x ++ codes " " ++ y ++ codes " " ++ z ++ codes "\n" ≡ (118 ∷ []) ++ (32 ∷ x) ++ (32 ∷ y) ++ (32 ∷ z) ++ 10 ∷ []
+point_is x y z =
+    ap (λ (l : List ℕ). l ++ codes " " ++ z ++ codes "\n") (append_assoc (codes "v " ++ x) (codes " ") y)
+    ∙ ap (λ (l : List ℕ). l ++ codes "\n") (append_assoc (codes "v " ++ x ++ (32 ∷ y)) (codes " ") z)
+
+-- one byte more
+pub take_more_set : (i y : ℕ) (buf : List ℕ) → i < length buf → take (i + 1) (set buf i y) ≡ take i buf ++ y ∷ []
+take_more_set i y buf within = let next : i + 1 ≡ suc i = omega arith in ap (λ (k : ℕ). take k (set buf i y)) next ∙ take-suc-set buf i y within
+
+-- the piece of the next number
+pub drawn_more : (pieces : List Piece) (p : Piece) (n : ℕ) → length pieces ≡ n → AreDrawn pieces → IsPiece (drawn n) p → AreDrawn (pieces ++ p ∷ [])
+drawn_more pieces p n size before is = λ i d within.
+    ⊎_elim
+    (λ (below : i < length pieces). subst (λ (q : Piece). IsPiece (drawn i) q) (sym (get_or-append pieces (p ∷ []) d i below)) (before i d below))
+    (λ (past : length pieces ≤ i).
+    let last : i ≡ length pieces = omega (arith, length-append pieces (p ∷ [])) in
+    let found : get_or (pieces ++ p ∷ []) i d ≡ p = ap (λ (k : ℕ). get_or (pieces ++ p ∷ []) k d) last ∙ get_or-append_seam pieces p [] d in
+    subst (λ (q : Piece). IsPiece (drawn i) q) (sym found) (subst (λ (k : ℕ). IsPiece (drawn k) p) (sym (last ∙ size)) is))
+    (cases_lt i (length pieces))
+
+-- a text behind a byte
+pub piece_fits : (old before text out : List ℕ) → out ≡ old ++ before ++ text → length old ≡ 0 → length before ≡ 1 → length text ≤ 7 → length out ≤ 8
+piece_fits old before text out is none one short = omega (arith, ap (λ (xs : List ℕ). length xs) is, length-append (old ++ before) text, length-append old before)
