@@ -26,8 +26,10 @@ impl PrimitiveLists {
     ) -> Result<(), NoMemory>
         requires place { i + 1 < length corners.now }
         requires points { All (λ c. c < length table.now.points.now) corners.now }
-        ensures tris { OnOk result (self.new.tris ≡ self.old.tris ++ map (shown_by table.now.eye) (clipped_by table.now.eye (triangle table.now.points.now corners.now paint i))) }
-        ensures paints { OnOk result (self.new.paints ≡ self.old.paints ++ map (λ _. paint) (clipped_by table.now.eye (triangle table.now.points.now corners.now paint i))) }
+        ensures tris { OnOk result
+            (self.new.tris ≡ self.old.tris ++ map (shown_by table.now.eye) (clipped_by table.now.eye (triangle table.now.points.now corners.now paint i))) }
+        ensures paints { OnOk result
+            (self.new.paints ≡ self.old.paints ++ map (λ _. paint) (clipped_by table.now.eye (triangle table.now.points.now corners.now paint i))) }
     {
         match table.fan_triangle(corners, i) {
             Some(triangle) => self.push(triangle, paint),
