@@ -2,10 +2,9 @@
 use Rattle.std.specs.Prelude.{◌+◌, ◌*◌, Bool, true, false, ℕ, List, length, map, Option, Some, None}
 use Rattle.abuf_num.specs.declared.plain.Paint.{Paint}
 use Rattle.abuf_num.specs.declared.plain.PixelSum.{PixelSum}
-use Rattle.abuf_raster.specs.declared.region.Region.{Region}
 use Rattle.abuf_raster.specs.Samples.{offsets_of}
 use Rattle.abuf_raster.specs.Triangle.{Triangle}
-use Rattle.abuf_raster.specs.Region.{whole_image}
+use Rattle.abuf_raster.specs.Region.{Region, whole_image}
 use Rattle.abuf_view.specs.Primitives.{Primitive}
 use Rattle.abuf_resolve.specs.Sums.{region_sums}
 use Rattle.abuf_pam.specs.Image as pam

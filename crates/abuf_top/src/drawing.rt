@@ -1,6 +1,5 @@
 // What is drawn, once the words, the scene and its libraries are read.
 ghost use Rattle.std.specs.Prelude.{◌≡◌};
-ghost use Rattle.abuf_raster.specs.Region.{IsRegion};
 ghost use Rattle.abuf_cli.specs.Sound.{IsJob};
 ghost use Rattle.abuf_top.specs.Image.{region_of, DrawsOnce};
 
@@ -55,8 +54,7 @@ impl Drawing {
 
     /// All pixels of the image.
     pub fn region(&self) -> Region
-        ensures value { result ≡ region_of self.now.job }
-        ensures region { IsRegion result }
+        ensures { result ≡ region_of self.now.job }
     {
         let job = self.job();
         Region::whole_image(job.camera.width(), job.camera.height())

@@ -4,7 +4,6 @@ ghost use Rattle.std.specs.String.{string_bytes};
 ghost use Rattle.abuf_num.specs.declared.limits.TheConstants.{MAX_PRIMITIVES};
 ghost use Rattle.abuf_raster.specs.Hits.{all_fragments};
 ghost use Rattle.abuf_raster.specs.Packing.{unpacked};
-ghost use Rattle.abuf_raster.specs.Region.{IsRegion};
 ghost use Rattle.abuf_raster.specs.Samples.{offsets_of};
 ghost use Rattle.abuf_resolve.specs.Laws.{TellLayers};
 ghost use Rattle.abuf_resolve.specs.Words.{layer_of, AreWordsAt, IsFragmentAt};
@@ -149,7 +148,6 @@ fn pixel_report(
     words: Vec<u64>,
 ) -> Result<List<u8>, NoMemory>
     requires few { length triangles.now ≤ MAX_PRIMITIVES }
-    requires region { IsRegion region }
     requires corner { (region.x0 ≡ 0) × (region.y0 ≡ 0) }
     requires pixel { (at.x < region.w) × (at.y < region.h) }
     requires words { AreWordsAt (all_fragments triangles.now 0 (offsets_of pattern) region) (at.y * region.w + at.x) words.items }
@@ -158,7 +156,13 @@ fn pixel_report(
     let mut sorted = words;
     sorted.sort_unstable();
     order_law(&sorted, &sorted);
-    pixel_law(triangles, pattern, region, at.y * region.w + at.x, &sorted);
+    pixel_law(
+        triangles,
+        pattern,
+        region,
+        at.y * region.w() + at.x,
+        &sorted,
+    );
     let text = pixel_text(alloc, triangles, &sorted, at, pattern)?;
     Ok(List::from_vec(text.into_bytes()))
 }

@@ -28,7 +28,7 @@ pub fn draw_whole<R: Threads + Sync, G: Gate + Sync>(
     requires not_peeled { drawing.now.job.peel ≡ false }
     ensures { MatchResult result (IsWholeFrameOf drawing.now) (λ early. IsOutputOf drawing.now early.result early.closed) }
 {
-    let Ok(closed) = draw(rt, alloc, &drawing.primitives(), drawing.target(), gate) else {
+    let Ok(closed) = draw(rt, alloc, &drawing.primitives(), &drawing.target(), gate) else {
         return Err(Outcome::out_of_memory());
     };
     match closed.full() {
@@ -68,7 +68,7 @@ pub fn image_in<R: Threads + Sync>(
         rt,
         alloc,
         &drawing.primitives(),
-        drawing.target(),
+        &drawing.target(),
         closed,
     )?;
     let bytes = image_of(alloc, drawing, sums.as_slice())?;

@@ -30,7 +30,7 @@ pub fn pick<R: Threads + Sync, G: Gate + Sync>(
 {
     let place = y * drawing.job().camera.width() + x;
     let target = drawing.target();
-    let Ok(sight) = draw_and_look(rt, alloc, &drawing.primitives(), target, place, gate) else {
+    let Ok(sight) = draw_and_look(rt, alloc, &drawing.primitives(), &target, place, gate) else {
         return Outcome::out_of_memory();
     };
     let Sight {
