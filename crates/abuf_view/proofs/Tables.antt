@@ -1,11 +1,10 @@
 -- Tables of points on the screen, and triangles whose corners all stand in one.
-use Rattle.std.proofs.Common.{◌≡◌, ◌∙◌, sym, ap, subst, refl, ℕ, zero, suc, ◌+◌, ◌-◌, ◌*◌, ◌/◌, ◌%◌, ◌^◌, ◌<◌, ◌≤◌, min, max, Bool, true, false, ℤ, List, [], ◌∷◌, map, take, drop, length, get_or, Option, Some, None, IfSome, Result, Ok, Err, IfOk, ◌⊎◌, inl, inr, mul-le-mul, arith}
+use Rattle.std.proofs.Common.{◌≡◌, ◌∙◌, sym, ap, subst, refl, ℕ, zero, suc, ◌+◌, ◌-◌, ◌*◌, ◌/◌, ◌^◌, ◌<◌, ◌≤◌, min, Bool, true, false, ℤ, List, [], ◌∷◌, map, take, drop, length, get_or, Option, Some, None, IfSome, Result, Ok, Err, IfOk, ◌⊎◌, inl, inr, mul-le-mul, arith}
 use Rattle.std.specs.Prelude.{unsigned_abs, nat_lt, if◌then◌else◌}
 use Rattle.std.proofs.lemmas.Option.{none-some, same_Some}
 use Rattle.std.proofs.lemmas.Bool.{cases_lt}
 use Rattle.std.proofs.Math.Nat.{pow-suc}
 use Rattle.std.proofs.lemmas.List.{get_or-take, get_or-drop, length-take}
-use Rattle.abuf_num.specs.declared.plain.Paint.{Paint}
 use Rattle.abuf_raster.specs.declared.point.Point.{Point}
 use Rattle.abuf_raster.specs.Triangle.{Triangle as OnScreen}
 use Rattle.abuf_scene.specs.declared.triangles.Triangle.{Triangle}

@@ -1,7 +1,5 @@
 -- Points on the screen in short numbers, and a table of them.
 use Rattle.std.specs.Prelude.{◌≡◌, ℕ, ◌+◌, ◌*◌, ◌^◌, ◌<◌, Bool, true, false, ℤ, unsigned_abs, nat_lt, if◌then◌else◌, List, [], ◌∷◌, map, length, take, drop, slice_index_or, Option, Some, None}
-use Rattle.abuf_num.specs.declared.plain.Paint.{Paint}
-use Rattle.abuf_raster.specs.declared.point.Point.{Point}
 use Rattle.abuf_raster.specs.Triangle.{Triangle as OnScreen}
 use Rattle.abuf_scene.specs.declared.triangles.Triangle.{Triangle}
 use Rattle.abuf_view.specs.Camera.{point_of}
