@@ -14,6 +14,14 @@ fn bytes(alloc: Global, text: &[u8]) -> Result<List<u8>, Fail> {
     Ok(List::from_vec(text.to_vec(alloc)?))
 }
 
+// Whether these bytes came.
+fn gave<E: Drop>(got: Result<List<u8>, E>, bytes: &[u8]) -> bool {
+    match got {
+        Ok(whole) => whole.as_slice() == bytes,
+        Err(_) => false,
+    }
+}
+
 // A step that takes two bytes, a fault, and a step that takes one.
 fn plan(alloc: Global) -> Result<List<Step>, Fail>
     ensures { IfOk result IsPlan }
@@ -59,10 +67,7 @@ fn a_sink_goes_by_its_plan_and_its_room(rt: HostRuntime) -> Result<(), Fail> {
 fn a_reading_is_whole_or_says_why(rt: HostRuntime) -> Result<(), Fail> {
     let alloc = rt.alloc();
     let mut steady = SteadySource::new(bytes(alloc, b"abc")?);
-    match read_all(alloc, &mut steady, 3) {
-        Ok(whole) => assert!(rt; whole.as_slice() == b"abc".as_slice()),
-        Err(_) => assert!(rt; false),
-    }
+    assert!(rt; gave(read_all(alloc, &mut steady, 3), b"abc"));
     let mut long = SteadySource::new(bytes(alloc, b"abc")?);
     assert!(rt; read_all(alloc, &mut long, 2).err() == Some(ReadEnd::TooLong));
     let mut failing = MemSource::new(bytes(alloc, b"abc")?, plan(alloc)?);
@@ -74,10 +79,7 @@ fn a_reading_is_whole_or_says_why(rt: HostRuntime) -> Result<(), Fail> {
 fn no_read_follows_the_end(rt: HostRuntime) -> Result<(), Fail> {
     let alloc = rt.alloc();
     let mut source = MemSource::new(bytes(alloc, b"ab")?, ends(alloc)?);
-    match read_all(alloc, &mut source, 9) {
-        Ok(whole) => assert!(rt; whole.as_slice() == b"ab".as_slice()),
-        Err(_) => assert!(rt; false),
-    }
+    assert!(rt; gave(read_all(alloc, &mut source, 9), b"ab"));
     Ok(())
 }
 
@@ -111,13 +113,8 @@ fn shelves_hold_the_first_pair_of_a_name(rt: HostRuntime) -> Result<(), Fail> {
     let mut fails = List::new(alloc);
     fails.push(1)?;
     let mut shelf = MemShelf::new(pairs(alloc)?, fails);
-    match (steady.fetch(alloc, b"a", 3), shelf.fetch(alloc, b"a", 3)) {
-        (Ok(one), Ok(other)) => {
-            assert!(rt; one.as_slice() == b"one".as_slice());
-            assert!(rt; other.as_slice() == b"one".as_slice());
-        }
-        _ => assert!(rt; false),
-    }
+    assert!(rt; gave(steady.fetch(alloc, b"a", 3), b"one"));
+    assert!(rt; gave(shelf.fetch(alloc, b"a", 3), b"one"));
     assert!(rt; shelf.fetch(alloc, b"a", 3).err() == Some(Fetch::Failed));
     assert!(rt; shelf.fetch(alloc, b"a", 2).err() == Some(Fetch::TooLong));
     assert!(rt; shelf.fetch(alloc, b"b", 2).err() == Some(Fetch::Missing));
@@ -138,20 +135,22 @@ fn pairs(alloc: Global) -> Result<List<(List<u8>, List<u8>)>, Fail> {
 fn the_folder_tells_a_missing_file_from_a_fault(rt: HostRuntime) {
     let alloc = rt.alloc();
     let mut folder = FolderShelf::new(&rt);
-    assert!(rt; folder.fetch(alloc, b"no such file.mtl", 9).err() == Some(Fetch::Missing));
-    assert!(rt; folder.fetch(alloc, b".", 9).err() == Some(Fetch::Failed));
-    assert!(rt; folder.fetch(alloc, b"a\0b", 9).err() == Some(Fetch::Failed));
-    assert!(rt; folder.fetch(alloc, b"\xff", 9).err() == Some(Fetch::Failed));
+    let rows: [(&[u8], Fetch); 4] = [
+        (b"no such file.mtl", Fetch::Missing),
+        (b".", Fetch::Failed),
+        (b"a\0b", Fetch::Failed),
+        (b"\xff", Fetch::Failed),
+    ];
+    for (name, fetch) in rows {
+        assert!(rt; folder.fetch(alloc, name, 9).err() == Some(fetch));
+    }
 }
 
 #[test]
 fn adapters_pass_bytes_on(rt: HostRuntime) -> Result<(), Fail> {
     let alloc = rt.alloc();
     let mut source = ReadSource::new(b"abc".as_slice());
-    match read_all(alloc, &mut source, 3) {
-        Ok(whole) => assert!(rt; whole.as_slice() == b"abc".as_slice()),
-        Err(_) => assert!(rt; false),
-    }
+    assert!(rt; gave(read_all(alloc, &mut source, 3), b"abc"));
     let mut sink = WriteSink::new(Vec::new(alloc));
     assert!(rt; write_all(&mut sink, b"abc") == Ok(()));
     let mut room = [0u8; 2];
