@@ -127,7 +127,8 @@ fn pixel_text(
     requires words { All (λ word. word < 2 ^ 40) words.now }
     requires fit { All (IsFragmentAt (offsets_of pattern) triangles.now at.x at.y) words.now }
     requires layers { TellLayers (offsets_of pattern) triangles.now at.x at.y words.now }
-    ensures { IfOk result (λ text. string_bytes text ≡ fragments_text (map unpacked words.now) ++ all_samples_text (offsets_of pattern) triangles.now at.x at.y) }
+    ensures { IfOk result
+        (λ text. string_bytes text ≡ fragments_text (map unpacked words.now) ++ all_samples_text (offsets_of pattern) triangles.now at.x at.y) }
 {
     let pixel = Sampled {
         planes: Planes::new(alloc, triangles)?,
