@@ -1,19 +1,19 @@
 -- From how a run ends to what it answers.
-use Rattle.std.proofs.Common.{◌≡◌, ◌⊎◌, inl, inr, ◌≤◌, ◌++◌, ◌-◌, ℕ, List, [], length, take, Option, Some, None, option_map, unwrap_or, Result, Ok, Err, IfSome, refl, sym, ap, ◌∙◌, subst, append-nil, arith}
+use Rattle.std.proofs.Common.{◌≡◌, ◌⊎◌, inl, inr, ◌≤◌, ℕ, List, [], length, take, Option, Some, None, option_map, unwrap_or, Result, Ok, Err, IfSome, refl, sym, ap, ◌∙◌, subst, append-nil, arith}
 use Rattle.std.specs.List.{concat}
 use Rattle.std.specs.Io.KnownBytes.{Appends, Keeps}
 use Rattle.std.proofs.lemmas.List.{take_all}
 use Rattle.abuf_frame.specs.Closing.{Ended}
 use Rattle.abuf_cli.specs.declared.job.Job.{Job}
 use Rattle.abuf_cli.specs.declared.job.WordFault.{WordFault}
-use Rattle.abuf_top.specs.Ending.{Ends, RefusesBy, Concludes, Tells}
+use Rattle.abuf_top.specs.Ending.{Ends, Concludes, Tells}
 use Rattle.abuf_top.specs.Outside.{Outside, Failed, ReadFailed}
 use Rattle.abuf_io.specs.Sinks.{Taken}
 use Rattle.abuf_top.specs.Prepared.{StopsAt}
-use Rattle.abuf_top.specs.Refusals.{refusal_status, refusal_text, stop_status, stop_text}
+use Rattle.abuf_top.specs.Refusals.{refusal_status}
 use Rattle.abuf_top.specs.Status.{status_number}
 use Rattle.abuf_top.specs.Stopped.{HasCause}
-use Rattle.abuf_top.specs.Table.{TookSome, TookLine, Refuses, Row, IsAnswer, IsComplete, Follows, most_whole, last_status}
+use Rattle.abuf_top.specs.Table.{TookSome, Refuses, Row, IsAnswer, IsComplete, Follows, most_whole, last_status}
 use Rattle.abuf_top.specs.Verdict.{Verdict, Refused, final_verdict}
 use Rattle.abuf_top.specs.declared.status.Status.{Status}
 use Rattle.abuf_top.specs.declared.status.Status.TheVariants as ended

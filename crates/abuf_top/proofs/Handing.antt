@@ -5,7 +5,6 @@ use Rattle.std.specs.Io.KnownBytes.{Keeps}
 use Rattle.abuf_frame.specs.Closing.{Ended}
 use Rattle.abuf_top.specs.Promise.{GoesWithFrame}
 use Rattle.abuf_top.specs.Ending.{HasFrame, HandsBack, WritesLast, Concludes, Tells, handed_back}
-use Rattle.abuf_top.specs.Outside.{Outside}
 use Rattle.abuf_io.specs.Sinks.{Taken}
 use Rattle.abuf_top.specs.Refusals.{refusal_status}
 use Rattle.abuf_top.specs.Status.{status_number}

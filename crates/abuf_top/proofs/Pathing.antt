@@ -6,7 +6,6 @@ use Rattle.abuf_mtl.specs.StandsFor.{StandsFor}
 use Rattle.abuf_scene.specs.declared.triangles.Scene.{Scene}
 use Rattle.abuf_scene.specs.declared.triangles.Triangle.{Triangle}
 use Rattle.abuf_sequence.specs.declared.path.Shot.{Shot}
-use Rattle.abuf_sequence.specs.declared.plan.Plan.{Plan}
 use Rattle.abuf_cli.specs.declared.job.Job.{Job}
 use Rattle.abuf_cli.specs.declared.job.What.{What}
 use Rattle.abuf_cli.specs.declared.job.What.TheVariants as what
@@ -14,7 +13,7 @@ use Rattle.abuf_top.specs.Fetches.{CallsAtMost, PathIsRefused, load_fetches, pat
 use Rattle.abuf_top.specs.Images.{Images, plan_of}
 use Rattle.abuf_top.specs.Libraries.{Holdings, told_by}
 use Rattle.abuf_top.specs.Paths.{path_verdict}
-use Rattle.abuf_top.specs.Prepared.{Loads, LoadsPath, Assembles, PreparesImages, StopsAt}
+use Rattle.abuf_top.specs.Prepared.{Loads, PreparesImages, StopsAt}
 use Rattle.abuf_top.specs.Stopped.{HasReadCause}
 use Rattle.abuf_top.specs.Image.{DrawsOnce}
 use Rattle.abuf_top.specs.Verdict.{command_verdict, drawing_verdict, images_verdict, shots_verdict, sequence_verdict, material_verdict, loaded}

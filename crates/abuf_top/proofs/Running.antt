@@ -12,7 +12,7 @@ use Rattle.abuf_io.specs.Sinks.{Taken}
 use Rattle.abuf_top.specs.Refusals.{refusal_status}
 use Rattle.abuf_top.specs.Status.{status_number}
 use Rattle.abuf_top.specs.Promise.{GoesWithFrame, HasSizeOf, WordsDecide, has_frame, command_has_frame, IsFrameOfTask, IsRun}
-use Rattle.abuf_top.specs.Fetches.{fetches, most_fetches, CallsAtMost, NeedsNoSource}
+use Rattle.abuf_top.specs.Fetches.{fetches, most_fetches, NeedsNoSource}
 use Rattle.abuf_top.specs.Image.{Drawing, DrawsOnce, has_one_frame}
 use Rattle.abuf_top.specs.Images.{Images}
 use Rattle.abuf_top.specs.Outside.{Outside, ReadFailed, told}

@@ -1,14 +1,14 @@
 -- What a run leaves that writes the images of a sequence.
-use Rattle.std.proofs.Common.{◌≡◌, ◌≤◌, ◌<◌, ◌+◌, ◌-◌, ℕ, Bool, true, false, not, nat_lt, List, [], length, map, take, position, Option, Some, None, refl, sym, ap, ◌∙◌, subst, true≢false, arith}
+use Rattle.std.proofs.Common.{◌≡◌, ◌≤◌, ◌<◌, ◌+◌, ◌-◌, ℕ, Bool, true, false, nat_lt, List, [], length, take, Option, Some, None, refl, sym, ap, ◌∙◌, true≢false, arith}
 use Rattle.std.specs.Prelude.{slice_index}
-use Rattle.std.specs.List.{concat, position_or_len}
+use Rattle.std.specs.List.{concat}
 use Rattle.std.specs.Io.KnownBytes.{Appends}
 use Rattle.std.proofs.lemmas.List.{length-map}
 use Rattle.std.proofs.lemmas.Bool.{ltb-false}
 use Rattle.std.proofs.Math.ListN.{length-take}
 use Rattle.abuf_io.specs.Sinks.{Taken}
 use Rattle.abuf_sequence.specs.Sequences.{first_full, images, image_of, sound_count, sound_images, total_of, totals, AreWritten, StopsAtFull, StopsAtFault, StopsAfter}
-use Rattle.abuf_top.specs.Ending.{Ends, RefusesBy}
+use Rattle.abuf_top.specs.Ending.{RefusesBy}
 use Rattle.abuf_top.specs.Images.{Images, image_pool}
 use Rattle.abuf_top.specs.Refusals.{full_text}
 use Rattle.abuf_top.specs.declared.status.Status.TheVariants as ended
@@ -16,7 +16,6 @@ use Rattle.abuf_top.specs.Table.{TookSome, most_whole}
 use Rattle.abuf_top.specs.Verdict.{Refused, full_image, pools_verdict}
 use Rattle.abuf_top.specs.declared.stop.FullPool.{FullPool}
 use Rattle.abuf_top.specs.declared.stop.FullPool.TheVariants as full
-use Rattle.abuf_top.specs.declared.stop.Stop.{Stop}
 use Rattle.abuf_top.specs.declared.stop.Stop.TheVariants as stop
 
 module _ (i : Images) (out : Taken) where

@@ -1,5 +1,5 @@
 -- What the drawing leaves, and how a run ends.
-use Rattle.std.specs.Prelude.{◌≡◌, ◌⊎◌, Bool, true, false, ℕ, List, [], codes, Option, Some, None, IfSome, IsSome, IsNone, Result, Ok, Err}
+use Rattle.std.specs.Prelude.{◌≡◌, ◌⊎◌, Bool, true, false, ℕ, List, [], Option, Some, None, IsSome, IsNone, Result, Ok, Err}
 use Rattle.std.specs.List.{concat}
 use Rattle.std.specs.Io.KnownBytes.{Keeps}
 use Rattle.abuf_frame.specs.Closing.{Ended}

@@ -9,7 +9,7 @@ use Rattle.abuf_cli.specs.declared.job.What.TheVariants as what
 use Rattle.abuf_cli.specs.declared.job.WordFault.{WordFault}
 use Rattle.abuf_top.specs.Ending.{IsFrameOf}
 use Rattle.abuf_top.specs.Fetches.{fetches, most_fetches, NeedsNoSource}
-use Rattle.abuf_top.specs.Image.{Drawing, has_one_frame}
+use Rattle.abuf_top.specs.Image.{has_one_frame}
 use Rattle.abuf_top.specs.Outside.{Outside, told}
 use Rattle.abuf_top.specs.Prepared.{AskOnce, IsTaskOf}
 use Rattle.abuf_top.specs.Reads.{CallsShelf, IsUncalled}

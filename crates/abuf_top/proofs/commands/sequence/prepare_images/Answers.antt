@@ -1,10 +1,9 @@
-use Rattle.std.proofs.Common.{◌≡◌, ◌⊎◌, ◌∙◌, ℕ, Bool, true, List, Option, Some, Result, Ok, IfSome, sym, ap, subst}
+use Rattle.std.proofs.Common.{◌≡◌, ◌⊎◌, ◌∙◌, ℕ, Bool, List, Option, Ok, IfSome, ap, subst}
 use Rattle.std.proofs.lemmas.Result.{err_from_is_err_and}
 use Rattle.abuf_io.specs.Causes.{Rose}
 use Rattle.abuf_sequence.specs.declared.plan.Plan.{Plan}
 use Rattle.abuf_sequence.specs.declared.path.Shot.{Shot}
 use Rattle.abuf_top.specs.Fetches.{CallsAtMost, load_fetches}
-use Rattle.abuf_top.specs.Images.{Images}
 use Rattle.abuf_top.specs.Libraries.{Holdings, told_by}
 use Rattle.abuf_top.specs.Prepared.{Loads, PreparesImages, StopsAt}
 use Rattle.abuf_top.specs.Verdict.{loaded}
