@@ -1,7 +1,7 @@
-use Rattle.std.proofs.Common.{◌≡◌, ◌∙◌, ◌∷◌, ◌++◌, ◌/◌, ◌^◌, [], ℕ, List, ap, ap₂, sym, take, slice_index_or, arith}
+use Rattle.std.proofs.Common.{◌∙◌, ◌∷◌, ◌++◌, ◌/◌, ◌^◌, [], ℕ, List, ap, ap₂, sym, arith}
 use Rattle.std.proofs.lemmas.List.{length-set}
 use Rattle.abuf_scene.specs.Demo.{step, given, coordinate}
-use Rattle.abuf_scene.specs.Drawing.{vertex_from, drawn, text_of}
+use Rattle.abuf_scene.specs.Drawing.{vertex_from, drawn}
 use Rattle.abuf_scene.proofs.Putting.{point_is, take_more_set}
 use Rattle.abuf_scene.proofs.demo.put_vertex.Goals as goal
 

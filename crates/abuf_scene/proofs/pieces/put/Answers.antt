@@ -1,5 +1,4 @@
-use Rattle.std.proofs.Common.{◌∙◌, ◌+◌, ◌++◌, ℕ, List, ap, take, length, arith, sym}
-use Rattle.std.proofs.Math.Seq.{take-append-add}
+use Rattle.std.proofs.Common.{arith}
 use Rattle.abuf_scene.proofs.Putting.{put_is}
 use Rattle.abuf_scene.proofs.pieces.put.Goals as goal
 
