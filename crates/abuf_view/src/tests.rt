@@ -4,12 +4,13 @@ ghost use Rattle.abuf_obj.specs.Sound.{IsInRange};
 ghost use Rattle.abuf_scene.specs.Triangles.{IsTriangleInRange};
 
 use crate::point_table::PointTable;
+use crate::primitive_lists::PrimitiveLists;
 use crate::threads::{all_faces, faces_per_run};
 use crate::{Camera, Projected, project, project_faces};
 use abuf_mtl::{Materials, read_mtl};
 use abuf_num::{List, NoMemory, Paint};
 use abuf_obj::read_obj;
-use abuf_raster::{Pattern, Region, TileWalk, depth_at, mask_at};
+use abuf_raster::{Pattern, Region, ScreenTri, TileWalk, depth_at, mask_at};
 use abuf_scene::{Scene, SceneFault, Triangle};
 use std::alloc::Global;
 use std::test::Fail;
@@ -54,12 +55,12 @@ fn shown_by(
 }
 
 // How many primitives cover the centre of the pixel.
-fn covering(shown: &Projected, x: u32, y: u32) -> u32
+fn covering(tris: &[ScreenTri], x: u32, y: u32) -> u32
     requires x { x ≤ 4095 }
     requires y { y ≤ 4095 }
 {
     let mut count: u32 = 0;
-    for triangle in shown.tris.as_slice() {
+    for triangle in tris {
         count = count.saturating_add(u32::from(mask_at(triangle, x, y, Pattern::One)));
     }
     count
@@ -101,7 +102,7 @@ fn upper_left_half_is_covered(rt: HostRuntime) -> Result<(), Fail> {
     assert!(rt; shown.paints.as_slice() == [WHITE].as_slice());
     for x in 0..4 {
         for y in 0..4 {
-            assert!(rt; (covering(&shown, x, y) == 1) == (x + y < 3));
+            assert!(rt; (covering(shown.tris.as_slice(), x, y) == 1) == (x + y < 3));
         }
     }
     assert!(rt; pixels_at(&shown, four_by_four(), 524287) == 6);
@@ -120,7 +121,7 @@ fn corner_behind_the_camera_is_cut_off(rt: HostRuntime) -> Result<(), Fail> {
     assert!(rt; shown.paints.as_slice() == [WHITE, WHITE].as_slice());
     for x in 0..4 {
         for y in 0..4 {
-            assert!(rt; (covering(&shown, x, y) == 1) == (y < 2));
+            assert!(rt; (covering(shown.tris.as_slice(), x, y) == 1) == (y < 2));
         }
     }
     Ok(())
@@ -138,7 +139,7 @@ fn corner_alone_before_the_camera_is_kept(rt: HostRuntime) -> Result<(), Fail> {
     for x in 0..4 {
         for y in 0..4 {
             let inside = (y == 0 && x < 3) || (y == 1 && x == 1);
-            assert!(rt; (covering(&shown, x, y) == 1) == inside);
+            assert!(rt; (covering(shown.tris.as_slice(), x, y) == 1) == inside);
         }
     }
     Ok(())
@@ -171,7 +172,7 @@ fn farthest_shifts(rt: HostRuntime) -> Result<(), Fail> {
         assert!(rt; shown.tris.as_slice().len() == parts);
         for x in 0..4 {
             for y in 0..4 {
-                assert!(rt; covering(&shown, x, y) == 0);
+                assert!(rt; covering(shown.tris.as_slice(), x, y) == 0);
             }
         }
     }
@@ -211,7 +212,7 @@ fn faces_have_the_paint_of_their_material(rt: HostRuntime) -> Result<(), Fail> {
             assert!(rt; shown.paints.as_slice() == [WHITE, red].as_slice());
             for x in 0..4 {
                 for y in 0..4 {
-                    assert!(rt; covering(&shown, x, y) == 1);
+                    assert!(rt; covering(shown.tris.as_slice(), x, y) == 1);
                 }
             }
             assert!(rt; pixels_at(&shown, four_by_four(), 524287) == 6);
@@ -242,7 +243,7 @@ fn seen_in_runs<R: Threads + Sync>(
     camera: &Camera,
     library: &[u8],
     per_run: usize,
-) -> Option<Result<Projected, SceneFault>>
+) -> Option<Result<PrimitiveLists, SceneFault>>
     requires { 1 ≤ per_run }
 {
     let mut materials = Materials::new(alloc);
@@ -290,7 +291,7 @@ fn three_workers_give_all_primitives_in_order(rt: HostRuntime) -> Result<(), Fai
             assert!(rt; shown.tris.as_slice().len() == 6);
             for x in 0..4 {
                 for y in 0..4 {
-                    assert!(rt; covering(&shown, x, y) == 3);
+                    assert!(rt; covering(shown.tris.as_slice(), x, y) == 3);
                 }
             }
         }
