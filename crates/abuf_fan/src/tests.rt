@@ -1,5 +1,6 @@
 // Drawing on threads, and a desk.
 ghost use Rattle.std.specs.Prelude.{◌≡◌};
+ghost use Rattle.abuf_raster.specs.Region.{whole_image};
 
 use crate::{Desk, Gate, MeetingGate, draw_all, most_fragments};
 use abuf_frame::{Frame, Pass};
@@ -7,7 +8,9 @@ use abuf_raster::{Pattern, Region, ScreenTri};
 use std::sync::atomic::{AtomicU64, Ordering};
 use std::test::Fail;
 
-fn square() -> Region {
+fn square() -> Region
+    ensures { result ≡ whole_image 4 4 }
+{
     Region::whole_image(4, 4)
 }
 
