@@ -8,7 +8,7 @@ use Rattle.abuf_cli.specs.Values.{size_of, pattern_of, threads_of, nodes_of, tur
 use Rattle.abuf_cli.specs.declared.command.CommandName.{CommandName}
 use Rattle.abuf_cli.specs.declared.command.CommandName.TheVariants.{Render, Pick, Demo, Sequence}
 use Rattle.abuf_cli.specs.declared.values.Size.{Size}
-use Rattle.abuf_cli.specs.declared.job.Job.{Job}
+use Rattle.abuf_cli.specs.Job.{Job}
 use Rattle.abuf_cli.specs.declared.settings.Pose.{Pose}
 use Rattle.abuf_cli.specs.declared.settings.Lens.{Lens}
 use Rattle.abuf_cli.specs.declared.settings.Storage.{Storage}

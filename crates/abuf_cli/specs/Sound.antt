@@ -5,7 +5,7 @@ use Rattle.abuf_view.specs.Camera.{IsSize, IsLens, IsCamera}
 use Rattle.abuf_cli.specs.Poses.{IsPose}
 use Rattle.abuf_cli.specs.declared.command.CommandName.{CommandName}
 use Rattle.abuf_cli.specs.declared.command.CommandName.TheVariants as command
-use Rattle.abuf_cli.specs.declared.job.Job.{Job}
+use Rattle.abuf_cli.specs.Job.{Job}
 use Rattle.abuf_cli.specs.declared.settings.Settings.{Settings}
 use Rattle.abuf_cli.specs.declared.job.What.{What}
 use Rattle.abuf_cli.specs.declared.job.What.TheVariants.{Render, Pick, Demo, Sequence}

@@ -3,18 +3,19 @@ ghost use Rattle.std.specs.Prelude.{◌≡◌, ℕ, map, IfOk};
 ghost use Rattle.std.specs.String.{string_bytes};
 ghost use Rattle.clap.specs.Words.{rows_of, found_of};
 ghost use Rattle.abuf_cli.specs.Commands.{app_of_command, matches};
-ghost use Rattle.abuf_cli.specs.Sound.{IsWhat, IsJob, command_of};
+ghost use Rattle.abuf_cli.specs.Sound.{IsWhat, command_of};
 ghost use Rattle.abuf_cli.specs.declared.command.CommandName.TheVariants.{Sequence};
 ghost use Rattle.abuf_cli.specs.Jobs.{sequence_of, what_of, job_of, of_matches, first_command, job, Answers};
 
 use crate::command::{CommandName, command_named, matches_of, text_of};
-use crate::settings::Settings;
+use crate::settings::{Settings, camera_of};
 use crate::values::{Size, at_of, number_of};
 use abuf_num::List;
 use abuf_raster::Pattern;
 use abuf_view::Camera;
 use clap::ArgMatches;
 use std::alloc::Global;
+use std::marker::Model;
 
 /// What is to be made: the command that the first word names, and the positional value that it takes.
 #[derive(Drop)]
@@ -78,24 +79,133 @@ pub enum WordFault {
 /// What the words ask for. Each value is within the range of its option.
 #[derive(Drop)]
 pub struct Job {
-    pub what: What,
+    what: What,
+    camera: Camera,
+    pattern: Pattern,
+    threads: u32,
+    nodes: u32,
+    background: [u16; 3],
+    maxval: u32,
+    bands: Option<u32>,
+    peel: bool,
+}
+
+impl Model for Job {
+    ghost use Rattle.abuf_cli.specs.Job.{Job as Asked, asked};
+    ghost use Rattle.abuf_cli.specs.Sound.{IsJob};
+
+    ghost Value = { Asked };
+
+    ghost view = { λ j. asked j.what j.camera j.pattern j.threads j.nodes j.background j.maxval j.bands j.peel };
+
+    ghost invariant = { λ j. IsJob (asked j.what j.camera j.pattern j.threads j.nodes j.background j.maxval j.bands j.peel) };
+}
+
+impl Job {
+    ghost use Rattle.abuf_cli.specs.Jobs.{job_from};
+    ghost use Rattle.abuf_cli.specs.Sound.{IsSettings, IsWhat, IsJob, command_of};
+
+    // The job of these settings that makes this.
+    fn of(settings: Settings, what: What) -> Job
+        requires settings { IsSettings (command_of what) settings }
+        requires what { IsWhat settings.size.width settings.size.height what }
+        ensures { result ≡ job_from settings what }
+    {
+        let background = settings.background;
+        Job {
+            what,
+            camera: camera_of(settings.size, settings.pose, settings.lens),
+            pattern: settings.pattern,
+            threads: settings.threads,
+            nodes: settings.nodes,
+            background,
+            maxval: settings.maxval,
+            bands: settings.storage.bands,
+            peel: settings.storage.peel,
+        }
+    }
+
+    /// What is to be made.
+    #[inline(always)]
+    pub fn what(&self) -> &What
+        ensures value { result.now ≡ self.now.what }
+        ensures job { IsJob self.now }
+    {
+        &self.what
+    }
+
     /// The camera, and with it the size of the image. For `sequence` it has the turn and the shift of their defaults.
-    pub camera: Camera,
+    #[inline(always)]
+    pub fn camera(&self) -> &Camera
+        ensures value { result.now ≡ self.now.camera }
+        ensures job { IsJob self.now }
+    {
+        &self.camera
+    }
+
     /// The pattern of a pixel's samples.
-    pub pattern: Pattern,
+    #[inline(always)]
+    pub fn pattern(&self) -> Pattern
+        ensures value { result ≡ self.now.pattern }
+        ensures job { IsJob self.now }
+    {
+        self.pattern
+    }
+
     /// The number of threads that draw and resolve, from 1 to 64.
-    pub threads: u32,
+    #[inline(always)]
+    pub fn threads(&self) -> u32
+        ensures value { result ≡ self.now.threads }
+        ensures job { IsJob self.now }
+    {
+        self.threads
+    }
+
     /// The number of fragments that the pool has room for, from 1 to 8388608.
-    pub nodes: u32,
+    #[inline(always)]
+    pub fn nodes(&self) -> u32
+        ensures value { result ≡ self.now.nodes }
+        ensures job { IsJob self.now }
+    {
+        self.nodes
+    }
+
     /// The colour behind all primitives, each channel from 0 to 65535.
-    pub background: [u16; 3],
+    #[inline(always)]
+    pub fn background(&self) -> [u16; 3]
+        ensures value { result ≡ self.now.background }
+        ensures job { IsJob self.now }
+    {
+        self.background
+    }
+
     /// The greatest value in the image: 255 or 65535.
-    pub maxval: u32,
+    #[inline(always)]
+    pub fn maxval(&self) -> u32
+        ensures value { result ≡ self.now.maxval }
+        ensures job { IsJob self.now }
+    {
+        self.maxval
+    }
+
     /// The number of bands of rows that `render` draws one after another, from 1 to the height of the image, where it
     /// is given; the other commands have none.
-    pub bands: Option<u32>,
+    #[inline(always)]
+    pub fn bands(&self) -> Option<u32>
+        ensures value { result ≡ self.now.bands }
+        ensures job { IsJob self.now }
+    {
+        self.bands
+    }
+
     /// Whether `render` peels layer by layer, without bands; the other commands don't.
-    pub peel: bool,
+    #[inline(always)]
+    pub fn peel(&self) -> bool
+        ensures value { result ≡ self.now.peel }
+        ensures job { IsJob self.now }
+    {
+        self.peel
+    }
 }
 
 // The sequence of the path file of this name.
@@ -148,11 +258,10 @@ fn what_of(
 // The job of the texts, in the order in which they are refused.
 fn job_of(alloc: Global, name: CommandName, matches: &ArgMatches) -> Result<Job, WordFault>
     ensures answer { Answers (job_of name (rows_of (found_of matches.now))) result }
-    ensures sound { IfOk result IsJob }
 {
     match Settings::read(name, matches) {
         Ok(settings) => match what_of(alloc, name, settings.size, matches) {
-            Ok(what) => Ok(settings.job(what)),
+            Ok(what) => Ok(Job::of(settings, what)),
             Err(fault) => Err(fault),
         },
         Err(fault) => Err(fault),
@@ -162,7 +271,6 @@ fn job_of(alloc: Global, name: CommandName, matches: &ArgMatches) -> Result<Job,
 // The job of the words of a command, of which the first is its name.
 fn command_job(alloc: Global, name: CommandName, words: &[String]) -> Result<Job, WordFault>
     ensures answer { Answers (of_matches name (matches (app_of_command name) (map string_bytes words.now))) result }
-    ensures sound { IfOk result IsJob }
 {
     match matches_of(alloc, name, words) {
         Ok(matches) => job_of(alloc, name, &matches),
@@ -188,7 +296,6 @@ fn first_command(words: &[String]) -> Option<CommandName>
 /// `--peel`, `--bands` is refused whatever its text.
 pub fn read_words(alloc: Global, words: &[String]) -> Result<Job, WordFault>
     ensures answer { Answers (job (map string_bytes words.now)) result }
-    ensures sound { IfOk result IsJob }
 {
     match first_command(words) {
         Some(name) => command_job(alloc, name, words),

@@ -5,7 +5,7 @@ ghost use Rattle.abuf_view.specs.Camera.{IsSize, IsLens, IsCamera, camera};
 ghost use Rattle.abuf_cli.specs.Poses.{IsPose};
 
 use crate::command::{CommandName, given_text, is_given, text_of};
-use crate::job::{Job, Opt, What, WordFault};
+use crate::job::{Opt, What, WordFault};
 use crate::values::{
     Size, background_of, bands_of, focal_of, maxval_of, near_of, nodes_of, pattern_of, shift_of,
     size_of, threads_of, turn_of,
@@ -90,8 +90,8 @@ impl Lens {
     }
 }
 
-// The camera of this size, pose and lens. What they keep to is Camera's own invariant, in parts.
-fn camera_of(size: Size, pose: Pose, lens: Lens) -> Camera
+/// The camera of this size, pose and lens. What they keep to is Camera's own invariant, in parts.
+pub fn camera_of(size: Size, pose: Pose, lens: Lens) -> Camera
     requires size { IsSize size.width size.height }
     requires pose { IsPose pose }
     requires lens { IsLens lens.focal lens.near }
@@ -183,8 +183,8 @@ pub struct Settings {
 impl Settings {
     ghost use Rattle.std.specs.Prelude.{◌≡◌, IfOk};
     ghost use Rattle.clap.specs.Words.{rows_of, found_of};
-    ghost use Rattle.abuf_cli.specs.Jobs.{settings_of, job_from};
-    ghost use Rattle.abuf_cli.specs.Sound.{IsSettings, IsWhat, IsJob, command_of};
+    ghost use Rattle.abuf_cli.specs.Jobs.{settings_of};
+    ghost use Rattle.abuf_cli.specs.Sound.{IsSettings};
 
     /// The settings of the texts, in the order in which they are refused.
     pub fn read(name: CommandName, matches: &ArgMatches) -> Result<Settings, WordFault>
@@ -231,26 +231,5 @@ impl Settings {
             maxval,
             storage,
         })
-    }
-
-    /// The job of these settings that makes this.
-    pub fn job(self, what: What) -> Job
-        requires settings { IsSettings (command_of what) self }
-        requires what { IsWhat self.size.width self.size.height what }
-        ensures value { result ≡ job_from self what }
-        ensures sound { IsJob result }
-    {
-        let background = self.background;
-        Job {
-            what,
-            camera: camera_of(self.size, self.pose, self.lens),
-            pattern: self.pattern,
-            threads: self.threads,
-            nodes: self.nodes,
-            background,
-            maxval: self.maxval,
-            bands: self.storage.bands,
-            peel: self.storage.peel,
-        }
     }
 }

@@ -99,20 +99,20 @@ fn made_by(alloc: Global, what: &What) -> Result<String, Fail> {
 
 // How its fragments are stored.
 fn storage_of(alloc: Global, job: &Job) -> Result<String, Fail> {
-    Ok(match job.bands {
+    Ok(match job.bands() {
         Some(bands) => format!(in alloc; "bands {bands}")?,
-        None if job.peel => format!(in alloc; "layers")?,
+        None if job.peel() => format!(in alloc; "layers")?,
         None => format!(in alloc; "lists")?,
     })
 }
 
 // The job as it stands in the table, but for where its camera stands and looks.
 fn shown(alloc: Global, job: &Job) -> Result<String, Fail> {
-    let what = made_by(alloc, &job.what)?;
-    let (width, height) = (job.camera.width(), job.camera.height());
-    let samples = job.pattern.size();
-    let (threads, nodes, maxval) = (job.threads, job.nodes, job.maxval);
-    let [r, g, b] = job.background;
+    let what = made_by(alloc, job.what())?;
+    let (width, height) = (job.camera().width(), job.camera().height());
+    let samples = job.pattern().size();
+    let (threads, nodes, maxval) = (job.threads(), job.nodes(), job.maxval());
+    let [r, g, b] = job.background();
     let stored = storage_of(alloc, job)?;
     Ok(format!(in alloc;
         "{what} | {width}x{height} | {samples} | {threads} | {nodes} | {r},{g},{b} | {maxval} | {stored}"
@@ -146,12 +146,12 @@ fn answers_where_memory_runs_out(rt: HostRuntime) {
     let words = ["pick", "--size", "4x4", "--background=1,1,1", "--", "2,1"];
     match read(alloc, &words) {
         Ok(job) => assert!(rt;
-            matches!(&job.what, What::Pick { x: 2, y: 1 }) && job.background == [65535; 3]
+            matches!(job.what(), What::Pick { x: 2, y: 1 }) && job.background() == [65535; 3]
         ),
         Err(fault) => assert!(rt; fault == WordFault::Memory),
     }
     match read(alloc, &["sequence", "path.txt"]) {
-        Ok(job) => assert!(rt; is_sequence(&job.what, b"path.txt")),
+        Ok(job) => assert!(rt; is_sequence(job.what(), b"path.txt")),
         Err(fault) => assert!(rt; fault == WordFault::Memory),
     }
     let named = WordFault::Value { option: Opt::Near };
