@@ -3,7 +3,7 @@ use Rattle.std.proofs.Common.{◌≡◌, ℕ, List, Option, Some, None, option_m
 use Rattle.abuf_scene.specs.declared.triangles.Triangle.{Triangle}
 use Rattle.abuf_sequence.specs.declared.path.Shot.{Shot}
 use Rattle.abuf_cli.specs.Jobs as words
-use Rattle.abuf_cli.specs.declared.job.Job.{Job}
+use Rattle.abuf_cli.specs.Job.{Job}
 use Rattle.abuf_cli.specs.declared.job.What.{What}
 use Rattle.abuf_cli.specs.declared.job.What.TheVariants as what
 use Rattle.abuf_cli.specs.declared.job.WordFault.{WordFault}

@@ -3,7 +3,7 @@ use Rattle.std.proofs.Common.{◌≡◌, ◌≤◌, ◌+◌, ℕ, ◌⊎◌, inl
 use Rattle.std.specs.Prelude.{IsSome, IsOk, ◌↔◌}
 use Rattle.abuf_frame.specs.Closing.{Ended}
 use Rattle.abuf_cli.specs.Jobs.{job}
-use Rattle.abuf_cli.specs.declared.job.Job.{Job}
+use Rattle.abuf_cli.specs.Job.{Job}
 use Rattle.abuf_cli.specs.declared.job.What.{What}
 use Rattle.abuf_cli.specs.declared.job.What.TheVariants as what
 use Rattle.abuf_cli.specs.declared.job.WordFault.{WordFault}

@@ -1,7 +1,7 @@
 -- How the fragments of a command other than `render` are stored: in one frame.
 use Rattle.std.proofs.Common.{◌≡◌, ℕ, false, None, subst}
 use Rattle.abuf_cli.specs.Sound.{IsJob, IsStorage}
-use Rattle.abuf_cli.specs.declared.job.Job.{Job}
+use Rattle.abuf_cli.specs.Job.{Job}
 use Rattle.abuf_cli.specs.declared.job.What.{What}
 use Rattle.abuf_cli.specs.declared.job.What.TheVariants as what
 

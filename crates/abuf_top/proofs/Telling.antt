@@ -6,7 +6,7 @@ use Rattle.abuf_obj.specs.Scene.{names}
 use Rattle.abuf_obj.specs.declared.scene.Obj.{Obj}
 use Rattle.abuf_mtl.specs.StandsFor.{StandsFor}
 use Rattle.abuf_scene.specs.declared.triangles.Triangle.{Triangle}
-use Rattle.abuf_cli.specs.declared.job.Job.{Job}
+use Rattle.abuf_cli.specs.Job.{Job}
 use Rattle.abuf_view.specs.declared.projection.Projected.{Projected}
 use Rattle.abuf_top.specs.Libraries.{Holdings, told_by, first_refusal, contents, asked, one_and}
 use Rattle.abuf_top.specs.Prepared.{Loads, Prepares, StopsAt}

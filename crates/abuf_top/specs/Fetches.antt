@@ -5,7 +5,7 @@ use Rattle.abuf_num.specs.declared.limits.TheConstants.{MAX_BYTES}
 use Rattle.abuf_obj.specs.Scene.{libraries, obj_fault}
 use Rattle.abuf_obj.specs.declared.fault.Why.{Why}
 use Rattle.abuf_cli.specs.Jobs.{job}
-use Rattle.abuf_cli.specs.declared.job.Job.{Job}
+use Rattle.abuf_cli.specs.Job.{Job}
 use Rattle.abuf_cli.specs.declared.job.What.{What}
 use Rattle.abuf_cli.specs.declared.job.What.TheVariants.{Render, Pick, Demo, Sequence}
 use Rattle.abuf_cli.specs.declared.job.WordFault.{WordFault}

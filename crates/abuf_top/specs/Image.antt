@@ -9,7 +9,7 @@ use Rattle.abuf_view.specs.Primitives.{Primitive}
 use Rattle.abuf_resolve.specs.Sums.{region_sums}
 use Rattle.abuf_pam.specs.Image as pam
 use Rattle.abuf_picture.specs.Picture as picture
-use Rattle.abuf_cli.specs.declared.job.Job.{Job}
+use Rattle.abuf_cli.specs.Job.{Job}
 use Rattle.abuf_cli.specs.declared.job.What.{What}
 use Rattle.abuf_cli.specs.declared.job.What.TheVariants as what
 

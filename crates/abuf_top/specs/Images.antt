@@ -6,7 +6,7 @@ use Rattle.abuf_sequence.specs.declared.path.Shot.{Shot}
 use Rattle.abuf_sequence.specs.declared.plan.Plan.{Plan}
 use Rattle.abuf_sequence.specs.Paths.{IsShot}
 use Rattle.abuf_sequence.specs.Sequences.{totals, IsPlan}
-use Rattle.abuf_cli.specs.declared.job.Job.{Job}
+use Rattle.abuf_cli.specs.Job.{Job}
 use Rattle.abuf_top.specs.declared.stop.FullPool.{FullPool}
 use Rattle.abuf_top.specs.declared.stop.FullPool.TheVariants as full
 

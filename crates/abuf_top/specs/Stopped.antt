@@ -1,6 +1,6 @@
 -- How a run stops, and when.
 use Rattle.std.specs.Prelude.{◌≡◌, Option, Some, Result, Ok, Err, IsOk}
-use Rattle.abuf_cli.specs.declared.job.Job.{Job}
+use Rattle.abuf_cli.specs.Job.{Job}
 use Rattle.abuf_cli.specs.declared.job.WordFault.{WordFault}
 use Rattle.abuf_top.specs.declared.stop.Refusal.{Refusal}
 use Rattle.abuf_top.specs.declared.stop.Refusal.TheVariants as refusal

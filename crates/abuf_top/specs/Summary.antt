@@ -1,7 +1,7 @@
 -- What `demo` writes: four numbers of a drawing.
 use Rattle.std.specs.Prelude.{◌++◌, ℕ, List, length, drop, sum, codes}
 use Rattle.std.specs.Fmt.{decimal}
-use Rattle.abuf_cli.specs.declared.job.Job.{Job}
+use Rattle.abuf_cli.specs.Job.{Job}
 use Rattle.abuf_pam.specs.Image as pam
 use Rattle.abuf_picture.specs.Picture as picture
 use Rattle.abuf_top.specs.Image.{Drawing, total, image, region_of}

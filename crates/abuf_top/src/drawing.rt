@@ -1,6 +1,5 @@
 // What is drawn, once the words, the scene and its libraries are read.
 ghost use Rattle.std.specs.Prelude.{◌≡◌};
-ghost use Rattle.abuf_cli.specs.Sound.{IsJob};
 ghost use Rattle.abuf_top.specs.Image.{region_of, DrawsOnce};
 
 use abuf_cli::Job;
@@ -17,20 +16,18 @@ pub struct Drawing {
 }
 
 impl Model for Drawing {
-    ghost use Rattle.abuf_cli.specs.Sound.{IsJob};
     ghost use Rattle.abuf_top.specs.Image.{Drawing, DrawsOnce};
 
     ghost Value = { Drawing };
 
     ghost view = { λ d. record { job = d.job; triangles = d.shown.tris; paints = d.shown.paints } };
 
-    ghost invariant = { λ d. IsJob d.job × DrawsOnce d.job.what };
+    ghost invariant = { λ d. DrawsOnce d.job.what };
 }
 
 impl Drawing {
     /// The drawing of a job's scene.
     pub fn new(job: Job, shown: Projected) -> Drawing
-        requires job { IsJob job }
         requires once { DrawsOnce job.what }
         ensures { result ≡ record { job = job; triangles = shown.tris; paints = shown.paints } }
     {
@@ -39,7 +36,6 @@ impl Drawing {
 
     pub fn job(&self) -> &Job
         ensures value { result.now ≡ self.now.job }
-        ensures sound { IsJob result.now }
         ensures once { DrawsOnce result.now.what }
     {
         &self.job
@@ -57,7 +53,7 @@ impl Drawing {
         ensures { result ≡ region_of self.now.job }
     {
         let job = self.job();
-        Region::whole_image(job.camera.width(), job.camera.height())
+        Region::whole_image(job.camera().width(), job.camera().height())
     }
 
     /// The primitives.
@@ -76,13 +72,13 @@ impl Drawing {
         ensures nodes { result.nodes ≡ self.now.job.nodes }
     {
         let job = self.job();
-        let background = job.background;
+        let background = job.background();
         Target {
             region: self.region(),
-            pattern: job.pattern,
+            pattern: job.pattern(),
             background,
-            nodes: job.nodes,
-            threads: job.threads,
+            nodes: job.nodes(),
+            threads: job.threads(),
         }
     }
 }

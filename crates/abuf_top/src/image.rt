@@ -21,10 +21,10 @@ pub fn image_of(alloc: Global, drawing: &Drawing, pixels: &[PixelSum]) -> Result
     let job = drawing.job();
     image_bytes(
         alloc,
-        job.camera.width(),
-        job.camera.height(),
-        job.maxval,
-        job.pattern.size(),
+        job.camera().width(),
+        job.camera().height(),
+        job.maxval(),
+        job.pattern().size(),
         pixels,
     )
 }

@@ -5,7 +5,6 @@ ghost use Rattle.abuf_io.specs.Causes.{Rose};
 ghost use Rattle.abuf_obj.specs.Sound.{IsScene};
 ghost use Rattle.abuf_obj.specs.Scene.{points, faces, names, libraries, obj_fault};
 ghost use Rattle.abuf_obj.specs.Faults.{TellsFirst};
-ghost use Rattle.abuf_cli.specs.Sound.{IsJob};
 ghost use Rattle.abuf_top.specs.Fetches.{fault_fetches, scene_fetches, load_fetches, most_for_libraries, most_for_load, LoadNeedsNoSource};
 ghost use Rattle.abuf_top.specs.Libraries.{asked};
 ghost use Rattle.abuf_top.specs.Outside.{source_change, shelf_change};
@@ -165,7 +164,6 @@ pub fn load<S: Source, H: Shelf>(
     scene: &mut S,
     shelf: &mut H,
 ) -> Result<Loaded, Stop>
-    requires { IsJob job.now }
     ensures told { AnswersAs (loaded job.now.what) (λ verdict rose. Loads verdict rose result)
         (source_change S.left S.faults scene.old scene.new) (shelf_change H.tells H.holds H.calls H.faults shelf.old shelf.new) }
     ensures cause { IfErr result (HasReadCause (Rose (S.faults scene.old) (S.faults scene.new) ⊎ Rose (H.faults shelf.old) (H.faults shelf.new))) }
@@ -176,7 +174,7 @@ pub fn load<S: Source, H: Shelf>(
     ensures most { IfSome (most_for_load job.now.what (S.left scene.old)) (λ n. H.calls shelf.new ≤ H.calls shelf.old + n) }
     ensures source { LoadNeedsNoSource job.now.what → IsUncalled (source_change S.left S.faults scene.old scene.new) }
 {
-    match job.what {
+    match *job.what() {
         What::Render | What::Pick { .. } | What::Sequence { .. } => {
             read_scene(alloc, scene, shelf)
         }

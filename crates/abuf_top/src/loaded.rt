@@ -17,7 +17,6 @@ pub struct Loaded {
 
 impl Loaded {
     ghost use Rattle.std.specs.Prelude.{List as Items, ℕ, IfErr};
-    ghost use Rattle.abuf_cli.specs.Sound.{IsJob};
     ghost use Rattle.abuf_obj.specs.Sound.{IsScene};
     ghost use Rattle.abuf_mtl.specs.StandsFor.{StandsFor};
     ghost use Rattle.abuf_top.specs.Prepared.{Prepares, Assembles};
@@ -31,7 +30,6 @@ impl Loaded {
         alloc: Global,
         job: &Job,
     ) -> Result<Projected, Stop>
-        requires job { IsJob job.now }
         requires scene { IsScene self.obj }
         ensures told { (libraries : Items (Items ℕ)) → StandsFor libraries self.materials
             → Prepares (drawing_verdict job.now (material_verdict self.obj libraries)) ⊥ job.now result }
@@ -42,8 +40,8 @@ impl Loaded {
             alloc,
             &self.obj,
             &self.materials,
-            &job.camera,
-            job.threads,
+            job.camera(),
+            job.threads(),
         )?;
         Ok(shown)
     }

@@ -29,7 +29,7 @@ fn output_of<R: Threads + Sync, G: Gate + Sync>(
 ) -> Outcome<List<u8>>
     ensures { IsOutputOf drawing.now result.result result.closed }
 {
-    match drawing.job().what {
+    match *drawing.job().what() {
         What::Render => render(rt, alloc, drawing, gate),
         What::Pick { x, y } => pick(rt, alloc, drawing, x, y, gate),
         What::Demo { number } => summarize(rt, alloc, drawing, number, gate),

@@ -3,7 +3,6 @@ ghost use Rattle.std.specs.Prelude.{◌≡◌, ◌⊎◌, ◌≤◌, ◌+◌, ma
 ghost use Rattle.std.specs.String.{string_bytes};
 ghost use Rattle.abuf_io.specs.Causes.{Rose};
 ghost use Rattle.abuf_cli.specs.Jobs.{job};
-ghost use Rattle.abuf_cli.specs.Sound.{IsJob};
 ghost use Rattle.abuf_cli.specs.declared.job.What.TheVariants as what;
 ghost use Rattle.abuf_top.specs.Image.{DrawsOnce};
 ghost use Rattle.abuf_top.specs.Libraries.{told_by};
@@ -34,7 +33,6 @@ fn primitives_of<R: Threads + Sync, S: Source, H: Shelf>(
     scene: &mut S,
     shelf: &mut H,
 ) -> Result<Projected, Stop>
-    requires job { IsJob job.now }
     ensures told { AnswersAs (λ left held. option_map (drawing_verdict job.now) (loaded job.now.what left held))
         (λ verdict rose. Prepares verdict rose job.now result)
         (source_change S.left S.faults scene.old scene.new) (shelf_change H.tells H.holds H.calls H.faults shelf.old shelf.new) }
@@ -52,7 +50,7 @@ fn primitives_of<R: Threads + Sync, S: Source, H: Shelf>(
 fn path_of(job: &Job) -> Option<&[u8]>
     ensures { MatchOption result (DrawsOnce job.now.what) (λ name. job.now.what ≡ what.Sequence name.now) }
 {
-    match &job.what {
+    match job.what() {
         What::Sequence { name } => Some(name.as_slice()),
         What::Render | What::Pick { .. } | What::Demo { .. } => None,
     }
@@ -66,7 +64,6 @@ fn task_of<R: Threads + Sync, S: Source, H: Shelf>(
     scene: &mut S,
     shelf: &mut H,
 ) -> Result<Task, Stop>
-    requires { IsJob job }
     ensures told { AnswersAs (command_verdict job.what job) (λ verdict rose. PreparesTask verdict rose result)
         (source_change S.left S.faults scene.old scene.new) (shelf_change H.tells H.holds H.calls H.faults shelf.old shelf.new) }
     ensures cause { IfErr result (HasReadCause (Rose (S.faults scene.old) (S.faults scene.new) ⊎ Rose (H.faults shelf.old) (H.faults shelf.new))) }

@@ -31,7 +31,7 @@ fn sum_of_values(drawing: &Drawing, bytes: &[u8]) -> u64
     ensures { result ≡ sum (values_in drawing.now.job bytes.now) }
 {
     let region = drawing.region();
-    let size = pixel_size(drawing.job().maxval) * region.pixels() as usize;
+    let size = pixel_size(drawing.job().maxval()) * region.pixels() as usize;
     sum_of(&bytes[bytes.len() - size..])
 }
 

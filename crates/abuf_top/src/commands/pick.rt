@@ -28,7 +28,7 @@ pub fn pick<R: Threads + Sync, G: Gate + Sync>(
     requires not_peeled { drawing.now.job.peel ≡ false }
     ensures { IsOutputOf drawing.now result.result result.closed }
 {
-    let place = y * drawing.job().camera.width() + x;
+    let place = y * drawing.job().camera().width() + x;
     let target = drawing.target();
     let Ok(sight) = draw_and_look(rt, alloc, &drawing.primitives(), &target, place, gate) else {
         return Outcome::out_of_memory();
@@ -38,7 +38,7 @@ pub fn pick<R: Threads + Sync, G: Gate + Sync>(
         words,
         closed,
     } = sight;
-    let nodes = drawing.job().nodes;
+    let nodes = drawing.job().nodes();
     if fragments > u64::from(nodes) {
         return Outcome::full(FullPool::Image { fragments, nodes }, Some(closed));
     }

@@ -56,12 +56,12 @@ fn render_banded<R: Threads + Sync>(
         rt,
         alloc,
         drawing.shown(),
-        job.camera.width(),
-        job.camera.height(),
-        job.pattern,
-        job.background,
-        job.nodes,
-        job.threads,
+        job.camera().width(),
+        job.camera().height(),
+        job.pattern(),
+        job.background(),
+        job.nodes(),
+        job.threads(),
         bands,
     );
     match rendered {
@@ -95,11 +95,11 @@ fn render_peeled<R: Threads + Sync>(rt: &R, alloc: Global, drawing: &Drawing) ->
         rt,
         alloc,
         drawing.shown(),
-        job.camera.width(),
-        job.camera.height(),
-        job.pattern,
-        job.background,
-        job.threads,
+        job.camera().width(),
+        job.camera().height(),
+        job.pattern(),
+        job.background(),
+        job.threads(),
     );
     match peeled {
         Ok(sums) => Outcome::of(image_of(alloc, drawing, sums.as_slice()), None),
@@ -117,10 +117,10 @@ pub fn render<R: Threads + Sync, G: Gate + Sync>(
     requires { drawing.now.job.what ≡ what.Render }
     ensures { IsOutputOf drawing.now result.result result.closed }
 {
-    if drawing.job().peel {
+    if drawing.job().peel() {
         return render_peeled(rt, alloc, drawing);
     }
-    match drawing.job().bands {
+    match drawing.job().bands() {
         Some(bands) => render_banded(rt, alloc, drawing, bands),
         None => render_whole(rt, alloc, drawing, gate),
     }

@@ -4,7 +4,6 @@ ghost use Rattle.abuf_num.specs.declared.limits.TheConstants.{MAX_PATH_BYTES, MA
 ghost use Rattle.abuf_io.specs.Causes.{Rose};
 ghost use Rattle.abuf_sequence.specs.Paths.{path, IsShot};
 ghost use Rattle.abuf_sequence.specs.Sequences.{IsPlan};
-ghost use Rattle.abuf_cli.specs.Sound.{IsJob};
 ghost use Rattle.abuf_cli.specs.declared.job.What.TheVariants as what;
 ghost use Rattle.abuf_top.specs.Ending.{Ends};
 ghost use Rattle.abuf_top.specs.Fetches.{sequence_fetches, most_for_libraries, PathIsRefused};
@@ -122,21 +121,20 @@ fn fetch_path<H: Shelf>(alloc: Global, shelf: &mut H, name: &[u8]) -> Result<Lis
 
 // The plan of a job.
 fn plan_of(job: &Job) -> Plan
-    requires { IsJob job.now }
     ensures value { result ≡ plan_of job.now }
     ensures sound { IsPlan result }
 {
-    let background = job.background;
+    let background = job.background();
     Plan {
-        width: job.camera.width(),
-        height: job.camera.height(),
-        focal: job.camera.focal(),
-        near: job.camera.near(),
-        pattern: job.pattern,
+        width: job.camera().width(),
+        height: job.camera().height(),
+        focal: job.camera().focal(),
+        near: job.camera().near(),
+        pattern: job.pattern(),
         background,
-        nodes: job.nodes,
-        threads: job.threads,
-        maxval: job.maxval,
+        nodes: job.nodes(),
+        threads: job.threads(),
+        maxval: job.maxval(),
     }
 }
 
@@ -149,7 +147,6 @@ pub fn prepare_images<S: Source, H: Shelf>(
     scene: &mut S,
     shelf: &mut H,
 ) -> Result<Images, Stop>
-    requires job { IsJob job.now }
     requires name { job.now.what ≡ what.Sequence name.now }
     ensures told { AnswersAs (sequence_verdict job.now name.now) (λ verdict rose. PreparesImages verdict rose result)
         (source_change S.left S.faults scene.old scene.new) (shelf_change H.tells H.holds H.calls H.faults shelf.old shelf.new) }
