@@ -19,4 +19,4 @@ while [ "$words" -gt 0 ]; do
     words=$((words - 1))
 done
 echo "abuf: compiling the program, unproved; this takes about a minute" >&2
-cd "$top/crates/abuf" && exec rt try --steps 1 "$@"
+cd "$top/crates/abuf" && exec rt try "$@"
