@@ -39,6 +39,10 @@ pub lists_length : (words : List ℕ) (pixels nodes first count : ℕ) → lengt
 lists_length words pixels nodes first zero = refl
 lists_length words pixels nodes first (suc count) = ap suc (lists_length words pixels nodes (first + 1) count)
 
+-- A pixel that has a list among these is one of the frame's.
+pub within_pixels : (words : List ℕ) (pixels nodes : ℕ) (lists : List (List ℕ)) (p : ℕ) → lists_from words pixels nodes 0 pixels ≡ lists → p < length lists → p < pixels
+within_pixels words pixels nodes lists p e l = let long = lists_length words pixels nodes 0 pixels in let same = ap (λ (ls : List (List ℕ)). length ls) e in omega arith
+
 -- The states of a frame's table.
 abbrev St : Type 0
 St = State (Unit {0}) View

@@ -16,16 +16,16 @@ module _ {X : Type 0} (f : X → List ℕ) where
   put_other : (xs : List X) (k j : ℕ) (v : X) → j ≢ k → slice_index_or (map f (slice_set xs k v)) j [] ≡ slice_index_or (map f xs) j []
   put_other xs k j v h = ap (λ (ys : List (List ℕ)). slice_index_or ys j []) (map-set f xs k v) ∙ get_or-set_other (map f xs) k j (f v) [] h
 
-  -- the lists of the lanes before k are empty
-  abbrev pub Emptied : List X → ℕ → Type 0
-  Emptied xs k = (length xs ≡ 8) × ((j : ℕ) → j < k → slice_index_or (map f xs) j [] ≡ [])
+  -- the lanes before k have the lists that they are to have
+  abbrev pub HaveLists : (ℕ → List ℕ) → List X → ℕ → Type 0
+  HaveLists lists xs k = (length xs ≡ 8) × ((j : ℕ) → j < k → slice_index_or (map f xs) j [] ≡ lists j)
 
-  -- one more lane was emptied
-  pub empties : (xs : List X) (k : ℕ) (v : X) → k < 8 → f v ≡ [] → Emptied xs k → Emptied (slice_set xs k v) (k + 1)
-  empties xs k v l e s = let long = s.0 in (
+  -- one more lane has its list
+  pub have_more : (lists : ℕ → List ℕ) (xs : List X) (k : ℕ) (v : X) → k < 8 → f v ≡ lists k → HaveLists lists xs k → HaveLists lists (slice_set xs k v) (k + 1)
+  have_more lists xs k v l e s = let long = s.0 in (
     length-set xs k v ∙ long,
     λ j b. ⊎_elim
-        (λ (h : j ≡ k). subst (λ (i : ℕ). slice_index_or (map f (slice_set xs k v)) i [] ≡ []) (sym h) (put_same xs k v (omega arith) ∙ e))
+        (λ (h : j ≡ k). subst (λ (i : ℕ). slice_index_or (map f (slice_set xs k v)) i [] ≡ lists i) (sym h) (put_same xs k v (omega arith) ∙ e))
         (λ (h : j ≢ k). put_other xs k j v h ∙ s.1 j (omega arith)) (cases_eq j k),
   )
 

@@ -15,3 +15,4 @@ pub mod Eight
 pub mod Crosses
 pub mod Wrapping
 pub mod Blanks
+pub mod Stripes

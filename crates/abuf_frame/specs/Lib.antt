@@ -10,6 +10,7 @@ pub mod Draws
 pub mod Look
 pub mod Chains
 pub mod Closing
+pub mod Stripes
 pub mod Lanes
 pub mod Frame
 pub mod Pass

@@ -5,7 +5,7 @@ ghost use base.Fml.{ftrue};
 
 use atomic_table::Closed;
 use std::alloc::Global;
-use std::marker::{Model, Sync};
+use std::marker::{Model, Send, Sync};
 
 // A closed table in a form that may be shared between threads, which a `Closed` may not.
 struct SyncTable {
@@ -20,6 +20,9 @@ impl Model for SyncTable {
 
 // A `&` reads words that no thread writes, and any thread may give the block back.
 unsafe impl Sync for SyncTable {}
+
+// The block isn't tied to the thread that took it.
+unsafe impl Send for SyncTable {}
 
 impl SyncTable {
     fn new(table: Closed<(), Global>) -> SyncTable

@@ -1,6 +1,8 @@
 // Worked rows.
 ghost use Rattle.std.specs.Prelude.{◌≡◌};
 
+mod stripes;
+
 use crate::{Frame, Full, Look};
 use std::array;
 use std::test::Fail;
