@@ -8,7 +8,7 @@ ghost use Rattle.abuf_frame.specs.Draws.{Draws};
 
 use crate::batch::Batch;
 use abuf_frame::{Frame, Pass};
-use abuf_raster::{Fragment, Hit, Pattern, Region, ScreenTri, TileHits};
+use abuf_raster::{Fragment, Hit, Pattern, Region, ScreenTri, TileHits, meets};
 
 /// A hit of no triangle, where none was written yet.
 const NO_HIT: Hit = Hit {
@@ -69,6 +69,10 @@ impl Brush {
         ensures endowment { endowment pass.new.view ≡ endowment pass.old.view }
         ensures loose { loose pass.new.view.entries ≡ loose pass.old.view.entries }
     {
+        // For a triangle outside of the region, this takes much less than to set up its tiles.
+        if !meets(t, self.region, self.pattern) {
+            return;
+        }
         let mut tiles = TileHits::new(t, prim, self.region, self.pattern);
         while let Some(count) = tiles.next_tile(&mut self.hits) {
             self.draw_hits(frame, pass, count);

@@ -2,12 +2,26 @@
 ghost use Rattle.std.specs.Prelude.{ℕ, ◌+◌, ◌*◌, ◌<◌, ◌≤◌, IsTrue, ◌↔◌, length};
 ghost use Rattle.abuf_num.specs.declared.limits.TheConstants.{MAX_PIXELS, MAX_PRIMITIVES, MAX_THREADS};
 ghost use Rattle.abuf_raster.specs.Samples.{offsets_of};
+ghost use Rattle.abuf_raster.specs.Hits.{hits};
 ghost use Rattle.abuf_fan.specs.Most.{CanCount, IsMost};
 ghost use Rattle.abuf_fan.specs.declared.most.TheConstants.{LITTLE};
 ghost use denote.Param.Send.{IsSync};
 
-use abuf_raster::{Pattern, Region, ScreenTri, most_hits, region_law};
+use abuf_raster::{Pattern, Region, ScreenTri, meets, most_hits, region_law};
 use std::thread::{Threads, join};
+
+/// At least as many as the triangle's hits. For a triangle outside of the region, [`meets`] takes much less than to set up its
+/// tiles.
+#[inline(always)]
+fn most_of(t: &ScreenTri, region: Region, pattern: Pattern) -> u32
+    ensures bound { (prim : ℕ) → length (hits t.now prim (offsets_of pattern) region) ≤ result }
+    ensures few { result ≤ region.w * region.h }
+{
+    if !meets(t, region, pattern) {
+        return 0;
+    }
+    most_hits(t, region, pattern)
+}
 
 /// The sum of what each of the triangles has at most.
 fn sum_of(tris: &[ScreenTri], region: Region, pattern: Pattern) -> u64
@@ -18,7 +32,7 @@ fn sum_of(tris: &[ScreenTri], region: Region, pattern: Pattern) -> u64
     region_law(region);
     let mut sum = 0;
     for t in tris {
-        sum += u64::from(most_hits(t, region, pattern));
+        sum += u64::from(most_of(t, region, pattern));
     }
     sum
 }
@@ -27,7 +41,7 @@ fn sum_of(tris: &[ScreenTri], region: Region, pattern: Pattern) -> u64
 const LITTLE: u64 = 4194304;
 
 /// One thread soon has asked so many triangles about the tiles of the region.
-fn is_little(count: usize, region: Region) -> bool
+pub(crate) fn is_little(count: usize, region: Region) -> bool
     requires few { count ≤ MAX_PRIMITIVES }
     ensures { IsTrue result ↔ (count * (region.w * region.h + 64) ≤ LITTLE) }
 {

@@ -5,7 +5,7 @@ use Rattle.abuf_fan.proofs.Counted.{most_next, most_done}
 use Rattle.abuf_fan.proofs.most.sum_of.Goals as goal
 
 pub overflow_add-sum : goal.overflow_add-sum
-overflow_add-sum c = let s = c.loop-t.invariant.small in let m = c.most_hits.ensures.few in let a = c.region_law.ensures.not_large in let f = c.from-sum.ensures in let n = c.requires in omega (arith, s, m, a, f, n)
+overflow_add-sum c = let s = c.loop-t.invariant.small in let m = c.most_of.ensures.few in let a = c.region_law.ensures.not_large in let f = c.from-sum.ensures in let n = c.requires in omega (arith, s, m, a, f, n)
 
 pub loop-t-init : goal.loop-t-init
 loop-t-init c = record {
@@ -15,10 +15,10 @@ loop-t-init c = record {
 
 pub loop-t-preserved : goal.loop-t-preserved
 loop-t-preserved c =
-    let m = c.most_hits.ensures.few in let a = c.region_law.ensures.not_large in let f = c.from-sum.ensures in let s = c.loop-t.invariant.small in
+    let m = c.most_of.ensures.few in let a = c.region_law.ensures.not_large in let f = c.from-sum.ensures in let s = c.loop-t.invariant.small in
     record {
       bound = λ first.
-          let n = most_next (offsets_of c.args.pattern) c.args.region c.args.tris.now c.loop-t.t-index c.t-item.result c.most_hits.result c.loop-t-test.true c.t-item.is c.most_hits.ensures.bound first in
+          let n = most_next (offsets_of c.args.pattern) c.args.region c.args.tris.now c.loop-t.t-index c.t-item.result c.most_of.result c.loop-t-test.true c.t-item.is c.most_of.ensures.bound first in
           let b = c.loop-t.invariant.bound first in omega (arith, n, b, f);
       small = omega (arith, m, a, f, s);
     }

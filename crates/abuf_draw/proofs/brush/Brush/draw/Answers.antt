@@ -1,4 +1,4 @@
-use Rattle.std.proofs.Common.{◌≡◌, ◌≤◌, ◌*◌, ◌++◌, ◌∙◌, ℕ, List, length, take, map, refl, sym, subst, All, arith}
+use Rattle.std.proofs.Common.{rules, ◌≡◌, false, ◌≤◌, ◌*◌, ◌++◌, ◌∙◌, ℕ, List, length, take, map, refl, sym, subst, All, arith}
 use Rattle.std.proofs.lemmas.List.{length-map}
 use Rattle.std.proofs.lemmas.List.Sorted.{IsPermutation-map}
 use Rattle.abuf_raster.specs.declared.region.Hit.{Hit}
@@ -8,8 +8,19 @@ use Rattle.abuf_raster.specs.Hits.{hits, placed, fragments, IsHitIn}
 use Rattle.abuf_frame.specs.Draws.{Draws}
 use Rattle.abuf_frame.proofs.Draws.{draws_credit, draws_loose}
 use Rattle.abuf_draw.proofs.Drawing.{Midway, midway_starts, midway_room, midway_more, midway_ends, midway_tile, none_left, placed_few, all_first, all_rest}
+use Rattle.abuf_draw.proofs.Uncovered.{draws_nothing}
 use Rattle.abuf_draw.proofs.brush.Brush.draw.Goals as goal
 use Rattle.abuf_draw.proofs.brush.Brush.draw.Goals.{In-Some, In_default}
+
+pub returns-then-not-meets-clause-draws : goal.returns-then-not-meets-clause-draws
+returns-then-not-meets-clause-draws c =
+    let outside : c.meets.result ≡ false = search rules in
+    draws_nothing c.args.t.now c.args.prim (offsets_of c.args.self.now.pattern) c.args.self.now.region (c.meets.ensures outside) c.args.pass.now.view
+
+pub returns-then-not-meets-clause-credit : goal.returns-then-not-meets-clause-credit
+returns-then-not-meets-clause-credit c =
+    let outside : c.meets.result ≡ false = search rules in
+    draws_credit _ _ _ (draws_nothing c.args.t.now c.args.prim (offsets_of c.args.self.now.pattern) c.args.self.now.region (c.meets.ensures outside) c.args.pass.now.view)
 
 pub loop-count-init : goal.loop-count-init
 loop-count-init c =
