@@ -1,4 +1,4 @@
-// The triangles, made ready for their depth keys.
+// The triangles, and what their depth keys take.
 ghost use Rattle.std.specs.Prelude.{◌≡◌, ◌<◌, ◌≤◌, true, length, IfOk};
 ghost use Rattle.abuf_num.specs.declared.limits.TheConstants.{MAX_DEPTH};
 ghost use Rattle.abuf_raster.specs.Samples.{offsets_of};
@@ -13,23 +13,24 @@ use abuf_raster::{DepthPlane, Pattern, ScreenTri};
 use std::alloc::Global;
 use std::marker::Model;
 
-/// Triangles whose depth keys are asked for many times over: what a key takes is worked out once a triangle. Clauses see the
-/// list of the triangles.
+/// Triangles whose depth keys are asked for. What a key takes is worked out once a triangle, or for each key where few are asked for.
+/// Clauses see the list of the triangles.
 #[derive(Drop)]
 pub struct Planes<'a> {
     tris: &'a [ScreenTri],
-    planes: List<DepthPlane>,
+    /// None where each is made when it is asked for.
+    made: Option<List<DepthPlane>>,
 }
 
 impl<'a> Model for Planes<'a> {
-    ghost use Rattle.std.specs.Prelude.{◌≡◌, List};
+    ghost use Rattle.std.specs.Prelude.{◌≡◌, List, IfSome};
     ghost use Rattle.abuf_raster.specs.Triangle.{Triangle};
 
     ghost Value = { List Triangle };
 
     ghost view = { λ p. p.tris.now };
 
-    ghost invariant = { λ p. p.planes ≡ p.tris.now };
+    ghost invariant = { λ p. IfSome p.made (λ planes. planes ≡ p.tris.now) };
 }
 
 /// What depth keys lie between.
@@ -51,12 +52,22 @@ fn planes_of(alloc: Global, tris: &[ScreenTri]) -> Result<List<DepthPlane>, NoMe
 }
 
 impl<'a> Planes<'a> {
-    /// The triangles, made ready. An error means that memory ran out.
+    /// The triangles, made ready for many keys of each. An error means that memory ran out.
     pub fn new(alloc: Global, tris: &'a [ScreenTri]) -> Result<Planes<'a>, NoMemory>
         ensures { IfOk result (λ planes. planes ≡ tris.now) }
     {
         let planes = planes_of(alloc, tris)?;
-        Ok(Planes { tris, planes })
+        Ok(Planes {
+            tris,
+            made: Some(planes),
+        })
+    }
+
+    /// The triangles for few keys: nothing is worked out before it is asked for, and it takes no memory.
+    pub fn on_demand(tris: &'a [ScreenTri]) -> Planes<'a>
+        ensures { result ≡ tris.now }
+    {
+        Planes { tris, made: None }
     }
 
     fn triangles(&self) -> &[ScreenTri]
@@ -65,10 +76,15 @@ impl<'a> Planes<'a> {
         self.tris
     }
 
-    fn planes(&self) -> &[DepthPlane]
-        ensures { result.now ≡ self.now }
+    /// The depth key, by a plane that is made for it.
+    #[inline(never)]
+    fn key_on_demand(t: &ScreenTri, at: Pixel, pattern: Pattern, k: u32) -> u32
+        requires sample { k < length (offsets_of pattern) }
+        requires covered { covers t.now (offsets_of pattern) at.x at.y k ≡ true }
+        ensures key { result ≡ depth_key t.now (offsets_of pattern) at.x at.y k }
+        ensures small { result ≤ MAX_DEPTH }
     {
-        self.planes.as_slice()
+        DepthPlane::new(t).key(t, at.x, at.y, pattern, k)
     }
 
     /// The depth key of triangle `prim` at sample k of a pixel, which it covers.
@@ -80,8 +96,11 @@ impl<'a> Planes<'a> {
         ensures key { result ≡ depth_key (triangle_at self.now prim) (offsets_of pattern) at.x at.y k }
         ensures small { result ≤ MAX_DEPTH }
     {
-        let plane = &self.planes()[prim as usize];
-        plane.key(&self.triangles()[prim as usize], at.x, at.y, pattern, k)
+        let t = &self.triangles()[prim as usize];
+        match &self.made {
+            Some(planes) => planes.as_slice()[prim as usize].key(t, at.x, at.y, pattern, k),
+            None => Planes::key_on_demand(t, at, pattern, k),
+        }
     }
 
     /// Bounds of the depth keys of triangle `prim` at the samples of a pixel that it covers.
@@ -92,8 +111,11 @@ impl<'a> Planes<'a> {
         ensures low { NoKeyBelow (triangle_at self.now prim) (offsets_of pattern) at.x at.y result.low }
         ensures high { NoKeyAbove (triangle_at self.now prim) (offsets_of pattern) at.x at.y result.high }
     {
-        let plane = &self.planes()[prim as usize];
-        let (low, high) = plane.bounds(&self.triangles()[prim as usize], at.x, at.y, pattern);
+        let t = &self.triangles()[prim as usize];
+        let (low, high) = match &self.made {
+            Some(planes) => planes.as_slice()[prim as usize].bounds(t, at.x, at.y, pattern),
+            None => DepthPlane::new(t).bounds(t, at.x, at.y, pattern),
+        };
         Bounds { low, high }
     }
 }
