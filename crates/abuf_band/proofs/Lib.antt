@@ -1,5 +1,2 @@
-mod Rows
-mod Stacked
-mod Totals
 mod Fullness
 mod Stops

@@ -13,6 +13,12 @@ use Rattle.abuf_raster.specs.Triangle.{Triangle}
 use Rattle.abuf_resolve.specs.Words.{AreWordsAt}
 use Rattle.abuf_picture.specs.Picture.{IsFrameOf, fragments, total}
 
+-- So many nodes serve for a pool of this many: for so many fragments as are drawn, more would never be claimed.
+pub record IsPool (fragments nodes room : ℕ) : Type 0 where
+  pub some : 1 ≤ room
+  pub few : room ≤ nodes
+  pub enough : min fragments nodes ≤ room
+
 -- The pass is the whole one of the frame, which has a list for each pixel of the region, and it has an entry for each fragment.
 -- The frame has so many nodes, or fewer, where these are enough for all fragments.
 pub record IsDrawn (triangles : List Triangle) (pattern : Pattern) (r : Region) (nodes : ℕ) (frame : Shape) (pass : PassState) : Type 0 where

@@ -1,2 +1,4 @@
 pub mod Picture
 pub mod Drawn
+pub mod Stripes
+pub mod Groups

@@ -1,10 +1,12 @@
 // The drawing into a frame, and its closing.
 ghost use Rattle.std.specs.Prelude.{◌≡◌, ◌≤◌, min, IfOk};
 ghost use Rattle.abuf_frame.specs.Views.{lost};
-ghost use Rattle.abuf_picture.specs.Drawn.{IsDrawn};
+ghost use Rattle.abuf_picture.specs.Drawn.{IsDrawn, IsPool};
 ghost use Rattle.abuf_picture.specs.Picture.{IsFrameOf, total};
 
+use crate::group::Stripes;
 use crate::primitives::Primitives;
+use crate::stripes::stripe_count;
 use crate::target::Target;
 use abuf_fan::{Gate, draw_all, most_fragments};
 use abuf_frame::{Closed, Frame, Pass};
@@ -22,37 +24,43 @@ fn nodes_for(most: u64, nodes: u32) -> u32
     most.clamp(1, u64::from(nodes)) as u32
 }
 
-/// A frame into which the primitives are drawn, on the target's number of threads, and its whole pass. The frame has the
-/// target's nodes, or fewer, where the primitives can't take them all: a node that is never claimed costs memory, and the time
-/// to clear it.
+/// How many nodes the frame of a drawing is made with: as many as the target has, or fewer, where the primitives can't take them
+/// all. A node that is never claimed costs memory, and the time to clear it.
+pub(crate) fn room_for<R: Threads + Sync>(rt: &R, primitives: &Primitives, target: &Target) -> u32
+    ensures { IsPool (total primitives.now.triangles.now target.now.pattern target.now.region) target.now.nodes result }
+{
+    let most = most_fragments(
+        rt,
+        primitives.triangles,
+        target.region,
+        target.pattern,
+        target.threads,
+    );
+    nodes_for(most, target.nodes)
+}
+
+/// A frame of so many nodes into which the primitives are drawn, on the target's number of threads, and its whole pass.
 pub(crate) fn draw_pass<R: Threads + Sync, G: Gate + Sync>(
     rt: &R,
     alloc: Global,
     primitives: &Primitives,
     target: &Target,
+    room: u32,
     gate: &G,
 ) -> Result<(Frame, Pass), NoMemory>
+    requires { IsPool (total primitives.now.triangles.now target.now.pattern target.now.region) target.now.nodes room }
     ensures { IfOk result (λ p. IsDrawn primitives.now.triangles.now target.now.pattern target.now.region target.now.nodes p.0 p.1) }
 {
     let Target {
         region,
         pattern,
-        nodes,
         threads,
         ..
     } = *target;
-    let most = most_fragments(rt, primitives.triangles, region, pattern, threads);
-    let (frame, mut pass) = Frame::start(alloc, region.pixels(), nodes_for(most, nodes))?;
+    let triangles = primitives.triangles;
+    let (frame, mut pass) = Frame::start(alloc, region.pixels(), room)?;
     let drawn = draw_all(
-        rt,
-        alloc,
-        &frame,
-        &mut pass,
-        primitives.triangles,
-        region,
-        pattern,
-        threads,
-        gate,
+        rt, alloc, &frame, &mut pass, triangles, region, pattern, threads, gate,
     );
     match drawn {
         Ok(()) => Ok((frame, pass)),
@@ -81,7 +89,25 @@ pub(crate) fn close_drawn(
     }
 }
 
-/// The closed frame into which the primitives are drawn. Every worker that draws passes by the gate twice. An error means that
+/// The closed frame of so many nodes into which the primitives are drawn, on the target's number of threads.
+pub(crate) fn draw_in_one<R: Threads + Sync, G: Gate + Sync>(
+    rt: &R,
+    alloc: Global,
+    primitives: &Primitives,
+    target: &Target,
+    room: u32,
+    gate: &G,
+) -> Result<Closed, NoMemory>
+    requires { IsPool (total primitives.now.triangles.now target.now.pattern target.now.region) target.now.nodes room }
+    ensures { IfOk result (IsFrameOf primitives.now.triangles.now target.now.pattern target.now.region target.now.nodes) }
+{
+    let (frame, pass) = draw_pass(rt, alloc, primitives, target, room, gate)?;
+    Ok(close_drawn(primitives, target, frame, pass))
+}
+
+/// The closed frame into which the primitives are drawn. A small one is drawn by the target's number of workers together. With
+/// several threads a large one is drawn in stripes of rows, each by one worker into a table of its own, which stays near its
+/// processor, and as many at once as there are threads. Every worker that draws passes by the gate twice. An error means that
 /// memory ran out.
 pub fn draw<R: Threads + Sync, G: Gate + Sync>(
     rt: &R,
@@ -92,6 +118,17 @@ pub fn draw<R: Threads + Sync, G: Gate + Sync>(
 ) -> Result<Closed, NoMemory>
     ensures { IfOk result (IsFrameOf primitives.now.triangles.now target.now.pattern target.now.region target.now.nodes) }
 {
-    let (frame, pass) = draw_pass(rt, alloc, primitives, target, gate)?;
-    Ok(close_drawn(primitives, target, frame, pass))
+    let room = room_for(rt, primitives, target);
+    let count = stripe_count(target, room, primitives.triangles.len());
+    if count > 1 {
+        let stripes = Stripes {
+            primitives: *primitives,
+            target: *target,
+            count,
+        };
+        if let Some(closed) = stripes.draw(rt, alloc, gate)? {
+            return Ok(closed);
+        }
+    }
+    draw_in_one(rt, alloc, primitives, target, room, gate)
 }

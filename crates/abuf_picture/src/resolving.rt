@@ -9,10 +9,22 @@ use crate::primitives::Primitives;
 use crate::target::Target;
 use abuf_frame::Closed;
 use abuf_num::NoMemory;
+use abuf_raster::ScreenTri;
 use abuf_resolve::laws::{lengths_law, sums_law, words_law};
 use abuf_resolve::{Planes, Resolved, Scene, resolve_counted};
 use std::alloc::Global;
 use std::thread::Threads;
+
+/// The triangles for the keys of so many fragments: made ready, unless most of them have none.
+fn planes_for(alloc: Global, triangles: &[ScreenTri], fragments: u64) -> Result<Planes, NoMemory>
+    ensures { IfOk result (λ planes. planes ≡ triangles.now) }
+{
+    if fragments < triangles.len() as u64 {
+        Ok(Planes::on_demand(triangles))
+    } else {
+        Planes::new(alloc, triangles)
+    }
+}
 
 /// For each pixel of the region, in order, the sums over its samples, and the length of the longest list, from the closed
 /// frame into which the primitives were drawn. The frame must not be full, since then its lists lack fragments. An error means
@@ -45,7 +57,7 @@ pub fn resolve_drawn<R: Threads + Sync>(
     sums_law(closed, triangles, paints, pattern, background, region);
     lengths_law(closed, triangles, pattern, region);
     let scene = Scene {
-        planes: Planes::new(alloc, triangles)?,
+        planes: planes_for(alloc, triangles, closed.fragments())?,
         paints,
         pattern,
         background,

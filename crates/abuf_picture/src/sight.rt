@@ -2,7 +2,7 @@
 ghost use Rattle.std.specs.Prelude.{◌≡◌, ◌*◌, ◌<◌, IfOk};
 ghost use Rattle.abuf_picture.specs.Drawn.{IsSightOf, found};
 
-use crate::drawing::{close_drawn, draw_pass};
+use crate::drawing::{close_drawn, draw_pass, room_for};
 use crate::primitives::Primitives;
 use crate::target::Target;
 use abuf_fan::Gate;
@@ -50,7 +50,8 @@ pub fn draw_and_look<R: Threads + Sync, G: Gate + Sync>(
 {
     one_each_law(primitives.triangles, target.pattern, target.region, place);
     let mut words = vec![in alloc; 0; primitives.triangles.len()]?;
-    let (frame, mut pass) = draw_pass(rt, alloc, primitives, target, gate)?;
+    let nodes = room_for(rt, primitives, target);
+    let (frame, mut pass) = draw_pass(rt, alloc, primitives, target, nodes, gate)?;
     let entries = pass.count(&frame);
     let room = words.len();
     let look = pass.look(&frame, place, &mut words);

@@ -3,16 +3,16 @@ use Rattle.std.specs.List.{All}
 use Rattle.std.proofs.lemmas.List.Elements.{All-append}
 use borrow.Author.Count.{below_more}
 use Rattle.abuf_num.specs.declared.plain.PixelSum.{PixelSum}
-use Rattle.abuf_raster.specs.Region.{Region}
+use Rattle.abuf_raster.specs.Region.{Region, whole_image}
 use Rattle.abuf_raster.specs.Samples.{offsets_of}
 use Rattle.abuf_raster.specs.Triangle.{Triangle}
 use Rattle.abuf_resolve.specs.Sums.{IsSmall, region_sums}
 use Rattle.abuf_picture.specs.Picture.{total}
+use Rattle.abuf_picture.proofs.Above.{above, above_all, sums_next}
 use Rattle.abuf_band.specs.Answers.{Banded, IsAnswer}
 use Rattle.abuf_band.specs.Bands.{band_region, band_total}
 use Rattle.abuf_band.proofs.Fullness.{none_full}
 use Rattle.abuf_band.proofs.Stops.{stopped}
-use Rattle.abuf_band.proofs.Totals.{above, above_all, sums_next}
 use Rattle.abuf_band.proofs.rendering.render_bands.Goals as goal
 
 pub returns-in_err-more : goal.returns-in_err-more
@@ -37,8 +37,8 @@ loop-band-preserved g c =
     let more_are : more ≡ sums_of (band_region a.width a.height a.bands band) = drawn.are ∙ ap sums_of here in
     let new : List PixelSum = c.extend_from_slice.new.self.items in
     let grown : new ≡ old ++ more = subst (λ (xs : List PixelSum). new ≡ old ++ xs) c.as_slice.ensures c.in_ok-extend_from_slice.ensures.items in
-    let next : sums_of (above a.width a.height a.bands band) ++ sums_of (band_region a.width a.height a.bands band) ≡ sums_of (above a.width a.height a.bands (band + 1)) =
-    sums_next a.width a.height a.bands c.requires.size c.requires.bands.0 c.requires.bands.1 offsets a.background triangles a.shown.now.paints band in
+    let next : sums_of (above (whole_image a.width a.height) a.bands band) ++ sums_of (band_region a.width a.height a.bands band) ≡ sums_of (above (whole_image a.width a.height) a.bands (band + 1)) =
+    sums_next (whole_image a.width a.height) a.bands c.requires.bands.0 c.requires.bands.1 c.requires.size.width_some offsets a.background triangles a.shown.now.paints band in
     record {
       sums = grown ∙ (ap₂ ◌++◌ c.loop-band.invariant.sums more_are ∙ next);
       small = subst (All (IsSmall (length offsets))) (sym grown) (All-append (IsSmall (length offsets)) old more c.loop-band.invariant.small drawn.small);
@@ -55,7 +55,7 @@ returns g c =
       none_full = none_full (band_total a.shown.now.tris a.pattern a.width a.height a.bands) a.bands a.nodes (λ j below. c.loop-band.invariant.fit j (omega arith));
       are =
           all ∙ (c.loop-band.invariant.sums
-          ∙ (ap (λ (k : ℕ). region_sums (offsets_of a.pattern) a.background a.shown.now.tris a.shown.now.paints (above a.width a.height a.bands k)) last
-          ∙ ap (region_sums (offsets_of a.pattern) a.background a.shown.now.tris a.shown.now.paints) (above_all a.width a.height a.bands c.requires.size c.requires.bands.0 c.requires.bands.1)));
+          ∙ (ap (λ (k : ℕ). region_sums (offsets_of a.pattern) a.background a.shown.now.tris a.shown.now.paints (above (whole_image a.width a.height) a.bands k)) last
+          ∙ ap (region_sums (offsets_of a.pattern) a.background a.shown.now.tris a.shown.now.paints) (above_all (whole_image a.width a.height) a.bands c.requires.bands.0 c.requires.bands.1)));
       small = subst (All (IsSmall (length (offsets_of a.pattern)))) (sym all) c.loop-band.invariant.small;
     }
