@@ -131,7 +131,7 @@ fn pixel_text(
         (λ text. string_bytes text ≡ fragments_text (map unpacked words.now) ++ all_samples_text (offsets_of pattern) triangles.now at.x at.y) }
 {
     let pixel = Sampled {
-        planes: Planes::new(alloc, triangles)?,
+        planes: Planes::on_demand(triangles),
         words,
         at,
         pattern,
