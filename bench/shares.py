@@ -15,7 +15,7 @@ from collections import Counter
 PARTS = {
     "starting": r"abuf_frame::frame::.*(start|blank)|atomic_table::.*of_words|abuf_picture::(drawing|group|stripes)|abuf_fan::(count|most)|abuf_raster::upper_bound",
     "projecting": r"abuf_view::|abuf_scene::(assembly|fans|triangles)|abuf_num::division|abuf_top::prepare::show",
-    "reading": r"abuf_(cli|io|text|obj|mtl|scene|num)::|abuf_top::(prepare|libraries|demonstration)|bstr::|clap::|std_coll",
+    "reading": r"abuf_(cli|io|text|obj|mtl|scene|num)::|abuf_top::(load|prepare|libraries|demonstration)|bstr::|clap::|std_coll",
     "drawing": r"abuf_(fan|draw|raster|peel)::|abuf_frame::pass",
     "resolving": r"abuf_(resolve|band)::|abuf_picture::resolving|abuf_frame::(block|closed::Closed|lanes)|::sort::|std::thread::fork",
     "closing": r"abuf_frame::|abuf_top::(whole|output)",
