@@ -24,6 +24,8 @@ The tables have each edit by its name, which says the wrong that it does, the co
 function whose proof fails first, and the clause or goal that is open there. A goal `returns` is all that a function ensures
 together. Where the goal is what a call requires, the edited body could not even call the function.
 
+Bodies that `rt plant` makes by itself stand in [PROOFS](PROOFS.md#wrong-bodies), with those that pass and why.
+
 `tools/wrong_bodies.py` makes this page from the edits and the log of a run that tried them.
 """
 
