@@ -43,13 +43,8 @@ fn most_in_row<V: Width>(t: &ScreenTri, setup: &Setup<V>, span: Span, start: Tri
 }
 
 /// At least as many as the hits in a tile: none where an edge rejects all of it, all pixels where the three edges accept all, and
-/// else those that no edge rejects, if the pixels are to be told apart.
-pub(crate) fn most_in_tile<V: Width>(
-    t: &ScreenTri,
-    setup: &Setup<V>,
-    tile: Tile,
-    by_pixels: bool,
-) -> u32
+/// else those that no edge rejects.
+pub(crate) fn most_in_tile<V: Width>(t: &ScreenTri, setup: &Setup<V>, tile: Tile) -> u32
     requires wide { 2 ^ 22 ≤ V.reach }
     requires near { AreWithin V.reach t.now }
     requires positive { pos 0 <ℤ edge_function t.now.a t.now.b t.now.c }
@@ -64,7 +59,7 @@ pub(crate) fn most_in_tile<V: Width>(
     if setup.rejects(t, start, tile) {
         return 0;
     }
-    if !by_pixels || setup.accepts(t, start, tile) {
+    if setup.accepts(t, start, tile) {
         return tile.w * tile.h;
     }
     let down = changes::<V>(t, 0, 256);

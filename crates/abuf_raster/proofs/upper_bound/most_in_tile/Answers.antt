@@ -38,8 +38,8 @@ accepts-requires-clause-start g c =
     let r = g.V.Width.reach in
     subst (AreAtMost (9 * (r * r))) (sym c.values_at-start.ensures) (values_small r c.args.t.now (pixel_centre b.x b.y) c.requires.wide c.requires.near (centre_near r b.x b.y c.requires.wide (omega (arith, k.x_within)) (omega (arith, k.y_within))))
 
-pub returns-then-not-by_pixels-clause-bound : goal.returns-then-not-by_pixels-clause-bound
-returns-then-not-by_pixels-clause-bound g c = λ o n is. let b = c.args.tile in block_few c.args.t.now n o b.x b.w b.y b.h
+pub returns-then-accepts-clause-bound : goal.returns-then-accepts-clause-bound
+returns-then-accepts-clause-bound g c = λ o n is. let b = c.args.tile in block_few c.args.t.now n o b.x b.w b.y b.h
 
 pub loop-line-init : goal.loop-line-init
 loop-line-init g c = record {
