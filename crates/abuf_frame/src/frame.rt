@@ -1,8 +1,9 @@
 // The frame and its start.
-ghost use Rattle.std.specs.Prelude.{◌≡◌, ℕ, ◌+◌, ◌*◌, ◌<◌, ◌≤◌, [], ◌∷◌, ◌++◌, IfOk, OnOk, length, slice_index};
+ghost use Rattle.std.specs.Prelude.{◌≡◌, ◌≤◌, IfOk};
 ghost use Rattle.abuf_frame.specs.Views.{whole_view};
-ghost use Rattle.abuf_frame.specs.Words.{AreBlank, IsBlank, Sized};
+ghost use Rattle.abuf_frame.specs.Words.{IsBlank, Sized};
 
+use crate::blank::Blank;
 use crate::pass::Pass;
 use crate::rule::Lists;
 use crate::view::{Size, View};
@@ -32,45 +33,20 @@ impl Model for Frame {
     ghost invariant = { λ f. Fits f.table.shared.table_id f.table.shared.key f.pixels f.nodes };
 }
 
-// 64 nodes as they are at the start.
-fn blank_row() -> [u64; 128]
-    ensures { AreBlank 64 result }
-{
-    let mut row = [0; 128];
-    for n in 0..64 {
-        row[2 * n + 1] = u64::MAX;
-    }
-    row
-}
-
-// The words at the start. Each is written once, since a pool takes tens of megabytes, and by wide stores, a row of nodes at a time.
-fn blank_words(alloc: Global, pixels: u32, nodes: u32) -> Result<Vec<u64>, NoMemory>
-    requires { Sized pixels nodes }
-    ensures { IfOk result (λ v. IsBlank pixels nodes v.items) }
-{
-    let payloads = 1 + pixels as usize;
-    let nodes = nodes as usize;
-    let mut words = Vec::with_capacity(alloc, payloads + 2 * nodes)?;
-    words.resize(payloads, 0)?;
-    let row = blank_row();
-    for _ in 0..nodes / 64 {
-        words.extend_from_slice(&row)?;
-    }
-    words.extend_from_slice(&row[..2 * (nodes % 64)])?;
-    Ok(words)
-}
-
 impl Frame {
-    /// A frame of 1 to 4194304 pixels, whose lists are empty, and of 1 to 8388608 nodes, with its whole pass, which has no
-    /// entries. It keeps one block of 8 bytes a pixel and 16 a node, and takes a second one while it lays out the first; no call on
-    /// the frame or a pass takes memory after it.
-    pub fn start(alloc: Global, pixels: u32, nodes: u32) -> Result<(Frame, Pass), NoMemory>
-        requires { Sized pixels nodes }
+    // A frame with these words, and its whole pass.
+    fn of_words(
+        alloc: Global,
+        words: &[u64],
+        pixels: u32,
+        nodes: u32,
+    ) -> Result<(Frame, Pass), NoMemory>
+        requires sized { Sized pixels nodes }
+        requires blank { IsBlank pixels nodes words.now }
         ensures { IfOk result (λ r. (r.0.pixels ≡ pixels) × (r.0.nodes ≡ nodes) × (r.1.frame ≡ r.0) × (r.1.view ≡ whole_view)) }
     {
-        let words = blank_words(alloc, pixels, nodes)?;
         let size = Size { pixels, nodes };
-        let (table, seat) = Table::of_words(alloc, words.as_slice(), &size)?;
+        let (table, seat) = Table::of_words(alloc, words, &size)?;
         let frame = Frame {
             table,
             pixels,
@@ -85,5 +61,34 @@ impl Frame {
             nodes,
         };
         Ok((frame, pass))
+    }
+
+    /// A frame of 1 to 4194304 pixels, whose lists are empty, and of 1 to 8388608 nodes, with its whole pass, which has no
+    /// entries. It keeps one block of 8 bytes a pixel and 16 a node, and takes a second one while it lays out the first; no call on
+    /// the frame or a pass takes memory after it.
+    pub fn start(alloc: Global, pixels: u32, nodes: u32) -> Result<(Frame, Pass), NoMemory>
+        requires { Sized pixels nodes }
+        ensures { IfOk result (λ r. (r.0.pixels ≡ pixels) × (r.0.nodes ≡ nodes) × (r.1.frame ≡ r.0) × (r.1.view ≡ whole_view)) }
+    {
+        let blank = Blank::new(alloc, pixels, nodes)?;
+        Frame::of_words(alloc, blank.words(pixels, nodes), pixels, nodes)
+    }
+
+    /// The same from a blank, which serves for one frame after another: no second block is taken, unless the frame is to have more
+    /// pixels or nodes than the blank.
+    pub fn start_from(
+        alloc: Global,
+        blank: &Blank,
+        pixels: u32,
+        nodes: u32,
+    ) -> Result<(Frame, Pass), NoMemory>
+        requires { Sized pixels nodes }
+        ensures { IfOk result (λ r. (r.0.pixels ≡ pixels) × (r.0.nodes ≡ nodes) × (r.1.frame ≡ r.0) × (r.1.view ≡ whole_view)) }
+    {
+        if blank.serves(pixels, nodes) {
+            Frame::of_words(alloc, blank.words(pixels, nodes), pixels, nodes)
+        } else {
+            Frame::start(alloc, pixels, nodes)
+        }
     }
 }

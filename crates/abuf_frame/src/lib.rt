@@ -20,6 +20,7 @@
 //! where some are lost.
 #![tactic(auto)]
 
+mod blank;
 mod block;
 mod blocks;
 mod closed;
@@ -34,6 +35,7 @@ mod still;
 mod tests;
 mod view;
 
+pub use blank::Blank;
 pub use closed::{Closed, Full};
 pub use frame::Frame;
 pub use look::Look;

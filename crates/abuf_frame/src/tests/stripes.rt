@@ -1,6 +1,6 @@
 // Closed frames of stripes.
 use super::{moved, shared};
-use crate::{Closed, Frame, Full};
+use crate::{Blank, Closed, Frame, Full};
 use abuf_num::NoMemory;
 use std::alloc::Global;
 use std::array;
@@ -84,5 +84,21 @@ fn a_stripe_drawn_on_each_of_two_threads(rt: HostRuntime) -> Result<(), Fail> {
     let alloc = rt.alloc();
     let stripes = map_indices(&rt, alloc, 2, &|pixel| drawn(alloc, pixel as u32))?;
     assert!(rt; stripes.len() == 2);
+    Ok(())
+}
+
+#[test]
+fn frames_from_one_blank(rt: HostRuntime) -> Result<(), Fail> {
+    let alloc = rt.alloc();
+    let blank = Blank::new(alloc, 3, 4)?;
+    shared(&blank);
+    // As large as the blank; with fewer pixels and nodes; with more of either.
+    for (pixels, nodes) in [(3, 4), (2, 1), (1, 3), (4, 1), (1, 5)] {
+        let (frame, mut pass) = Frame::start_from(alloc, &blank, pixels, nodes)?;
+        pass.insert(&frame, pixels - 1, 7);
+        let closed = frame.close(pass);
+        assert!(rt; closed.pixels() == pixels && closed.full().is_none());
+        assert!(rt; closed.list(alloc, pixels - 1)?.as_slice() == [7].as_slice());
+    }
     Ok(())
 }

@@ -1,7 +1,7 @@
 use Rattle.std.proofs.Common.{◌≡◌, ◌+◌, ◌*◌, ◌/◌, ◌%◌, ◌++◌, ℕ, List, take, sym, subst, arith, rules}
 use Rattle.abuf_frame.specs.Words.{IsBlank}
 use Rattle.abuf_frame.proofs.Blanks.{blank_first, blank_more}
-use Rattle.abuf_frame.proofs.frame.blank_words.Goals as goal
+use Rattle.abuf_frame.proofs.blank.blank_words.Goals as goal
 
 pub loop-preserved : goal.loop-preserved
 loop-preserved c = let n : ℕ = 64 * c.loop.counter in let ws : List ℕ = c.loop.words.items in let row : List ℕ = c.blank_row-row.result in let e : n + 64 ≡ 64 * (c.loop.counter + 1) = omega arith in
