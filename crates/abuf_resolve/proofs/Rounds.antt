@@ -1,8 +1,9 @@
 -- Pixels shared among workers in blocks of 64, block after block in turn.
-use Rattle.std.proofs.Common.{◌≡◌, ℕ, ◌+◌, ◌-◌, ◌*◌, ◌/◌, ◌%◌, ◌<◌, ◌⊎◌, inl, inr, min, ap, ap₂, ◌∙◌, sym, mul-le-mul_left, arith}
+use Rattle.std.proofs.Common.{◌≡◌, ℕ, zero, suc, refl, map, ◌∷◌, ◌+◌, ◌-◌, ◌*◌, ◌/◌, ◌%◌, ◌<◌, ◌⊎◌, inl, inr, min, ap, ap₂, ◌∙◌, sym, mul-le-mul_left, arith}
+use Rattle.std.specs.List.{range_with_len}
 use Rattle.std.proofs.lemmas.Bool.{cases_order}
 use Rattle.std.proofs.lemmas.Nat.{div-add-mod', div-mul-add, mod-mul-add, mod_below}
-use Rattle.abuf_resolve.specs.Shares.{place_at, count_of, worker_of, index_of}
+use Rattle.abuf_resolve.specs.Shares.{place_at, places_of, count_of, worker_of, index_of}
 
 -- The worker who has a pixel has it at its place.
 pub place_back : (t p : ℕ) → place_at t (worker_of t p) (index_of t p) ≡ p
@@ -73,3 +74,16 @@ beside t w i h = omega (arith, eight_beside t w i h, eight_first t w i, eight_fi
 -- The row and the column of a place.
 pub row_column : (q w r p : ℕ) → p ≡ q * w + r → r < w → (p / w ≡ q) × (p % w ≡ r)
 row_column q w r p e l = rw e (div-mul-add q w r l, mod-mul-add q w r l)
+
+-- A worker alone has all pixels, in order.
+pub places_alone : (n : ℕ) → places_of n 1 0 ≡ range_with_len 0 n
+places_alone n = ap (λ (k : ℕ). map (place_at 1 0) (range_with_len 0 k)) all ∙ from 0 n where
+  all : count_of n 1 0 ≡ n
+  all = let whole : n / 64 * 64 + n % 64 ≡ n = div-add-mod' n 64 in let below : n % 64 < 64 = mod_below n 64 (omega arith) in omega (arith, whole, below)
+
+  at : (i : ℕ) → place_at 1 0 i ≡ i
+  at i = let whole : i / 64 * 64 + i % 64 ≡ i = div-add-mod' i 64 in omega (arith, whole)
+
+  from : (a k : ℕ) → map (place_at 1 0) (range_with_len a k) ≡ range_with_len a k
+  from a zero = refl
+  from a (suc k) = ap₂ ◌∷◌ (at a) (from (a + 1) k)

@@ -1,17 +1,22 @@
 // The triangles, and what their depth keys take.
 ghost use Rattle.std.specs.Prelude.{◌≡◌, ◌<◌, ◌≤◌, true, length, IfOk};
-ghost use Rattle.abuf_num.specs.declared.limits.TheConstants.{MAX_DEPTH};
+ghost use Rattle.abuf_num.specs.declared.limits.TheConstants.{MAX_DEPTH, MAX_THREADS};
 ghost use Rattle.abuf_raster.specs.Samples.{offsets_of};
 ghost use Rattle.abuf_raster.specs.Coverage.{covers};
 ghost use Rattle.abuf_raster.specs.Depth.{depth_key};
 ghost use Rattle.abuf_resolve.specs.Colour.{triangle_at};
 ghost use Rattle.abuf_resolve.specs.Keys.{NoKeyBelow, NoKeyAbove};
+ghost use denote.Param.Send.{IsSync};
 
 use crate::scene::Pixel;
 use abuf_num::{List, NoMemory};
 use abuf_raster::{DepthPlane, Pattern, ScreenTri};
 use std::alloc::Global;
 use std::marker::Model;
+use std::thread::{Threads, join};
+
+/// Fewer triangles are made ready sooner by one thread.
+const FEW: usize = 8192;
 
 /// Triangles whose depth keys are asked for. What a key takes is worked out once a triangle, or for each key where few are asked for.
 /// Clauses see the list of the triangles.
@@ -41,14 +46,45 @@ pub(crate) struct Bounds {
 }
 
 /// One plane for each triangle.
-fn planes_of(alloc: Global, tris: &[ScreenTri]) -> Result<List<DepthPlane>, NoMemory>
-    ensures { IfOk result (λ planes. planes ≡ tris.now) }
+fn planes_of(alloc: Global, tris: &[ScreenTri]) -> Result<Vec<DepthPlane>, NoMemory>
+    ensures { IfOk result (λ planes. planes.items ≡ tris.now) }
 {
     let mut planes = Vec::with_capacity(alloc, tris.len())?;
     for t in tris {
         planes.push(DepthPlane::new(t))?;
     }
-    Ok(List::from_vec(planes))
+    Ok(planes)
+}
+
+/// The same, by this number of threads.
+fn planes_by<R: Threads + Sync>(
+    rt: &R,
+    alloc: Global,
+    tris: &[ScreenTri],
+    threads: u32,
+) -> Result<Vec<DepthPlane>, NoMemory>
+    requires { 1 ≤ threads }
+    ensures { IfOk result (λ planes. planes.items ≡ tris.now) }
+{
+    if threads == 1 || tris.len() < FEW {
+        return planes_of(alloc, tris);
+    }
+    let left = threads / 2;
+    let right = threads - left;
+    let (front, back) = tris.split_at(tris.len() / 2);
+    let first = || -> Result<Vec<DepthPlane>, NoMemory>
+        requires { IsSync R.row × (1 ≤ left) }
+        ensures { IfOk result (λ planes. planes.items ≡ front.entry.now) }
+    { planes_by(rt, alloc, front, left) };
+    let others = || -> Result<Vec<DepthPlane>, NoMemory>
+        requires { IsSync R.row × (1 ≤ right) }
+        ensures { IfOk result (λ planes. planes.items ≡ back.entry.now) }
+    { planes_by(rt, alloc, back, right) };
+    let (first, others) = join(rt, first, others);
+    let mut planes = first?;
+    let mut rest = others?;
+    planes.append(&mut rest)?;
+    Ok(planes)
 }
 
 impl<'a> Planes<'a> {
@@ -59,7 +95,24 @@ impl<'a> Planes<'a> {
         let planes = planes_of(alloc, tris)?;
         Ok(Planes {
             tris,
-            made: Some(planes),
+            made: Some(List::from_vec(planes)),
+        })
+    }
+
+    /// The same, made by 1 to 64 threads.
+    pub fn new_on<R: Threads + Sync>(
+        rt: &R,
+        alloc: Global,
+        tris: &'a [ScreenTri],
+        threads: u32,
+    ) -> Result<Planes<'a>, NoMemory>
+        requires { (1 ≤ threads) × (threads ≤ MAX_THREADS) }
+        ensures { IfOk result (λ planes. planes ≡ tris.now) }
+    {
+        let planes = planes_by(rt, alloc, tris, threads)?;
+        Ok(Planes {
+            tris,
+            made: Some(List::from_vec(planes)),
         })
     }
 

@@ -125,8 +125,9 @@ impl<'a, 'b> Scene<'a, 'b> {
         requires words { AreFragmentLists (offsets_of self.now.pattern) self.now.planes region closed.now.lists }
         ensures { IfOk result (λ part. IsPart self.now region closed.now.lists (places_of (region.w * region.h) share.threads share.worker) part) }
     {
+        let count = share.count(closed.pixels());
         let mut part = Resolved {
-            sums: List::new(alloc),
+            sums: List::from_vec(Vec::with_capacity(alloc, count as usize)?),
             longest: 0,
         };
         let mut lists = [
@@ -141,7 +142,7 @@ impl<'a, 'b> Scene<'a, 'b> {
         ];
         let mut buffers = Buffers::new(alloc);
         let mut offset = Offset { column: 0, row: 0 };
-        for i in 0..share.count(closed.pixels()) {
+        for i in 0..count {
             let place = share.place(i);
             hold_eight(closed, &mut lists, place, i)?;
             let list = lists[(i % 8) as usize].as_slice();

@@ -88,6 +88,44 @@ impl<'a, 'b> Scene<'a, 'b> {
         let longest = longest_of(&parts);
         Ok(Resolved { sums, longest })
     }
+
+    /// The sums of all pixels, by one worker.
+    fn alone(&self, alloc: Global, closed: &Closed, region: Region) -> Result<Resolved, NoMemory>
+        requires pixels { length closed.now.lists ≡ region.w * region.h }
+        requires words { AreFragmentLists (offsets_of self.now.pattern) self.now.planes region closed.now.lists }
+        ensures { IfOk result (λ all. IsPart self.now region closed.now.lists (range_with_len 0 (region.w * region.h)) all) }
+    {
+        self.part(alloc, closed, region, Share::new(1, 0))
+    }
+
+    /// The same, by this number of workers.
+    fn shared<R: Threads + Sync>(
+        &self,
+        rt: &R,
+        alloc: Global,
+        closed: &Closed,
+        region: Region,
+        threads: u32,
+    ) -> Result<Resolved, NoMemory>
+        requires threads { (1 ≤ threads) × (threads ≤ MAX_THREADS) }
+        requires pixels { length closed.now.lists ≡ region.w * region.h }
+        requires words { AreFragmentLists (offsets_of self.now.pattern) self.now.planes region closed.now.lists }
+        ensures { IfOk result (λ all. IsPart self.now region closed.now.lists (range_with_len 0 (region.w * region.h)) all) }
+    {
+        if threads == 1 {
+            return self.alone(alloc, closed, region);
+        }
+        let parts = map_indices(
+            rt,
+            alloc,
+            threads as usize,
+            &|worker| {
+                let share = Share::new(threads, worker as u32);
+                self.part(alloc, closed, region, share)
+            },
+        )?;
+        self.put_together(alloc, closed, region, parts)
+    }
 }
 
 /// For each pixel of the region, in order, the sums over the samples of the pattern: per channel the sum of the samples'
@@ -144,14 +182,5 @@ pub fn resolve_counted<R: Threads + Sync>(
     ensures small { IfOk result (λ all. All (IsSmall (length (offsets_of scene.now.pattern))) all.sums) }
     ensures longest { IfOk result (λ all. all.longest ≡ greatest (map length closed.now.lists)) }
 {
-    let parts = map_indices(
-        rt,
-        alloc,
-        threads as usize,
-        &|worker| {
-            let share = Share::new(threads, worker as u32);
-            scene.part(alloc, closed, region, share)
-        },
-    )?;
-    scene.put_together(alloc, closed, region, parts)
+    scene.shared(rt, alloc, closed, region, threads)
 }

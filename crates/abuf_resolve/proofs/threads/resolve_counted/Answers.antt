@@ -1,4 +1,4 @@
-use Rattle.std.proofs.Common.{◌≡◌, ◌∙◌, ◌*◌, ap, List, map, length}
+use Rattle.std.proofs.Common.{◌≡◌, ◌∙◌, ◌*◌, ap, map, length}
 use Rattle.std.proofs.lemmas.Result.{IfOk-weaker}
 use Rattle.abuf_resolve.specs.Scene.{sums_of}
 use Rattle.abuf_resolve.specs.Shares.{greatest}
@@ -7,11 +7,11 @@ use Rattle.abuf_resolve.proofs.threads.resolve_counted.Goals as goal
 
 pub returns-clause-value : goal.returns-clause-value
 returns-clause-value g c =
-    IfOk-weaker c.put_together.result _ (λ all. all.sums ≡ sums_of c.args.scene.now c.args.region c.args.closed.now.lists) (λ all h. h.sums) c.put_together.ensures
+    IfOk-weaker c.shared.result _ (λ all. all.sums ≡ sums_of c.args.scene.now c.args.region c.args.closed.now.lists) (λ all h. h.sums) c.shared.ensures
 
 pub returns-clause-longest : goal.returns-clause-longest
 returns-clause-longest g c =
     let r = c.args.region in
-    IfOk-weaker c.put_together.result _ (λ all. all.longest ≡ greatest (map length c.args.closed.now.lists))
+    IfOk-weaker c.shared.result _ (λ all. all.longest ≡ greatest (map length c.args.closed.now.lists))
     (λ all h. h.longest ∙ ap greatest (lengths_all c.args.closed.now.lists (r.w * r.h) c.requires.pixels))
-    c.put_together.ensures
+    c.shared.ensures

@@ -17,7 +17,7 @@ use Rattle.abuf_resolve.proofs.scene.Scene.part.Goals.{After-place-place, After-
 below : (c : After-place-place) → c.place-place.result < c.pixels.result
 below c =
     let share = c.args.share in
-    omega (arith, place_below share.threads c.pixels.result share.worker c.loop-i.i share.some (omega (arith, c.count-i-end.ensures)), c.place-place.ensures)
+    omega (arith, place_below share.threads c.pixels.result share.worker c.loop-i.i share.some (omega (arith, c.count-count.ensures)), c.place-place.ensures)
 
 pub hold_eight-requires-clause-place : goal.hold_eight-requires-clause-place
 hold_eight-requires-clause-place c =
