@@ -1,5 +1,5 @@
--- How many fragments triangles have, and how many at most.
-use Rattle.std.specs.Prelude.{ℕ, ◌≡◌, ◌≤◌, ℤ, List, length}
+-- How many fragments triangles have at most.
+use Rattle.std.specs.Prelude.{ℕ, ◌≤◌, ℤ, List, length}
 use Rattle.abuf_num.specs.declared.limits.TheConstants.{MAX_PRIMITIVES, MAX_THREADS}
 use Rattle.abuf_raster.specs.Region.{Region}
 use Rattle.abuf_raster.specs.Triangle.{Triangle}
@@ -8,10 +8,6 @@ use Rattle.abuf_raster.specs.Hits.{all_fragments}
 -- the triangles have no more fragments than this, whatever number the first of them has
 abbrev pub IsMost : List Triangle → List (ℤ × ℤ) → Region → ℕ → Type 0
 IsMost ts offsets r most = (first : ℕ) → length (all_fragments ts first offsets r) ≤ most
-
--- the triangles have just so many fragments, whatever number the first of them has
-abbrev pub IsCount : List Triangle → List (ℤ × ℤ) → Region → ℕ → Type 0
-IsCount ts offsets r count = (first : ℕ) → count ≡ length (all_fragments ts first offsets r)
 
 -- the limits of a count by so many threads
 abbrev pub CanCount : List Triangle → ℕ → Type 0

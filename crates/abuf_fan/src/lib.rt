@@ -9,13 +9,10 @@
 //! of them is beyond the parts, so each part was drawn by exactly one worker. No worker knows what another drew before that.
 //!
 //! `most_fragments` tells beforehand how many fragments there are at most, so that a frame needn't have more nodes than that.
-//! `count_fragments` tells exactly how many there are, which takes longer, so that a large image can be cut into regions whose
-//! fragments a frame has room for.
 //!
 //! That the workers run at the same time is not promised.
 #![tactic(auto)]
 
-mod count;
 mod desk;
 mod drawing;
 mod gate;
@@ -27,7 +24,6 @@ mod rule;
 mod tests;
 mod work;
 
-pub use count::count_fragments;
 pub use desk::{Desk, MAX_PARTS, Turn};
 pub use drawing::draw_all;
 pub use gate::{Gate, OpenGate};

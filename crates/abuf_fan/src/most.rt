@@ -41,7 +41,7 @@ fn sum_of(tris: &[ScreenTri], region: Region, pattern: Pattern) -> u64
 const LITTLE: u64 = 4194304;
 
 /// One thread soon has asked so many triangles about the tiles of the region.
-pub(crate) fn is_little(count: usize, region: Region) -> bool
+fn is_little(count: usize, region: Region) -> bool
     requires few { count ≤ MAX_PRIMITIVES }
     ensures { IsTrue result ↔ (count * (region.w * region.h + 64) ≤ LITTLE) }
 {

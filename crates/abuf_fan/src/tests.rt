@@ -2,7 +2,7 @@
 ghost use Rattle.std.specs.Prelude.{◌≡◌};
 ghost use Rattle.abuf_raster.specs.Region.{whole_image};
 
-use crate::{Desk, Gate, MeetingGate, count_fragments, draw_all, most_fragments};
+use crate::{Desk, Gate, MeetingGate, draw_all, most_fragments};
 use abuf_frame::{Frame, Pass};
 use abuf_raster::{Pattern, Region, ScreenTri};
 use std::sync::atomic::{AtomicU64, Ordering};
@@ -30,25 +30,6 @@ fn no_fewer_than_the_fragments(rt: HostRuntime) -> Result<(), Fail> {
         assert!(rt; 16 <= most && most <= 32, "by {threads} threads");
     }
     assert!(rt; most_fragments(&rt, &[], square(), Pattern::Eight, 64) == 0);
-    Ok(())
-}
-
-/// Both halves of the square have its 16 pixels, of which a region that cuts it has some. In a region of 2048 by 2048 pixels
-/// two triangles are enough that several threads count.
-#[test]
-fn exactly_the_fragments(rt: HostRuntime) -> Result<(), Fail> {
-    let halves = halves().ok_or("no triangle")?;
-    for threads in 1..4 {
-        let whole = count_fragments(&rt, &halves, square(), Pattern::One, threads);
-        assert!(rt; whole == 16, "by {threads} threads");
-        let rows = Region::new(0, 1, 4, 2);
-        assert!(rt; count_fragments(&rt, &halves, rows, Pattern::One, threads) == 8);
-        let corner = Region::new(1, 2, 2000, 2000);
-        assert!(rt; count_fragments(&rt, &halves, corner, Pattern::One, threads) == 6);
-        let large = Region::whole_image(2048, 2048);
-        assert!(rt; count_fragments(&rt, &halves, large, Pattern::One, threads) == 16);
-    }
-    assert!(rt; count_fragments(&rt, &[], square(), Pattern::Eight, 64) == 0);
     Ok(())
 }
 

@@ -7,4 +7,3 @@ pub mod Joined
 pub mod Above
 pub mod AllStripes
 pub mod Groups
-pub mod Rooms

@@ -4,7 +4,7 @@ use Rattle.abuf_frame.specs.Closing.{Ended}
 use Rattle.abuf_frame.specs.Draws.{Adds}
 use Rattle.abuf_frame.specs.Frame.{Shape}
 use Rattle.abuf_frame.specs.Pass.{PassState}
-use Rattle.abuf_frame.specs.Views.{IsSettled, IsWhole}
+use Rattle.abuf_frame.specs.Views.{IsSettled, IsWhole, whole_view}
 use Rattle.abuf_frame.specs.declared.look.Look.{Look}
 use Rattle.abuf_frame.specs.declared.look.Look.TheVariants as look
 use Rattle.abuf_raster.specs.declared.pattern.Pattern.{Pattern}
@@ -18,6 +18,14 @@ pub record IsPool (fragments nodes room : ℕ) : Type 0 where
   pub some : 1 ≤ room
   pub few : room ≤ nodes
   pub enough : min fragments nodes ≤ room
+
+-- The pass is the whole one of the frame, which has an empty list for each pixel of the region, and as many nodes as the pool, or
+-- fewer, where these are enough for all fragments.
+pub record IsStarted (triangles : List Triangle) (pattern : Pattern) (r : Region) (nodes : ℕ) (frame : Shape) (pass : PassState) : Type 0 where
+  pub belongs : pass.frame ≡ frame
+  pub pixels_are : frame.pixels ≡ r.w * r.h
+  pub pool : IsPool (total triangles pattern r) nodes frame.nodes
+  pub fresh : pass.view ≡ whole_view
 
 -- The pass is the whole one of the frame, which has a list for each pixel of the region, and it has an entry for each fragment.
 -- The frame has so many nodes, or fewer, where these are enough for all fragments.

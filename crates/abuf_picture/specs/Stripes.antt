@@ -28,8 +28,3 @@ pub record IsStripe (triangles : List Triangle) (pattern : Pattern) (r : Region)
 abbrev pub AreStripes : List Triangle → Pattern → Region → ℕ → ℕ → List Ended → Type 0
 AreStripes triangles pattern r count first parts =
     (k : ℕ) (d : Ended) → k < length parts → IsStripe triangles pattern (stripe_region r count (first + k)) (get_or parts k d)
-
--- So many nodes have room for the fragments of a stripe, and are no more than those of the pool.
-pub record IsRoom (triangles : List Triangle) (pattern : Pattern) (r : Region) (nodes room : ℕ) : Type 0 where
-  pub enough : total triangles pattern r ≤ room
-  pub few : room ≤ nodes

@@ -1,16 +1,17 @@
 // The drawing into a frame, and its closing.
 ghost use Rattle.std.specs.Prelude.{◌≡◌, ◌≤◌, min, IfOk};
 ghost use Rattle.abuf_frame.specs.Views.{lost};
-ghost use Rattle.abuf_picture.specs.Drawn.{IsDrawn, IsPool};
+ghost use Rattle.abuf_picture.specs.Drawn.{IsDrawn, IsPool, IsStarted};
 ghost use Rattle.abuf_picture.specs.Picture.{IsFrameOf, total};
 
-use crate::group::Stripes;
+use crate::layout::Stripes;
 use crate::primitives::Primitives;
 use crate::stripes::stripe_count;
 use crate::target::Target;
 use abuf_fan::{Gate, draw_all, most_fragments};
 use abuf_frame::{Closed, Frame, Pass};
 use abuf_num::NoMemory;
+use abuf_raster::region_law;
 use std::alloc::Global;
 use std::thread::Threads;
 
@@ -39,6 +40,39 @@ pub(crate) fn room_for<R: Threads + Sync>(rt: &R, primitives: &Primitives, targe
     nodes_for(most, target.nodes)
 }
 
+/// Draws the primitives into a frame that was started, on the target's number of threads.
+pub(crate) fn draw_into<R: Threads + Sync, G: Gate + Sync>(
+    rt: &R,
+    alloc: Global,
+    primitives: &Primitives,
+    target: &Target,
+    started: (Frame, Pass),
+    gate: &G,
+) -> Result<(Frame, Pass), NoMemory>
+    requires { IsStarted primitives.now.triangles.now target.now.pattern target.now.region target.now.nodes started.0 started.1 }
+    ensures { IfOk result (λ p. IsDrawn primitives.now.triangles.now target.now.pattern target.now.region target.now.nodes p.0 p.1) }
+{
+    let Target {
+        region,
+        pattern,
+        threads,
+        ..
+    } = *target;
+    let triangles = primitives.triangles;
+    let (frame, mut pass) = started;
+    region_law(region);
+    let drawn = draw_all(
+        rt, alloc, &frame, &mut pass, triangles, region, pattern, threads, gate,
+    );
+    match drawn {
+        Ok(()) => Ok((frame, pass)),
+        Err(_) => {
+            frame.close(pass);
+            Err(NoMemory)
+        }
+    }
+}
+
 /// A frame of so many nodes into which the primitives are drawn, on the target's number of threads, and its whole pass.
 pub(crate) fn draw_pass<R: Threads + Sync, G: Gate + Sync>(
     rt: &R,
@@ -51,24 +85,8 @@ pub(crate) fn draw_pass<R: Threads + Sync, G: Gate + Sync>(
     requires { IsPool (total primitives.now.triangles.now target.now.pattern target.now.region) target.now.nodes room }
     ensures { IfOk result (λ p. IsDrawn primitives.now.triangles.now target.now.pattern target.now.region target.now.nodes p.0 p.1) }
 {
-    let Target {
-        region,
-        pattern,
-        threads,
-        ..
-    } = *target;
-    let triangles = primitives.triangles;
-    let (frame, mut pass) = Frame::start(alloc, region.pixels(), room)?;
-    let drawn = draw_all(
-        rt, alloc, &frame, &mut pass, triangles, region, pattern, threads, gate,
-    );
-    match drawn {
-        Ok(()) => Ok((frame, pass)),
-        Err(_) => {
-            frame.close(pass);
-            Err(NoMemory)
-        }
-    }
+    let started = Frame::start(alloc, target.region.pixels(), room)?;
+    draw_into(rt, alloc, primitives, target, started, gate)
 }
 
 /// Closes the frame of a drawing, as one of the target's nodes.
@@ -90,7 +108,7 @@ pub(crate) fn close_drawn(
 }
 
 /// The closed frame of so many nodes into which the primitives are drawn, on the target's number of threads.
-pub(crate) fn draw_in_one<R: Threads + Sync, G: Gate + Sync>(
+fn draw_in_one<R: Threads + Sync, G: Gate + Sync>(
     rt: &R,
     alloc: Global,
     primitives: &Primitives,
@@ -105,10 +123,10 @@ pub(crate) fn draw_in_one<R: Threads + Sync, G: Gate + Sync>(
     Ok(close_drawn(primitives, target, frame, pass))
 }
 
-/// The closed frame into which the primitives are drawn. A small one is drawn by the target's number of workers together. With
-/// several threads a large one is drawn in stripes of rows, each by one worker into a table of its own, which stays near its
-/// processor, and as many at once as there are threads. Every worker that draws passes by the gate twice. An error means that
-/// memory ran out.
+/// The closed frame into which the primitives are drawn. A small one is drawn by the target's number of workers together. A
+/// large one is drawn in stripes of rows, each by one worker into a table of its own, and as many at once as there are threads: the
+/// tables stay in the caches, and each is laid out by the worker that draws into it. Every worker that draws passes by the gate
+/// twice. An error means that memory ran out.
 pub fn draw<R: Threads + Sync, G: Gate + Sync>(
     rt: &R,
     alloc: Global,
@@ -118,8 +136,12 @@ pub fn draw<R: Threads + Sync, G: Gate + Sync>(
 ) -> Result<Closed, NoMemory>
     ensures { IfOk result (IsFrameOf primitives.now.triangles.now target.now.pattern target.now.region target.now.nodes) }
 {
-    let room = room_for(rt, primitives, target);
-    let count = stripe_count(target, room, primitives.triangles.len());
+    region_law(target.region);
+    let count = stripe_count(
+        target.region.h(),
+        primitives.triangles.len(),
+        target.threads,
+    );
     if count > 1 {
         let stripes = Stripes {
             primitives: *primitives,
@@ -130,5 +152,6 @@ pub fn draw<R: Threads + Sync, G: Gate + Sync>(
             return Ok(closed);
         }
     }
+    let room = room_for(rt, primitives, target);
     draw_in_one(rt, alloc, primitives, target, room, gate)
 }

@@ -8,10 +8,12 @@
 #![tactic(auto)]
 
 mod drawing;
-mod group;
+mod guesses;
+mod layout;
 mod primitives;
 mod resolving;
 mod sight;
+mod striped;
 mod stripes;
 mod target;
 #[cfg(test)]

@@ -1,6 +1,7 @@
 // The sums of a closed frame.
 ghost use Rattle.std.specs.Prelude.{◌≡◌, ◌≤◌, length, IfOk};
 ghost use Rattle.std.specs.List.{All};
+ghost use Rattle.abuf_num.specs.declared.limits.TheConstants.{MAX_THREADS};
 ghost use Rattle.abuf_raster.specs.Samples.{offsets_of};
 ghost use Rattle.abuf_resolve.specs.Sums.{IsSmall, region_sums};
 ghost use Rattle.abuf_picture.specs.Picture.{IsFrameOf, longest};
@@ -15,14 +16,21 @@ use abuf_resolve::{Planes, Resolved, Scene, resolve_counted};
 use std::alloc::Global;
 use std::thread::Threads;
 
-/// The triangles for the keys of so many fragments: made ready, unless most of them have none.
-fn planes_for(alloc: Global, triangles: &[ScreenTri], fragments: u64) -> Result<Planes, NoMemory>
+/// The triangles for the keys of so many fragments: made ready by this number of threads, unless most of them have none.
+fn planes_for<'a, R: Threads + Sync>(
+    rt: &R,
+    alloc: Global,
+    triangles: &'a [ScreenTri],
+    fragments: u64,
+    threads: u32,
+) -> Result<Planes<'a>, NoMemory>
+    requires { (1 ≤ threads) × (threads ≤ MAX_THREADS) }
     ensures { IfOk result (λ planes. planes ≡ triangles.now) }
 {
     if fragments < triangles.len() as u64 {
         Ok(Planes::on_demand(triangles))
     } else {
-        Planes::new(alloc, triangles)
+        Planes::new_on(rt, alloc, triangles, threads)
     }
 }
 
@@ -57,7 +65,7 @@ pub fn resolve_drawn<R: Threads + Sync>(
     sums_law(closed, triangles, paints, pattern, background, region);
     lengths_law(closed, triangles, pattern, region);
     let scene = Scene {
-        planes: planes_for(alloc, triangles, closed.fragments())?,
+        planes: planes_for(rt, alloc, triangles, closed.fragments(), threads)?,
         paints,
         pattern,
         background,
