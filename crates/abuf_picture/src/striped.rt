@@ -22,13 +22,14 @@ use std::thread::{Threads, map_indices};
 /// About how many words the frames of all stripes have at least: a smaller drawing is made sooner in one frame.
 const FEW_WORDS: u64 = 262144;
 
-/// What all threads of a drawing in stripes share: the stripes, the words of frames at their start, and a counter that has the
-/// place of the next stripe among them.
+/// What all threads of a drawing in stripes share: the stripes, the words of frames at their start, a counter that has the place
+/// of the next stripe among them, and how many fragments those have that are drawn.
 #[derive(Drop)]
 struct Round<'a> {
     guesses: &'a [Guess],
     blank: &'a Blank,
     next: AtomicU64,
+    taken: AtomicU64,
 }
 
 /// What the guesses come to.
@@ -94,13 +95,14 @@ impl<'a> Stripes<'a> {
     }
 
     /// The closed frame of a stripe, which has a node for each fragment. It is drawn with as many nodes as were guessed, and where
-    /// these are too few, again with as many as it has fragments. None comes where the pool hasn't so many.
+    /// these are too few, again with as many as it has fragments. None comes where the pool hasn't so many, or hasn't them any
+    /// more: so the frames of all stripes together take no more memory than the pool, and than was guessed.
     fn draw_stripe<R: Threads + Sync, G: Gate + Sync>(
         &self,
         rt: &R,
         alloc: Global,
         gate: &G,
-        blank: &Blank,
+        round: &Round,
         guess: Guess,
     ) -> Result<Option<Closed>, NoMemory>
         requires { guess.stripe < self.now.count }
@@ -111,19 +113,21 @@ impl<'a> Stripes<'a> {
             stripe: guess.stripe,
             fragments: guess.fragments.clamp(1, nodes),
         };
-        let closed = self.draw_with(rt, alloc, gate, blank, guess)?;
-        let Some(full) = closed.full() else {
-            return Ok(Some(closed));
-        };
-        if full.fragments > u64::from(nodes) {
+        let closed = self.draw_with(rt, alloc, gate, round.blank, guess)?;
+        let fragments = closed.fragments();
+        let taken = round.taken.fetch_add(fragments, Ordering::SeqCst);
+        if taken.saturating_add(fragments) > u64::from(nodes) {
             return Ok(None);
+        }
+        if closed.full().is_none() {
+            return Ok(Some(closed));
         }
         drop(closed);
         let exact = Guess {
             stripe: guess.stripe,
-            fragments: full.fragments as u32,
+            fragments: fragments as u32,
         };
-        let closed = self.draw_with(rt, alloc, gate, blank, exact)?;
+        let closed = self.draw_with(rt, alloc, gate, round.blank, exact)?;
         Ok(Some(closed))
     }
 
@@ -145,7 +149,7 @@ impl<'a> Stripes<'a> {
                 break;
             }
             let guess = round.guesses[next as usize];
-            let Some(closed) = self.draw_stripe(rt, alloc, gate, round.blank, guess)? else {
+            let Some(closed) = self.draw_stripe(rt, alloc, gate, round, guess)? else {
                 break;
             };
             parts.push(Part {
@@ -190,6 +194,7 @@ impl<'a> Stripes<'a> {
             guesses,
             blank: &blank,
             next: AtomicU64::new(0),
+            taken: AtomicU64::new(0),
         };
         let threads = self.target.threads.min(self.count);
         let drawn = map_indices(
