@@ -13,7 +13,7 @@ from collections import Counter
 
 # The parts, and what the names of their functions hold; the first that fits counts.
 PARTS = {
-    "starting": r"abuf_frame::frame::.*(start|blank)|atomic_table::.*of_words|abuf_picture::(drawing|group|stripes)|abuf_fan::(count|most)|abuf_raster::upper_bound",
+    "starting": r"abuf_frame::(frame::.*(start|words)|blank)|atomic_table::.*of_words|abuf_picture::(drawing|layout|striped|stripes)|abuf_fan::most|abuf_raster::upper_bound",
     "projecting": r"abuf_view::|abuf_scene::(assembly|fans|triangles)|abuf_num::division|abuf_top::prepare::show",
     "reading": r"abuf_(cli|io|text|obj|mtl|scene|num)::|abuf_top::(load|prepare|libraries|demonstration)|bstr::|clap::|std_coll",
     "drawing": r"abuf_(fan|draw|raster|peel)::|abuf_frame::pass",
