@@ -1,5 +1,5 @@
 -- The law of the key: what three edges that accept a sample say of the weighted depth there.
-use Rattle.std.proofs.Common.{◌≡◌, ℕ, ◌+◌, ◌*◌, ◌/◌, ◌<◌, ◌≤◌, Bool, true, false, ◌&&◌, ◌||◌, ℤ, pos, negsuc, ◌+ℤ◌, ◌*ℤ◌, ◌<ℤ◌, ◌≤ℤ◌, arith, sym, refl, true≢false}
+use Rattle.std.proofs.Common.{◌≡◌, ℕ, ◌+◌, ◌*◌, ◌/◌, ◌<◌, ◌≤◌, Bool, true, false, ◌&&◌, ◌||◌, ℤ, pos, negsuc, ◌+ℤ◌, ◌*ℤ◌, ◌<ℤ◌, ◌≤ℤ◌, unsigned_abs, get_or, arith, sym, refl, true≢false}
 use Rattle.std.specs.Prelude.{int_lt}
 use Rattle.std.specs.Ordering.{int_eq}
 use Rattle.std.proofs.lemmas.Int.{ints}
@@ -9,7 +9,8 @@ use Rattle.abuf_raster.specs.declared.point.Point.{Point}
 use Rattle.abuf_raster.specs.Edge.{edge_function, is_left_edge, is_top_edge}
 use Rattle.abuf_raster.specs.Triangle.{Triangle, has_area, positive_order}
 use Rattle.abuf_raster.specs.Coverage.{accepts, all_accept, covers_sample}
-use Rattle.abuf_raster.specs.Depth.{depth_of, depth_value, least_depth, greatest_depth}
+use Rattle.abuf_raster.specs.Depth.{depth_of, depth_value, least_depth, greatest_depth, HasNoKeyAbove}
+use Rattle.abuf_raster.specs.Samples.{sample_place}
 use Rattle.abuf_raster.proofs.Acceptance.{positive_area}
 use Rattle.abuf_raster.proofs.Linear.{E_sum}
 
@@ -94,3 +95,15 @@ weights t s h =
     let one = both_true (accepts t.a t.b s && accepts t.b t.c s) (accepts t.c t.a s) h in
     let two = both_true (accepts t.a t.b s) (accepts t.b t.c s) one.0 in
     (accepts_not_negative t.b t.c s two.1, accepts_not_negative t.c t.a s one.1, accepts_not_negative t.a t.b s two.0)
+
+-- A whole number between two natural numbers is at most the greater.
+abs_at_most : (v : ℤ) (low high : ℕ) → pos low ≤ℤ v → v ≤ℤ pos high → unsigned_abs v ≤ high
+abs_at_most (pos n) low high l h = omega (arith, ints)
+abs_at_most (negsuc n) low high l h = absurd l.le
+
+-- So no key is above the greatest depth value.
+pub no_key_above : (t : Triangle) → HasNoKeyAbove t (greatest_depth t)
+no_key_above t offsets x y k h =
+    let s = sample_place (get_or offsets k (pos 0, pos 0)) x y in
+    let between = key_law_holds t s h in
+    abs_at_most (depth_value t s) (least_depth t) (greatest_depth t) between.0 between.1
