@@ -2,11 +2,11 @@
 use Rattle.std.proofs.Common.{◌≡◌, ℕ, ◌<◌, ◌≤◌, ◌⊎◌, inl, inr, true, false, List, [], ◌∷◌, ◌++◌, map, ℤ, refl, ap, ◌∙◌, sym, arith}
 use Rattle.std.specs.List.{filter}
 use Rattle.std.proofs.lemmas.Bool.{lt-ltb, le-ltb, cases_lt}
-use Rattle.std.proofs.lemmas.List.Elements.{filter-append}
+use Rattle.std.proofs.lemmas.List.Elements.{filter-append, Contains-append_left}
 use Rattle.abuf_num.specs.declared.plain.Paint.{Paint}
 use Rattle.std.proofs.lemmas.List.{map-append, append-nil}
 use Rattle.abuf_raster.specs.Triangle.{Triangle}
-use Rattle.abuf_resolve.specs.Words.{has_sample, hides, reaches, sample_word, sample_words, AreSeen}
+use Rattle.abuf_resolve.specs.Words.{has_sample, hides, reaches, sample_word, sample_words, AreSeen, StillSeen}
 
 -- To keep what reaches one number and then what reaches a greater one is to keep what reaches the greater.
 reaches_greater : (m n : ℕ) (xs : List ℕ) → m ≤ n → filter (reaches n) (filter (reaches m) xs) ≡ filter (reaches n) xs
@@ -26,6 +26,14 @@ raised paints all seen least word above hiding is =
     ∙ (ap (λ (ys : List ℕ). ys ++ filter (reaches word) (word ∷ []))
     (sym (reaches_greater least word seen above) ∙ (ap (filter (reaches word)) is.same ∙ reaches_greater least word all above))
     ∙ sym (filter-append (reaches word) all (word ∷ [])))
+
+-- A word below the least is hidden: those that are seen without it are seen with it.
+pub still_seen : (paints : List Paint) (word : ℕ) (seen : List ℕ) (least : ℕ) → word < least → StillSeen paints word seen seen least least
+still_seen paints word seen least below all is = record {
+  same = is.same ∙ sym (filter-append (reaches least) all (word ∷ []) ∙ rw (lt-ltb word least below) (append-nil (filter (reaches least) all)));
+  there = λ some. Contains-append_left all (word ∷ []) least (is.there some);
+  hiding = is.hiding;
+}
 
 module _ (os : List (ℤ × ℤ)) (tris : List Triangle) (x y k : ℕ) where
   -- The words of a sample, with one fragment more that has it,

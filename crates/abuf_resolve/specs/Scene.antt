@@ -9,7 +9,7 @@ use Rattle.abuf_resolve.specs.declared.bounded.Bounded.{Bounded}
 use Rattle.abuf_resolve.specs.declared.scene.Pixel.{Pixel}
 use Rattle.abuf_resolve.specs.declared.scene.Scene.{Scene}
 use Rattle.abuf_resolve.specs.Bounded.{IsBounded}
-use Rattle.abuf_resolve.specs.Words.{frame_sums, pixel_sum, place_sum, sample_of, sample_words, with_fragment, AreSeen, IsFragmentAt}
+use Rattle.abuf_resolve.specs.Words.{frame_sums, pixel_sum, place_sum, sample_of, sample_word, sample_words, with_fragment, AreSeen, IsFragmentAt, StillSeen}
 
 -- ---- one pixel
 -- The word is one of a fragment of the scene in this pixel.
@@ -36,6 +36,11 @@ SameColours scene at xs ys = (k : ℕ) → k < length (offsets_of scene.pattern)
 abbrev pub AreSeenAt : Scene → Pixel → ℕ → List ℕ → List ℕ → ℕ → Type 0
 AreSeenAt scene at k words seen least =
     AreSeen scene.paints.now (sample_words (offsets_of scene.pattern) scene.planes at.x at.y k words) seen least
+
+-- With this word of the pixel more, which has sample k, those are seen there.
+abbrev pub IsStillSeenAt : Scene → Pixel → ℕ → ℕ → List ℕ → List ℕ → ℕ → ℕ → Type 0
+IsStillSeenAt scene at k word old new least next =
+    StillSeen scene.paints.now (sample_word (offsets_of scene.pattern) scene.planes at.x at.y k word) old new least next
 
 -- In each sample the words stand in order.
 abbrev pub AscendIn : Scene → Pixel → List ℕ → Type 0

@@ -1,12 +1,12 @@
 // From the words of a pixel to its fragments in one sample.
-ghost use Rattle.std.specs.Prelude.{◌≡◌, ◌<◌, ◌≤◌, true, nat_lt, length, IfOk};
+ghost use Rattle.std.specs.Prelude.{◌≡◌, ◌<◌, ◌≤◌, ◌^◌, true, nat_lt, length, IfOk};
 ghost use Rattle.std.specs.List.{All};
 ghost use Rattle.std.specs.List.Sorted.{IsNonDecreasing};
 ghost use Rattle.abuf_num.specs.declared.limits.TheConstants.{MAX_PRIMITIVES};
 ghost use Rattle.abuf_raster.specs.Packing.{unpacked};
 ghost use Rattle.abuf_raster.specs.Samples.{offsets_of};
 ghost use Rattle.abuf_resolve.specs.Order.{in_order};
-ghost use Rattle.abuf_resolve.specs.Scene.{AreSeenAt, IsFragmentOf};
+ghost use Rattle.abuf_resolve.specs.Scene.{AreSeenAt, IsFragmentOf, IsStillSeenAt};
 ghost use Rattle.abuf_resolve.specs.Words.{sample_word, sample_words, has_sample, IsDepthWord, IsFragmentAt};
 
 use crate::order::{push_seen, put_in_order};
@@ -30,6 +30,15 @@ pub(crate) fn samples_of(word: u64) -> u32
     (word & 0xffff) as u32
 }
 
+/// The number of the word's primitive.
+#[inline(always)]
+fn prim_of(word: u64) -> u32
+    requires { word < 2 ^ 40 }
+    ensures { result ≡ (unpacked word).prim }
+{
+    (word >> 16) as u32
+}
+
 impl<'a> Planes<'a> {
     /// The fragment of this word in sample k, which it has, as a word: its depth key there times 2^24, plus its primitive number.
     #[inline(always)]
@@ -41,7 +50,7 @@ impl<'a> Planes<'a> {
         ensures value { result ≡ sample_word (offsets_of pattern) self.now at.x at.y k word }
         ensures fits { IsDepthWord (length self.now) result }
     {
-        let prim = (word >> 16) as u32;
+        let prim = prim_of(word);
         let depth = self.key(prim, at, pattern, k);
         u64::from(depth) * (1 << 24) + u64::from(prim)
     }
@@ -96,6 +105,30 @@ impl<'a> Planes<'a> {
 }
 
 impl<'a, 'b> Scene<'a, 'b> {
+    /// Puts the word of a fragment in sample k last, which it has, unless it is known to be hidden there, and answers the least that is
+    /// then seen. The key isn't worked out where no key of the triangle reaches the least.
+    #[inline(always)]
+    fn push_fragment(
+        &self,
+        keys: &mut Vec<u64>,
+        least: u64,
+        word: u64,
+        at: Pixel,
+        k: u32,
+    ) -> Result<u64, NoMemory>
+        requires sample { k < length (offsets_of self.now.pattern) }
+        requires word { IsFragmentOf self.now at word }
+        requires has { has_sample k word ≡ true }
+        ensures words { All (IsDepthWord (length self.now.paints.now)) keys.old.items → All (IsDepthWord (length self.now.paints.now)) keys.new.items }
+        ensures seen { IfOk result (IsStillSeenAt self.now at k word keys.old.items keys.new.items least) }
+    {
+        if self.planes.greatest_word(prim_of(word)) < least {
+            return Ok(least);
+        }
+        let key = self.planes.sample_word(word, at, self.pattern, k);
+        push_seen(keys, least, key, self.paints)
+    }
+
     /// The fragments that have sample k and may be seen there, as words of that sample, in the order of the list, with the least
     /// that is seen: what an opaque one hides, which stands before it in the list, isn't even kept.
     pub(crate) fn gather_seen(
@@ -114,8 +147,7 @@ impl<'a, 'b> Scene<'a, 'b> {
         let mut least = 0;
         for word in list {
             if has_sample(*word, k) {
-                let key = self.planes.sample_word(*word, at, self.pattern, k);
-                let next = push_seen(keys, least, key, self.paints)?;
+                let next = self.push_fragment(keys, least, *word, at, k)?;
                 least = next;
             }
         }

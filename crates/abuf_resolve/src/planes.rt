@@ -1,15 +1,17 @@
 // The triangles, and what their depth keys take.
-ghost use Rattle.std.specs.Prelude.{◌≡◌, ◌<◌, ◌≤◌, true, length, IfOk};
-ghost use Rattle.abuf_num.specs.declared.limits.TheConstants.{MAX_DEPTH, MAX_THREADS};
+ghost use Rattle.std.specs.Prelude.{◌≡◌, ◌<◌, ◌≤◌, ◌++◌, true, length, List, IfOk};
+ghost use Rattle.abuf_num.specs.declared.limits.TheConstants.{MAX_DEPTH, MAX_PRIMITIVES, MAX_THREADS};
 ghost use Rattle.abuf_raster.specs.Samples.{offsets_of};
 ghost use Rattle.abuf_raster.specs.Coverage.{covers};
-ghost use Rattle.abuf_raster.specs.Depth.{depth_key};
+ghost use Rattle.abuf_raster.specs.Depth.{depth_key, HasNoKeyAbove};
+ghost use Rattle.abuf_raster.specs.Triangle.{Triangle};
 ghost use Rattle.abuf_resolve.specs.Colour.{triangle_at};
-ghost use Rattle.abuf_resolve.specs.Keys.{NoKeyBelow, NoKeyAbove};
+ghost use Rattle.abuf_resolve.specs.Keys.{NoKeyBelow, NoKeyAbove, NoWordAbove};
+ghost use Rattle.abuf_resolve.specs.Made.{IsOf};
 ghost use denote.Param.Send.{IsSync};
 
 use crate::scene::Pixel;
-use abuf_num::{List, NoMemory};
+use abuf_num::NoMemory;
 use abuf_raster::{DepthPlane, Pattern, ScreenTri};
 use std::alloc::Global;
 use std::marker::Model;
@@ -18,24 +20,34 @@ use std::thread::{Threads, join};
 /// Fewer triangles are made ready sooner by one thread.
 const FEW: usize = 8192;
 
+/// What was worked out of triangles, in their order.
+#[derive(Drop)]
+pub(crate) struct Made {
+    pub(crate) planes: Vec<DepthPlane>,
+    /// The greatest depth value of each. They lie apart from the planes, since they are asked for far more often: in the caches there is
+    /// room for many more of them.
+    pub(crate) greatest: Vec<u32>,
+}
+
 /// Triangles whose depth keys are asked for. What a key takes is worked out once a triangle, or for each key where few are asked for.
 /// Clauses see the list of the triangles.
 #[derive(Drop)]
 pub struct Planes<'a> {
     tris: &'a [ScreenTri],
-    /// None where each is made when it is asked for.
-    made: Option<List<DepthPlane>>,
+    /// None where it is worked out when it is asked for.
+    made: Option<Made>,
 }
 
 impl<'a> Model for Planes<'a> {
-    ghost use Rattle.std.specs.Prelude.{◌≡◌, List, IfSome};
+    ghost use Rattle.std.specs.Prelude.{List, IfSome};
     ghost use Rattle.abuf_raster.specs.Triangle.{Triangle};
+    ghost use Rattle.abuf_resolve.specs.Made.{IsOf};
 
     ghost Value = { List Triangle };
 
     ghost view = { λ p. p.tris.now };
 
-    ghost invariant = { λ p. IfSome p.made (λ planes. planes ≡ p.tris.now) };
+    ghost invariant = { λ p. IfSome p.made (IsOf p.tris.now) };
 }
 
 /// What depth keys lie between.
@@ -45,46 +57,59 @@ pub(crate) struct Bounds {
     pub(crate) high: u32,
 }
 
-/// One plane for each triangle.
-fn planes_of(alloc: Global, tris: &[ScreenTri]) -> Result<Vec<DepthPlane>, NoMemory>
-    ensures { IfOk result (λ planes. planes.items ≡ tris.now) }
+/// What is worked out of the triangles.
+fn made_of(alloc: Global, tris: &[ScreenTri]) -> Result<Made, NoMemory>
+    ensures { IfOk result (IsOf tris.now) }
 {
     let mut planes = Vec::with_capacity(alloc, tris.len())?;
+    let mut greatest = Vec::with_capacity(alloc, tris.len())?;
     for t in tris {
         planes.push(DepthPlane::new(t))?;
+        greatest.push(t.greatest_depth())?;
     }
-    Ok(planes)
+    Ok(Made { planes, greatest })
 }
 
-/// The same, by this number of threads.
-fn planes_by<R: Threads + Sync>(
+/// What was worked out of some triangles, and of others that follow them.
+fn joined(first: Made, others: Made) -> Result<Made, NoMemory>
+    ensures { IfOk result (λ made. (front back : List Triangle) → IsOf front first → IsOf back others → IsOf (front ++ back) made) }
+{
+    let Made {
+        mut planes,
+        mut greatest,
+    } = first;
+    let mut more = others;
+    planes.append(&mut more.planes)?;
+    greatest.append(&mut more.greatest)?;
+    Ok(Made { planes, greatest })
+}
+
+/// The same as `made_of`, by this number of threads.
+fn made_by<R: Threads + Sync>(
     rt: &R,
     alloc: Global,
     tris: &[ScreenTri],
     threads: u32,
-) -> Result<Vec<DepthPlane>, NoMemory>
+) -> Result<Made, NoMemory>
     requires { 1 ≤ threads }
-    ensures { IfOk result (λ planes. planes.items ≡ tris.now) }
+    ensures { IfOk result (IsOf tris.now) }
 {
     if threads == 1 || tris.len() < FEW {
-        return planes_of(alloc, tris);
+        return made_of(alloc, tris);
     }
     let left = threads / 2;
     let right = threads - left;
     let (front, back) = tris.split_at(tris.len() / 2);
-    let first = || -> Result<Vec<DepthPlane>, NoMemory>
+    let first = || -> Result<Made, NoMemory>
         requires { IsSync R.row × (1 ≤ left) }
-        ensures { IfOk result (λ planes. planes.items ≡ front.entry.now) }
-    { planes_by(rt, alloc, front, left) };
-    let others = || -> Result<Vec<DepthPlane>, NoMemory>
+        ensures { IfOk result (IsOf front.entry.now) }
+    { made_by(rt, alloc, front, left) };
+    let others = || -> Result<Made, NoMemory>
         requires { IsSync R.row × (1 ≤ right) }
-        ensures { IfOk result (λ planes. planes.items ≡ back.entry.now) }
-    { planes_by(rt, alloc, back, right) };
+        ensures { IfOk result (IsOf back.entry.now) }
+    { made_by(rt, alloc, back, right) };
     let (first, others) = join(rt, first, others);
-    let mut planes = first?;
-    let mut rest = others?;
-    planes.append(&mut rest)?;
-    Ok(planes)
+    joined(first?, others?)
 }
 
 impl<'a> Planes<'a> {
@@ -92,10 +117,10 @@ impl<'a> Planes<'a> {
     pub fn new(alloc: Global, tris: &'a [ScreenTri]) -> Result<Planes<'a>, NoMemory>
         ensures { IfOk result (λ planes. planes ≡ tris.now) }
     {
-        let planes = planes_of(alloc, tris)?;
+        let made = made_of(alloc, tris)?;
         Ok(Planes {
             tris,
-            made: Some(List::from_vec(planes)),
+            made: Some(made),
         })
     }
 
@@ -109,10 +134,10 @@ impl<'a> Planes<'a> {
         requires { (1 ≤ threads) × (threads ≤ MAX_THREADS) }
         ensures { IfOk result (λ planes. planes ≡ tris.now) }
     {
-        let planes = planes_by(rt, alloc, tris, threads)?;
+        let made = made_by(rt, alloc, tris, threads)?;
         Ok(Planes {
             tris,
-            made: Some(List::from_vec(planes)),
+            made: Some(made),
         })
     }
 
@@ -151,9 +176,33 @@ impl<'a> Planes<'a> {
     {
         let t = &self.triangles()[prim as usize];
         match &self.made {
-            Some(planes) => planes.as_slice()[prim as usize].key(t, at.x, at.y, pattern, k),
+            Some(made) => made.planes[prim as usize].key(t, at.x, at.y, pattern, k),
             None => Planes::key_on_demand(t, at, pattern, k),
         }
+    }
+
+    /// The greatest depth value of triangle `prim`, which none of its keys passes.
+    #[inline(always)]
+    fn greatest_depth(&self, prim: u32) -> u32
+        requires prim { prim < length self.now }
+        ensures keys { HasNoKeyAbove (triangle_at self.now prim) result }
+        ensures small { result ≤ MAX_DEPTH }
+    {
+        match &self.made {
+            Some(made) => made.greatest[prim as usize],
+            None => self.triangles()[prim as usize].greatest_depth(),
+        }
+    }
+
+    /// At least as much as the word of triangle `prim` in any sample that it covers.
+    #[inline(always)]
+    pub(crate) fn greatest_word(&self, prim: u32) -> u64
+        requires few { length self.now ≤ MAX_PRIMITIVES }
+        requires prim { prim < length self.now }
+        ensures { NoWordAbove self.now prim result }
+    {
+        let depth = self.greatest_depth(prim);
+        u64::from(depth) * (1 << 24) + u64::from(prim)
     }
 
     /// Bounds of the depth keys of triangle `prim` at the samples of a pixel that it covers.
@@ -166,7 +215,7 @@ impl<'a> Planes<'a> {
     {
         let t = &self.triangles()[prim as usize];
         let (low, high) = match &self.made {
-            Some(planes) => planes.as_slice()[prim as usize].bounds(t, at.x, at.y, pattern),
+            Some(made) => made.planes[prim as usize].bounds(t, at.x, at.y, pattern),
             None => DepthPlane::new(t).bounds(t, at.x, at.y, pattern),
         };
         Bounds { low, high }

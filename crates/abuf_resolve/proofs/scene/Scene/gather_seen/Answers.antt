@@ -16,7 +16,7 @@ loop-word-preserved c =
     let more : take (i + 1) list ≡ take i list ++ get_or list i 0 ∷ [] = take_more list i 0 (omega arith) in
     elim c.if-has_sample.branch [
       | then-has_sample+in_ok-next w ↦ record {
-        seen = rw (w.keys-is, w.least-is, more, with_one os scene.planes at.x at.y k (take i list) (get_or list i 0) (sym c.has_sample.ensures ∙ w.if-has_sample.true), ← w.sample_word-key.ensures.value)
+        seen = rw (w.keys-is, w.least-is, more, with_one os scene.planes at.x at.y k (take i list) (get_or list i 0) (sym c.has_sample.ensures ∙ w.if-has_sample.true))
             (w.in_ok-next.ensures.seen _ c.loop-word.invariant.seen);
         fit = rw w.keys-is (w.in_ok-next.ensures.words c.loop-word.invariant.fit);
       }
