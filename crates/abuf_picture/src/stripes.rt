@@ -16,7 +16,7 @@ const FEWEST_ROWS: u32 = 2;
 const STRIPES_A_THREAD: u32 = 8;
 
 /// About how many triangles a thread asks whether they meet its stripes.
-const ASKED_BY_THREAD: u32 = 1048576;
+const ASKED_BY_THREAD: u32 = 4194304;
 
 /// In how many stripes a region of this height is drawn by so many threads: enough that each is small and that each thread has
 /// some, but none of a row alone, and not so many that all triangles would be asked too often.
