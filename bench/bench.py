@@ -29,7 +29,6 @@ import shares
 
 TOP = os.path.dirname(os.path.dirname(os.path.abspath(__file__)))
 PROGRAM = os.path.join(TOP, "crates", "abuf", "out", "abuf")
-LARGE_PAGES = "glibc.malloc.hugetlb=1"
 
 
 class Failed(Exception):
@@ -48,15 +47,21 @@ class Run(NamedTuple):
 # ---- running
 
 
+def launched():
+    """The tunables of the C library with which ./abuf starts the program."""
+    with open(os.path.join(TOP, "abuf")) as file:
+        return re.search(r'GLIBC_TUNABLES=([^}"]*)', file.read()).group(1)
+
+
 def words_of(task, threads, nodes=None):
     return [*shlex.split(task.words), "--nodes", str(nodes or task.nodes), "--threads", str(threads)]
 
 
 def environment(given):
-    """The variables of the programs, in which only the option tells whether large pages are asked for."""
+    """The variables of the programs, in which only the option tells how the C library takes memory."""
     found = {name: value for name, value in os.environ.items() if name != "GLIBC_TUNABLES"}
     if given.pages == "large":
-        found["GLIBC_TUNABLES"] = LARGE_PAGES
+        found["GLIBC_TUNABLES"] = launched()
     return found
 
 
@@ -162,7 +167,7 @@ def processor():
 
 def told(given):
     """The machine and the conditions, and in Markdown the command."""
-    pages = f"large pages asked for (GLIBC_TUNABLES={LARGE_PAGES})" if given.pages == "large" else "pages of the usual size"
+    pages = f"GLIBC_TUNABLES={launched()}" if given.pages == "large" else "pages of the usual size"
     command = f"`bench/bench.py {shlex.join(sys.argv[1:])}`: " if given.table else ""
     return (f"{command}{datetime.date.today()}, {processor()}, {os.cpu_count()} processors, "
             f"load {os.getloadavg()[0]:.1f} at the start; {pages}; best of {given.rounds}")
@@ -296,7 +301,7 @@ def read_words():
                      help="numbers of threads for the scenes (1,4); a series and a text take the first, and shares are of 1")
     ask.add_argument("--rounds", type=int, default=5, help="rounds, of which the best counts (5)")
     ask.add_argument("--pages", choices=["large", "usual"], default="large",
-                     help=f"large: the programs are started with GLIBC_TUNABLES={LARGE_PAGES}, as ./abuf starts abuf (large)")
+                     help=f"large: the programs are started with GLIBC_TUNABLES={launched()}, as ./abuf starts abuf (large)")
     ask.add_argument("--bytes", type=int, default=8388608, help="the size of a text for --reading (8388608)")
     ask.add_argument("--table", action="store_true", help="print Markdown")
     given = ask.parse_args()

@@ -13,7 +13,6 @@ into N pieces besides, drawn by N processes at a time, each on one thread. READM
 import argparse
 import datetime
 import os
-import re
 import shlex
 import subprocess
 import sys
@@ -60,12 +59,6 @@ class Cost(NamedTuple):
     seconds: float
     processor: float
     peak: int
-
-
-def launched():
-    """The tunables of the C library with which ./abuf starts the program."""
-    with open(os.path.join(bench.TOP, "abuf")) as file:
-        return re.search(r'GLIBC_TUNABLES=([^}"]*)', file.read()).group(1)
 
 
 def environment(tunables):
@@ -193,7 +186,7 @@ def read_words():
                      help="numbers of threads (1,4)")
     ask.add_argument("--pieces", metavar="N", type=int, default=0, help="and the path in N pieces at once")
     ask.add_argument("--rounds", type=int, default=3, help="rounds, of which the best counts (3)")
-    ask.add_argument("--tunables", metavar="TEXT", default=launched(),
+    ask.add_argument("--tunables", metavar="TEXT", default=bench.launched(),
                      help="all programs are started with GLIBC_TUNABLES=TEXT (that of ./abuf)")
     ask.add_argument("--table", action="store_true", help="print Markdown")
     given = ask.parse_args()

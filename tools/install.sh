@@ -12,8 +12,9 @@ cp "$top/crates/abuf/out/abuf" "$root/libexec/abuf"
 cp "$top/docs/abuf.1" "$root/share/man/man1/abuf.1"
 cat >"$root/bin/abuf" <<EOF
 #!/bin/sh
-# Asks the C library for large pages, which the kernel clears sooner, and to keep freed blocks. What the user has set stands.
-: "\${GLIBC_TUNABLES=glibc.malloc.hugetlb=1:glibc.malloc.mmap_threshold=33554432:glibc.malloc.trim_threshold=134217728}"
+# Asks the C library for large pages, which the kernel clears sooner, for all threads, and to keep freed blocks. What the user has
+# set stands.
+: "\${GLIBC_TUNABLES=glibc.malloc.hugetlb=1:glibc.malloc.mmap_threshold=33554432:glibc.malloc.trim_threshold=134217728:glibc.malloc.arena_max=1}"
 export GLIBC_TUNABLES
 exec "$prefix/libexec/abuf" "\$@"
 EOF
