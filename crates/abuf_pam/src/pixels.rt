@@ -36,15 +36,17 @@ pub fn pixel_size(maxval: u32) -> usize
     if maxval == 255 { 3 } else { 6 }
 }
 
-// Puts a pixel of three bytes last.
+// Puts a pixel of three bytes last, by one call, which asks for room once.
 fn push_narrow(out: &mut Vec<u8>, samples: u32, sum: &PixelSum) -> Result<(), NoMemory>
     requires samples { (1 ≤ samples) × (samples ≤ 16) }
     requires sums { HasSums samples sum.now }
     ensures { OnOk result (out.new.items ≡ out.old.items ++ pixel 255 samples sum.now) }
 {
-    out.push(narrow(samples, sum.channels[0]))?;
-    out.push(narrow(samples, sum.channels[1]))?;
-    out.push(narrow(samples, sum.channels[2]))?;
+    out.extend_from_slice(&[
+        narrow(samples, sum.channels[0]),
+        narrow(samples, sum.channels[1]),
+        narrow(samples, sum.channels[2]),
+    ])?;
     Ok(())
 }
 
