@@ -11,25 +11,25 @@ const MOST_STRIPES: u32 = 64;
 /// About the fewest rows of a stripe. A triangle is begun anew in each stripe that it meets.
 const FEWEST_ROWS: u32 = 2;
 
-/// About how many stripes a thread draws, so that all end at about the same time, and twice as many where it is alone, so that each
-/// is small.
-const STRIPES_A_THREAD: u32 = 8;
+/// So many stripes are drawn of one triangle, and of n triangles so many over the root of n: the more stripes, the smaller are their
+/// tables, which then lie in the caches, but each asks all triangles whether they meet it, and begins those that do anew.
+const STRIPES_OVER_ROOT: u32 = 6144;
 
-/// About how many triangles a thread asks whether they meet its stripes.
-const ASKED_BY_THREAD: u32 = 4194304;
+/// The fewest stripes for each thread, so that all end at about the same time.
+const STRIPES_A_THREAD: u32 = 2;
 
-/// In how many stripes a region of this height is drawn by so many threads: enough that each is small and that each thread has
-/// some, but none of a row alone, and not so many that all triangles would be asked too often.
+/// In how many stripes a region of this height is drawn by so many threads: none of a row alone, and not so many that all triangles
+/// would be asked too often.
 pub(crate) fn stripe_count(height: u32, triangles: usize, threads: u32) -> u32
     requires some { 1 ≤ height }
     requires few { triangles ≤ MAX_PRIMITIVES }
     requires threads { threads ≤ MAX_THREADS }
     ensures { (1 ≤ result) × (result ≤ height) }
 {
-    let by_triangles = ASKED_BY_THREAD * threads / (triangles as u32 + 1);
-    (height / FEWEST_ROWS)
-        .min(STRIPES_A_THREAD * (threads + 1))
-        .min(by_triangles)
+    let root = (triangles as u32).isqrt().max(1);
+    (STRIPES_OVER_ROOT / root)
+        .max(STRIPES_A_THREAD * threads)
+        .min(height / FEWEST_ROWS)
         .clamp(1, MOST_STRIPES.min(height))
 }
 
