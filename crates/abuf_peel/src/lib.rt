@@ -16,6 +16,7 @@ mod offering;
 mod peeling;
 mod rows;
 mod scene;
+mod shares;
 mod sums;
 mod taking;
 #[cfg(test)]

@@ -8,9 +8,9 @@ ghost use Rattle.abuf_resolve.specs.Sums.{region_sums, IsSmall};
 ghost use Rattle.abuf_peel.specs.Rows.{AreParts, AreSmall, HaveRows, image_sums, joined, row_in};
 
 use crate::scene::Scene;
+use crate::shares::Share;
 use abuf_num::{List, NoMemory, PixelSum};
 use abuf_raster::Pattern;
-use abuf_resolve::Share;
 use abuf_view::Projected;
 use std::alloc::Global;
 use std::thread::{Threads, map_indices};

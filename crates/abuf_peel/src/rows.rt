@@ -10,9 +10,9 @@ ghost use Rattle.abuf_peel.specs.Rows.{AreRows, AreSmall, HaveAllIn, HaveBlock, 
 use crate::layer::Layer;
 use crate::members::numbers;
 use crate::scene::Scene;
+use crate::shares::Share;
 use abuf_num::{List, NoMemory, PixelSum};
 use abuf_raster::{Region, region_law};
-use abuf_resolve::Share;
 use std::alloc::Global;
 
 /// How many of so many rows a worker has: row after row in turn, since what is drawn often lies in the middle of the image.

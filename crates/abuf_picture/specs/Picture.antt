@@ -7,7 +7,7 @@ use Rattle.abuf_raster.specs.Hits.{all_fragments}
 use Rattle.abuf_raster.specs.Samples.{offsets_of}
 use Rattle.abuf_raster.specs.Triangle.{Triangle}
 use Rattle.abuf_resolve.specs.Laws.{counts}
-use Rattle.abuf_resolve.specs.Shares.{greatest}
+use Rattle.abuf_resolve.specs.Lengths.{greatest}
 use Rattle.abuf_resolve.specs.Words.{AreListsOf}
 
 -- The fragments of all triangles in a region: each the place of its pixel, and its packed word.

@@ -1,7 +1,6 @@
 // The sums of a closed frame.
 ghost use Rattle.std.specs.Prelude.{◌≡◌, ◌≤◌, length, IfOk};
 ghost use Rattle.std.specs.List.{All};
-ghost use Rattle.abuf_num.specs.declared.limits.TheConstants.{MAX_THREADS};
 ghost use Rattle.abuf_raster.specs.Samples.{offsets_of};
 ghost use Rattle.abuf_resolve.specs.Sums.{IsSmall, region_sums};
 ghost use Rattle.abuf_picture.specs.Picture.{IsFrameOf, longest};
@@ -16,21 +15,18 @@ use abuf_resolve::{Planes, Resolved, Scene, resolve_counted};
 use std::alloc::Global;
 use std::thread::Threads;
 
-/// The triangles for the keys of so many fragments: made ready by this number of threads, unless most of them have none.
-fn planes_for<'a, R: Threads + Sync>(
-    rt: &R,
+/// The triangles for the keys of so many fragments: made ready, unless most of them have none.
+fn planes_for<'a>(
     alloc: Global,
     triangles: &'a [ScreenTri],
     fragments: u64,
-    threads: u32,
 ) -> Result<Planes<'a>, NoMemory>
-    requires { (1 ≤ threads) × (threads ≤ MAX_THREADS) }
     ensures { IfOk result (λ planes. planes ≡ triangles.now) }
 {
     if fragments < triangles.len() as u64 {
         Ok(Planes::on_demand(triangles))
     } else {
-        Planes::new_on(rt, alloc, triangles, threads)
+        Planes::new(alloc, triangles)
     }
 }
 
@@ -65,7 +61,7 @@ pub fn resolve_drawn<R: Threads + Sync>(
     sums_law(closed, triangles, paints, pattern, background, region);
     lengths_law(closed, triangles, pattern, region);
     let scene = Scene {
-        planes: planes_for(rt, alloc, triangles, closed.fragments(), threads)?,
+        planes: planes_for(alloc, triangles, closed.fragments())?,
         paints,
         pattern,
         background,

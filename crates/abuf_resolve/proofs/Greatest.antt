@@ -1,6 +1,6 @@
 -- The greatest of numbers.
 use Rattle.std.proofs.Common.{◌≡◌, ℕ, zero, suc, ◌<◌, ◌≤◌, max, List, [], ◌∷◌, ◌++◌, length, get_or, arith}
-use Rattle.abuf_resolve.specs.Shares.{greatest}
+use Rattle.abuf_resolve.specs.Lengths.{greatest}
 
 -- None is above it,
 pub le_greatest : (ns : List ℕ) (i d : ℕ) → i < length ns → get_or ns i d ≤ greatest ns
@@ -17,3 +17,8 @@ greatest_le (n ∷ ns) m h = omega (arith, h 0 (omega arith), greatest_le ns m (
 pub greatest_more : (ns : List ℕ) (m : ℕ) → greatest (ns ++ m ∷ []) ≡ max (greatest ns) m
 greatest_more [] m = omega arith
 greatest_more (n ∷ ns) m = omega (arith, greatest_more ns m)
+
+-- Of the numbers of two lists.
+pub greatest_append : (ns ms : List ℕ) → greatest (ns ++ ms) ≡ max (greatest ns) (greatest ms)
+greatest_append [] ms = omega arith
+greatest_append (n ∷ ns) ms = omega (arith, greatest_append ns ms)

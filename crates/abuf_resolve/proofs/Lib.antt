@@ -3,11 +3,9 @@ pub mod Orders
 pub mod Words
 pub mod Hits
 pub mod Lists
-pub mod Rounds
+pub mod Places
 pub mod Greatest
 pub mod Parts
-pub mod Blocks
-pub mod Joined
 pub mod Totals
 pub mod Fits
 pub mod Present

@@ -1,8 +1,8 @@
--- What workers have of their pixels.
+-- What was summed of some pixels.
 use Rattle.std.proofs.Common.{◌≡◌, ℕ, max, List, [], ◌∷◌, ◌++◌, length, slice_index_or, ap, ap₂, ◌∙◌, sym, subst}
 use Rattle.std.specs.List.{All}
 use Rattle.std.proofs.lemmas.List.{map-append}
-use Rattle.std.proofs.lemmas.List.Elements.{All-push}
+use Rattle.std.proofs.lemmas.List.Elements.{All-append, All-push}
 use Rattle.abuf_num.specs.declared.plain.PixelSum.{PixelSum}
 use Rattle.abuf_raster.specs.Region.{Region}
 use Rattle.abuf_raster.specs.Samples.{offsets_of}
@@ -10,9 +10,9 @@ use Rattle.abuf_resolve.specs.declared.runs.Resolved.{Resolved}
 use Rattle.abuf_resolve.specs.declared.scene.Scene.{Scene}
 use Rattle.abuf_resolve.specs.Parts.{IsPart}
 use Rattle.abuf_resolve.specs.Scene.{sum_in}
-use Rattle.abuf_resolve.specs.Shares.{greatest, lengths_at}
+use Rattle.abuf_resolve.specs.Lengths.{greatest, lengths_at}
 use Rattle.abuf_resolve.specs.Sums.{IsSmall}
-use Rattle.abuf_resolve.proofs.Greatest.{greatest_more}
+use Rattle.abuf_resolve.proofs.Greatest.{greatest_append, greatest_more}
 
 -- With one pixel more.
 pub part_more : (scene : Scene) (r : Region) (lists : List (List ℕ)) (places : List ℕ) (p : ℕ) (old new : Resolved) (sum : PixelSum) (n : ℕ)
@@ -28,4 +28,19 @@ part_more scene r lists places p old new sum n is pushed most here count small =
       ∙ (ap₂ max is.longest count
       ∙ (sym (greatest_more (lengths_at lists places) (length (slice_index_or lists p [])))
       ∙ ap greatest (sym (map-append (λ place. length (slice_index_or lists place [])) places (p ∷ [])))));
+}
+
+-- With those of others, which follow.
+pub part_join : (scene : Scene) (r : Region) (lists : List (List ℕ)) (front back : List ℕ) (a b new : Resolved)
+    → IsPart scene r lists front a → IsPart scene r lists back b → new.sums ≡ a.sums ++ b.sums → new.longest ≡ max a.longest b.longest
+    → IsPart scene r lists (front ++ back) new
+part_join scene r lists front back a b new first others joined most = record {
+  sums = joined
+      ∙ (ap₂ (λ (xs ys : List PixelSum). xs ++ ys) first.sums others.sums
+      ∙ sym (map-append (sum_in scene r lists) front back));
+  small = subst (All (IsSmall (length (offsets_of scene.pattern)))) (sym joined) (All-append (IsSmall (length (offsets_of scene.pattern))) a.sums b.sums first.small others.small);
+  longest = most
+      ∙ (ap₂ max first.longest others.longest
+      ∙ (sym (greatest_append (lengths_at lists front) (lengths_at lists back))
+      ∙ ap greatest (sym (map-append (λ place. length (slice_index_or lists place [])) front back))));
 }

@@ -23,7 +23,6 @@ mod pixels;
 mod planes;
 mod runs;
 mod scene;
-mod shares;
 mod tally;
 #[cfg(test)]
 mod tests;
@@ -34,5 +33,4 @@ pub use pixels::plus;
 pub use planes::Planes;
 pub use runs::Resolved;
 pub use scene::{Pixel, Scene};
-pub use shares::Share;
 pub use threads::{resolve, resolve_counted};

@@ -1,24 +1,18 @@
 // The triangles, and what their depth keys take.
-ghost use Rattle.std.specs.Prelude.{◌≡◌, ◌<◌, ◌≤◌, ◌++◌, true, length, List, IfOk};
-ghost use Rattle.abuf_num.specs.declared.limits.TheConstants.{MAX_DEPTH, MAX_PRIMITIVES, MAX_THREADS};
+ghost use Rattle.std.specs.Prelude.{◌≡◌, ◌<◌, ◌≤◌, true, length, IfOk};
+ghost use Rattle.abuf_num.specs.declared.limits.TheConstants.{MAX_DEPTH, MAX_PRIMITIVES};
 ghost use Rattle.abuf_raster.specs.Samples.{offsets_of};
 ghost use Rattle.abuf_raster.specs.Coverage.{covers};
 ghost use Rattle.abuf_raster.specs.Depth.{depth_key, HasNoKeyAbove};
-ghost use Rattle.abuf_raster.specs.Triangle.{Triangle};
 ghost use Rattle.abuf_resolve.specs.Colour.{triangle_at};
 ghost use Rattle.abuf_resolve.specs.Keys.{NoKeyBelow, NoKeyAbove, NoWordAbove};
 ghost use Rattle.abuf_resolve.specs.Made.{IsOf};
-ghost use denote.Param.Send.{IsSync};
 
 use crate::scene::Pixel;
 use abuf_num::NoMemory;
 use abuf_raster::{DepthPlane, Pattern, ScreenTri};
 use std::alloc::Global;
 use std::marker::Model;
-use std::thread::{Threads, join};
-
-/// Fewer triangles are made ready sooner by one thread.
-const FEW: usize = 8192;
 
 /// What was worked out of triangles, in their order.
 #[derive(Drop)]
@@ -70,71 +64,12 @@ fn made_of(alloc: Global, tris: &[ScreenTri]) -> Result<Made, NoMemory>
     Ok(Made { planes, greatest })
 }
 
-/// What was worked out of some triangles, and of others that follow them.
-fn joined(first: Made, others: Made) -> Result<Made, NoMemory>
-    ensures { IfOk result (λ made. (front back : List Triangle) → IsOf front first → IsOf back others → IsOf (front ++ back) made) }
-{
-    let Made {
-        mut planes,
-        mut greatest,
-    } = first;
-    let mut more = others;
-    planes.append(&mut more.planes)?;
-    greatest.append(&mut more.greatest)?;
-    Ok(Made { planes, greatest })
-}
-
-/// The same as `made_of`, by this number of threads.
-fn made_by<R: Threads + Sync>(
-    rt: &R,
-    alloc: Global,
-    tris: &[ScreenTri],
-    threads: u32,
-) -> Result<Made, NoMemory>
-    requires { 1 ≤ threads }
-    ensures { IfOk result (IsOf tris.now) }
-{
-    if threads == 1 || tris.len() < FEW {
-        return made_of(alloc, tris);
-    }
-    let left = threads / 2;
-    let right = threads - left;
-    let (front, back) = tris.split_at(tris.len() / 2);
-    let first = || -> Result<Made, NoMemory>
-        requires { IsSync R.row × (1 ≤ left) }
-        ensures { IfOk result (IsOf front.entry.now) }
-    { made_by(rt, alloc, front, left) };
-    let others = || -> Result<Made, NoMemory>
-        requires { IsSync R.row × (1 ≤ right) }
-        ensures { IfOk result (IsOf back.entry.now) }
-    { made_by(rt, alloc, back, right) };
-    let (first, others) = join(rt, first, others);
-    joined(first?, others?)
-}
-
 impl<'a> Planes<'a> {
     /// The triangles, made ready for many keys of each. An error means that memory ran out.
     pub fn new(alloc: Global, tris: &'a [ScreenTri]) -> Result<Planes<'a>, NoMemory>
         ensures { IfOk result (λ planes. planes ≡ tris.now) }
     {
         let made = made_of(alloc, tris)?;
-        Ok(Planes {
-            tris,
-            made: Some(made),
-        })
-    }
-
-    /// The same, made by 1 to 64 threads.
-    pub fn new_on<R: Threads + Sync>(
-        rt: &R,
-        alloc: Global,
-        tris: &'a [ScreenTri],
-        threads: u32,
-    ) -> Result<Planes<'a>, NoMemory>
-        requires { (1 ≤ threads) × (threads ≤ MAX_THREADS) }
-        ensures { IfOk result (λ planes. planes ≡ tris.now) }
-    {
-        let made = made_by(rt, alloc, tris, threads)?;
         Ok(Planes {
             tris,
             made: Some(made),

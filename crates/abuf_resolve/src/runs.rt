@@ -1,17 +1,15 @@
-// The sums of one worker's pixels.
-ghost use Rattle.std.specs.Prelude.{◌≡◌, ◌-◌, ◌*◌, ◌%◌, ◌++◌, ◌∷◌, [], ◌<◌, ◌≤◌, max, length, map, vec_items, IfOk, OnOk};
-ghost use Rattle.std.specs.List.{All};
+// The sums of pixels that follow each other.
+ghost use Rattle.std.specs.Prelude.{◌≡◌, ◌+◌, ◌-◌, ◌*◌, ◌%◌, ◌++◌, ◌∷◌, [], ◌<◌, ◌≤◌, max, length, map, vec_items, IfOk, OnOk};
+ghost use Rattle.std.specs.List.{range_with_len, All};
 ghost use Rattle.abuf_raster.specs.Samples.{offsets_of};
 ghost use Rattle.abuf_resolve.specs.Laws.{x_at, y_at};
 ghost use Rattle.abuf_resolve.specs.Parts.{HoldEight, IsOffset, IsPart};
 ghost use Rattle.abuf_resolve.specs.Scene.{sum_of_list};
-ghost use Rattle.abuf_resolve.specs.Shares.{places_of};
 ghost use Rattle.abuf_resolve.specs.Sums.{IsSmall};
 ghost use Rattle.abuf_resolve.specs.Words.{AreFragmentLists, IsFragmentAt};
 
 use crate::pixels::Buffers;
 use crate::scene::{Pixel, Scene};
-use crate::shares::Share;
 use abuf_frame::Closed;
 use abuf_num::{List, NoMemory, PixelSum};
 use abuf_raster::Region;
@@ -55,6 +53,13 @@ fn hold_eight(
         closed.copy_eight(place, lists)?;
     }
     Ok(())
+}
+
+/// Pixels that follow each other: so many from this place on.
+#[derive(Clone, Copy)]
+pub(crate) struct Span {
+    pub(crate) from: u32,
+    pub(crate) count: u32,
 }
 
 /// How far a pixel lies from the corner of its region.
@@ -113,21 +118,22 @@ impl<'a, 'b> Scene<'a, 'b> {
         self.pixel_sum(buffers, list, at)
     }
 
-    /// The sums of a worker's pixels, and the length of the longest of their lists.
+    /// The sums of these pixels, and the length of the longest of their lists.
     pub(crate) fn part(
         &self,
         alloc: Global,
         closed: &Closed,
         region: Region,
-        share: Share,
+        span: Span,
     ) -> Result<Resolved, NoMemory>
         requires pixels { length closed.now.lists ≡ region.w * region.h }
+        requires held { closed.now.pixels ≡ region.w * region.h }
+        requires span { span.from + span.count ≤ region.w * region.h }
         requires words { AreFragmentLists (offsets_of self.now.pattern) self.now.planes region closed.now.lists }
-        ensures { IfOk result (λ part. IsPart self.now region closed.now.lists (places_of (region.w * region.h) share.threads share.worker) part) }
+        ensures { IfOk result (λ part. IsPart self.now region closed.now.lists (range_with_len span.from span.count) part) }
     {
-        let count = share.count(closed.pixels());
         let mut part = Resolved {
-            sums: List::from_vec(Vec::with_capacity(alloc, count as usize)?),
+            sums: List::from_vec(Vec::with_capacity(alloc, span.count as usize)?),
             longest: 0,
         };
         let mut lists = [
@@ -142,8 +148,8 @@ impl<'a, 'b> Scene<'a, 'b> {
         ];
         let mut buffers = Buffers::new(alloc);
         let mut offset = Offset { column: 0, row: 0 };
-        for i in 0..count {
-            let place = share.place(i);
+        for i in 0..span.count {
+            let place = span.from + i;
             hold_eight(closed, &mut lists, place, i)?;
             let list = lists[(i % 8) as usize].as_slice();
             let here = offset_at(region.w(), place, i, offset);

@@ -1,92 +1,154 @@
 // The sums of all pixels, on threads.
-ghost use Rattle.std.specs.Prelude.{◌≡◌, ◌*◌, ◌<◌, ◌≤◌, length, map, Ok, IfOk};
+ghost use Rattle.std.specs.Prelude.{◌≡◌, ℕ, ◌-◌, ◌*◌, ◌<◌, ◌≤◌, min, length, map, IfOk, IfSome};
 ghost use Rattle.std.specs.List.{range_with_len, All};
-ghost use Rattle.abuf_num.specs.declared.limits.TheConstants.{MAX_PIXELS, MAX_PRIMITIVES, MAX_THREADS};
+ghost use Rattle.abuf_num.specs.declared.limits.TheConstants.{MAX_PRIMITIVES, MAX_THREADS};
 ghost use Rattle.abuf_raster.specs.Samples.{offsets_of};
-ghost use Rattle.abuf_resolve.specs.Parts.{AreOfBlock, AreParts, HaveAll, IsPart, joined, longest_in, sums_in};
+ghost use Rattle.abuf_resolve.specs.Lengths.{greatest};
+ghost use Rattle.abuf_resolve.specs.Parts.{IsPart, IsRun};
 ghost use Rattle.abuf_resolve.specs.Scene.{sums_of};
-ghost use Rattle.abuf_resolve.specs.Shares.{greatest};
 ghost use Rattle.abuf_resolve.specs.Sums.{IsSmall};
 ghost use Rattle.abuf_resolve.specs.Words.{frame_sums, AreFragmentLists};
+ghost use Rattle.abuf_resolve.specs.declared.threads.TheConstants.{LONGEST_RUN};
 
 use crate::planes::Planes;
-use crate::runs::Resolved;
+use crate::runs::{Resolved, Span};
 use crate::scene::Scene;
-use crate::shares::Share;
 use abuf_frame::Closed;
 use abuf_num::{List, NoMemory, Paint, PixelSum};
 use abuf_raster::{Pattern, Region, ScreenTri};
 use std::alloc::Global;
+use std::sync::atomic::{AtomicU64, Ordering};
 use std::thread::{Threads, map_indices};
 
-/// All parts, or the first refusal.
-fn all_of(alloc: Global, parts: Vec<Result<Resolved, NoMemory>>) -> Result<Vec<Resolved>, NoMemory>
-    ensures { IfOk result (λ all. parts.items ≡ map Ok all.items) }
-{
-    let mut all = Vec::new(alloc);
-    for part in parts {
-        all.push(part?)?;
-    }
-    Ok(all)
+/// About how many runs of pixels a worker takes, so that all end at about the same time.
+const RUNS_A_THREAD: u32 = 16;
+
+/// The most pixels of a run.
+const LONGEST_RUN: u32 = 4096;
+
+/// What was summed of a run of pixels. Runs are numbered from 0.
+#[derive(Drop)]
+pub(crate) struct Run {
+    pub(crate) number: u32,
+    pub(crate) resolved: Resolved,
 }
 
-/// The sums of a block of 64 pixels, or of what is left for the last one, from the part of its worker.
-fn block_sums(parts: &[Resolved], pixels: usize, block: usize) -> &[PixelSum]
-    requires workers { (1 ≤ length parts.now) × (length parts.now ≤ MAX_THREADS) }
-    requires pixels { pixels ≤ MAX_PIXELS }
-    requires all { HaveAll (map sums_in parts.now) pixels }
-    requires block { 64 * block < pixels }
-    ensures { AreOfBlock (map sums_in parts.now) pixels block result.now }
+/// How many pixels each run has but the last: whole groups of eight, since the lists of eight pixels are read together.
+fn run_size(pixels: u32, threads: u32) -> u32
+    requires threads { (1 ≤ threads) × (threads ≤ MAX_THREADS) }
+    ensures { (1 ≤ result) × (result ≤ LONGEST_RUN) }
 {
-    let sums = parts[block % parts.len()].sums.as_slice();
-    let from = block / parts.len() * 64;
-    let size = (pixels - 64 * block).min(64);
-    &sums[from..from + size]
+    let eights = pixels / (8 * RUNS_A_THREAD * threads);
+    8 * eights.clamp(1, LONGEST_RUN / 8)
 }
 
-/// The sums of all pixels, by ascending place.
-fn join_sums(alloc: Global, pixels: usize, parts: &[Resolved]) -> Result<List<PixelSum>, NoMemory>
-    requires workers { (1 ≤ length parts.now) × (length parts.now ≤ MAX_THREADS) }
-    requires pixels { pixels ≤ MAX_PIXELS }
-    requires all { HaveAll (map sums_in parts.now) pixels }
-    ensures { IfOk result (λ sums. sums ≡ joined (map sums_in parts.now) pixels) }
+/// How many runs of this size so many pixels make.
+fn run_count(pixels: u32, size: u32) -> u32
+    requires { 1 ≤ size }
+    ensures all { pixels ≤ size * result }
+    ensures some { (k : ℕ) → k < result → size * k < pixels }
 {
-    let mut sums = Vec::with_capacity(alloc, pixels)?;
-    for block in 0..pixels.div_ceil(64) {
-        sums.extend_from_slice(block_sums(parts, pixels, block))?;
-    }
-    Ok(List::from_vec(sums))
+    pixels.div_ceil(size)
 }
 
-/// The greatest length of a list.
-fn longest_of(parts: &[Resolved]) -> usize
-    ensures { result ≡ greatest (map longest_in parts.now) }
+/// The pixels of the run with this number, of so many pixels in runs of this size.
+fn span_of(pixels: u32, size: u32, number: u32) -> Span
+    requires { size * number < pixels }
+    ensures from { result.from ≡ size * number }
+    ensures count { result.count ≡ min size (pixels - size * number) }
 {
-    let mut longest = 0;
-    for part in parts {
-        longest = longest.max(part.longest);
+    let from = size * number;
+    Span {
+        from,
+        count: size.min(pixels - from),
     }
-    longest
 }
 
 impl<'a, 'b> Scene<'a, 'b> {
-    /// The parts of all workers put together, or the first refusal.
-    fn put_together(
+    /// The runs that the counter gives, summed. Which worker takes a run is left to who is free first: what is drawn often lies in
+    /// the middle of the image, and some workers may begin late.
+    fn take_runs(
         &self,
         alloc: Global,
         closed: &Closed,
         region: Region,
-        parts: Vec<Result<Resolved, NoMemory>>,
-    ) -> Result<Resolved, NoMemory>
+        size: u32,
+        next: &AtomicU64,
+    ) -> Result<Vec<Run>, NoMemory>
         requires pixels { length closed.now.lists ≡ region.w * region.h }
-        requires workers { (1 ≤ length parts.items) × (length parts.items ≤ MAX_THREADS) }
-        requires parts { AreParts self.now region closed.now.lists parts.items }
-        ensures { IfOk result (λ all. IsPart self.now region closed.now.lists (range_with_len 0 (region.w * region.h)) all) }
+        requires size { (1 ≤ size) × (size ≤ LONGEST_RUN) }
+        requires words { AreFragmentLists (offsets_of self.now.pattern) self.now.planes region closed.now.lists }
+        ensures { IfOk result (λ runs. All (IsRun self.now region closed.now.lists size) runs.items) }
     {
-        let parts = all_of(alloc, parts)?;
-        let sums = join_sums(alloc, closed.pixels() as usize, &parts)?;
-        let longest = longest_of(&parts);
-        Ok(Resolved { sums, longest })
+        let pixels = closed.pixels();
+        let count = run_count(pixels, size);
+        let mut runs = Vec::new(alloc);
+        for _ in 0..count {
+            let number = next.fetch_add(1, Ordering::SeqCst);
+            if number >= u64::from(count) {
+                break;
+            }
+            let number = number as u32;
+            let span = span_of(pixels, size, number);
+            let resolved = self.part(alloc, closed, region, span)?;
+            runs.push(Run { number, resolved })?;
+        }
+        Ok(runs)
+    }
+
+    /// The runs of all workers, or the first refusal.
+    fn all_of(
+        &self,
+        alloc: Global,
+        region: Region,
+        closed: &Closed,
+        size: u32,
+        taken: Vec<Result<Vec<Run>, NoMemory>>,
+    ) -> Result<Vec<Run>, NoMemory>
+        requires { All (λ t. IfOk t (λ runs. All (IsRun self.now region closed.now.lists size) runs.items)) taken.items }
+        ensures { IfOk result (λ runs. All (IsRun self.now region closed.now.lists size) runs.items) }
+    {
+        let mut all = Vec::new(alloc);
+        for runs in taken {
+            all.append(&mut runs?)?;
+        }
+        Ok(all)
+    }
+
+    /// The sums of all pixels, from those of the runs. None comes where these aren't all runs.
+    fn join_runs(
+        &self,
+        alloc: Global,
+        region: Region,
+        closed: &Closed,
+        size: u32,
+        mut runs: Vec<Run>,
+    ) -> Result<Option<Resolved>, NoMemory>
+        requires pixels { length closed.now.lists ≡ region.w * region.h }
+        requires size { (1 ≤ size) × (size ≤ LONGEST_RUN) }
+        requires runs { All (IsRun self.now region closed.now.lists size) runs.items }
+        ensures { IfOk result (λ found. IfSome found (IsPart self.now region closed.now.lists (range_with_len 0 (region.w * region.h)))) }
+    {
+        let pixels = closed.pixels();
+        runs.sort_unstable_by_key(|run| run.number);
+        let mut sums = Vec::with_capacity(alloc, pixels as usize)?;
+        let mut longest = 0;
+        let mut joined: u64 = 0;
+        for run in runs {
+            if u64::from(run.number) != joined {
+                return Ok(None);
+            }
+            sums.extend_from_slice(run.resolved.sums.as_slice())?;
+            longest = longest.max(run.resolved.longest);
+            joined += 1;
+        }
+        if joined != u64::from(run_count(pixels, size)) {
+            return Ok(None);
+        }
+        Ok(Some(Resolved {
+            sums: List::from_vec(sums),
+            longest,
+        }))
     }
 
     /// The sums of all pixels, by one worker.
@@ -95,7 +157,11 @@ impl<'a, 'b> Scene<'a, 'b> {
         requires words { AreFragmentLists (offsets_of self.now.pattern) self.now.planes region closed.now.lists }
         ensures { IfOk result (λ all. IsPart self.now region closed.now.lists (range_with_len 0 (region.w * region.h)) all) }
     {
-        self.part(alloc, closed, region, Share::new(1, 0))
+        let span = Span {
+            from: 0,
+            count: closed.pixels(),
+        };
+        self.part(alloc, closed, region, span)
     }
 
     /// The same, by this number of workers.
@@ -115,16 +181,22 @@ impl<'a, 'b> Scene<'a, 'b> {
         if threads == 1 {
             return self.alone(alloc, closed, region);
         }
-        let parts = map_indices(
+        let size = run_size(closed.pixels(), threads);
+        let next = &AtomicU64::new(0);
+        let taken = map_indices(
             rt,
             alloc,
             threads as usize,
-            &|worker| {
-                let share = Share::new(threads, worker as u32);
-                self.part(alloc, closed, region, share)
-            },
+            &|_worker: usize| -> Result<Vec<Run>, NoMemory>
+                requires { (length closed.now.lists ≡ region.w * region.h) × (1 ≤ size) × (size ≤ LONGEST_RUN) × AreFragmentLists (offsets_of self.now.pattern) self.now.planes region closed.now.lists }
+                ensures { IfOk result (λ runs. All (IsRun self.entry.now region closed.entry.now.lists size) runs.items) }
+            { self.take_runs(alloc, closed, region, size, next) },
         )?;
-        self.put_together(alloc, closed, region, parts)
+        let runs = self.all_of(alloc, region, closed, size, taken)?;
+        match self.join_runs(alloc, region, closed, size, runs)? {
+            Some(all) => Ok(all),
+            None => self.alone(alloc, closed, region),
+        }
     }
 }
 

@@ -1,6 +1,6 @@
 use Rattle.std.proofs.Common.{◌≡◌, ◌+◌, ◌*◌, ◌-◌, ◌/◌, ◌%◌, arith}
 use Rattle.std.proofs.lemmas.Nat.{div-add-mod', mod_below}
-use Rattle.abuf_resolve.proofs.Rounds.{row_column}
+use Rattle.abuf_resolve.proofs.Places.{row_column}
 use Rattle.abuf_resolve.proofs.runs.offset_at.Goals as goal
 
 pub returns-then-last-width : goal.returns-then-last-width

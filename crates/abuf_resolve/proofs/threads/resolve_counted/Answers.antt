@@ -1,8 +1,8 @@
 use Rattle.std.proofs.Common.{◌≡◌, ◌∙◌, ◌*◌, ap, map, length}
 use Rattle.std.proofs.lemmas.Result.{IfOk-weaker}
 use Rattle.abuf_resolve.specs.Scene.{sums_of}
-use Rattle.abuf_resolve.specs.Shares.{greatest}
-use Rattle.abuf_resolve.proofs.Joined.{lengths_all}
+use Rattle.abuf_resolve.specs.Lengths.{greatest}
+use Rattle.abuf_resolve.proofs.Places.{lengths_all}
 use Rattle.abuf_resolve.proofs.threads.resolve_counted.Goals as goal
 
 pub returns-clause-value : goal.returns-clause-value
