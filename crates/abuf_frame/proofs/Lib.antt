@@ -16,3 +16,4 @@ pub mod Crosses
 pub mod Wrapping
 pub mod Blanks
 pub mod Stripes
+pub mod Unpacked

@@ -11,6 +11,8 @@ pub mod Look
 pub mod Chains
 pub mod Closing
 pub mod Stripes
+pub mod Packed
+pub mod Stored
 pub mod Lanes
 pub mod Frame
 pub mod Pass

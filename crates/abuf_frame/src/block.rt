@@ -2,14 +2,17 @@
 ghost use Rattle.std.specs.Prelude.{◌≡◌, ◌<◌, [], IfOk, length, slice_index_or};
 ghost use Rattle.abuf_frame.specs.Closing.{Kept, lists_from};
 
+use crate::packing::pack;
 use crate::still::Still;
+use crate::stored::Stored;
 use abuf_num::NoMemory;
+use std::alloc::Global;
 use std::marker::Model;
 
-// Clauses see the list of each pixel. The words stay where they were drawn.
+// Clauses see the list of each pixel.
 #[derive(Drop)]
 pub(crate) struct Block {
-    pub(crate) words: Still,
+    pub(crate) words: Stored,
     pub(crate) pixels: u32,
     // The most that a walk can pass.
     pub(crate) nodes: u32,
@@ -18,12 +21,13 @@ pub(crate) struct Block {
 impl Model for Block {
     ghost use Rattle.std.specs.Prelude.{ℕ, List};
     ghost use Rattle.abuf_frame.specs.Closing.{Kept, lists_from};
+    ghost use Rattle.abuf_frame.specs.Stored.{HasHeads, words_in};
 
     ghost Value = { List (List ℕ) };
 
-    ghost view = { λ b. lists_from b.words b.pixels b.nodes 0 b.pixels };
+    ghost view = { λ b. lists_from (words_in b.words) b.pixels b.nodes 0 b.pixels };
 
-    ghost invariant = { λ b. Kept b.words b.pixels b.nodes };
+    ghost invariant = { λ b. Kept (words_in b.words) b.pixels b.nodes × HasHeads b.words b.pixels };
 }
 
 impl Block {
@@ -32,7 +36,7 @@ impl Block {
         ensures { result ≡ lists_from words pixels nodes 0 pixels }
     {
         Block {
-            words,
+            words: Stored::Drawn(words),
             pixels,
             nodes,
         }
@@ -42,6 +46,37 @@ impl Block {
         ensures { result ≡ length self.now }
     {
         self.pixels
+    }
+
+    // The same, packed, if it can be. So many nodes were claimed: no list has others.
+    pub(crate) fn packed(self, alloc: Global, claimed: u64) -> Result<Block, NoMemory>
+        ensures { IfOk result (λ block. block ≡ self) }
+    {
+        let Block {
+            words,
+            pixels,
+            nodes,
+        } = self;
+        let count = claimed.min(u64::from(nodes)) as u32;
+        match words {
+            Stored::Drawn(drawn) => match pack(alloc, &drawn, pixels, nodes, count)? {
+                Some(packed) => Ok(Block {
+                    words: Stored::Packed(packed),
+                    pixels,
+                    nodes,
+                }),
+                None => Ok(Block {
+                    words: Stored::Drawn(drawn),
+                    pixels,
+                    nodes,
+                }),
+            },
+            Stored::Packed(packed) => Ok(Block {
+                words: Stored::Packed(packed),
+                pixels,
+                nodes,
+            }),
+        }
     }
 
     // The payloads of the pixel's list, in a buffer of the caller's.

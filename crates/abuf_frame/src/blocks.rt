@@ -1,10 +1,12 @@
 // The blocks of a closed frame: that of the table that was closed, or those of several stripes, one after another.
-ghost use Rattle.std.specs.Prelude.{◌≡◌, ℕ, ◌+◌, ◌<◌, ◌≤◌, [], ◌++◌, IfOk, length, map, slice_index_or, vec_items, flat_map};
+ghost use Rattle.std.specs.Prelude.{◌≡◌, ℕ, ◌+◌, ◌<◌, ◌≤◌, [], ◌++◌, IfOk, length, slice_index_or, flat_map};
 ghost use Rattle.abuf_num.specs.declared.limits.TheConstants.{MAX_PIXELS};
 ghost use Rattle.abuf_frame.specs.Stripes.{AreEight, IsPlace, joined, lists_in};
 
 use crate::block::Block;
+use crate::payloads::Payloads;
 use abuf_num::NoMemory;
+use std::alloc::Global;
 
 #[derive(Drop)]
 pub(crate) enum Blocks {
@@ -47,15 +49,16 @@ fn copy_or_clear(
     blocks: &[Block],
     pixels: u32,
     pixel: u32,
-    items: &mut Vec<u64>,
+    list: &mut Payloads,
 ) -> Result<(), NoMemory>
     requires { length (joined blocks.now) ≡ pixels }
-    ensures { IfOk result (λ _. items.new.items ≡ slice_index_or (joined blocks.now) pixel []) }
+    ensures { IfOk result (λ _. list.new ≡ slice_index_or (joined blocks.now) pixel []) }
 {
     if pixel < pixels {
-        copy_from(blocks, pixel, items)
+        let Place { index, pixel } = place_of(blocks, pixel);
+        list.copy_or_clear(&blocks[index], pixel)
     } else {
-        items.clear();
+        list.clear();
         Ok(())
     }
 }
@@ -65,12 +68,12 @@ fn copy_each(
     blocks: &[Block],
     pixels: u32,
     pixel: u32,
-    lists: &mut [Vec<u64>; 8],
+    lists: &mut [Payloads; 8],
 ) -> Result<(), NoMemory>
     requires pixels { (length (joined blocks.now) ≡ pixels) × (pixels ≤ MAX_PIXELS) }
     requires pixel { pixel < pixels }
     ensures length { length lists.new ≡ 8 }
-    ensures lists { IfOk result (λ _. AreEight (joined blocks.now) pixel (map vec_items lists.new)) }
+    ensures lists { IfOk result (λ _. AreEight (joined blocks.now) pixel lists.new) }
 {
     for k in 0..8 {
         copy_or_clear(blocks, pixels, pixel + k as u32, &mut lists[k])?;
@@ -83,12 +86,12 @@ fn copy_across(
     blocks: &[Block],
     pixels: u32,
     pixel: u32,
-    lists: &mut [Vec<u64>; 8],
+    lists: &mut [Payloads; 8],
 ) -> Result<(), NoMemory>
     requires pixels { (length (joined blocks.now) ≡ pixels) × (pixels ≤ MAX_PIXELS) }
     requires pixel { pixel < pixels }
     ensures length { length lists.new ≡ 8 }
-    ensures lists { IfOk result (λ _. AreEight (joined blocks.now) pixel (map vec_items lists.new)) }
+    ensures lists { IfOk result (λ _. AreEight (joined blocks.now) pixel lists.new) }
 {
     let place = place_of(blocks, pixel);
     let block = &blocks[place.index];
@@ -116,16 +119,26 @@ impl Blocks {
         &self,
         pixels: u32,
         pixel: u32,
-        lists: &mut [Vec<u64>; 8],
+        lists: &mut [Payloads; 8],
     ) -> Result<(), NoMemory>
         requires pixels { (length (lists_in self.now) ≡ pixels) × (pixels ≤ MAX_PIXELS) }
         requires pixel { pixel < pixels }
         ensures length { length lists.new ≡ 8 }
-        ensures lists { IfOk result (λ _. AreEight (lists_in self.now) pixel (map vec_items lists.new)) }
+        ensures lists { IfOk result (λ _. AreEight (lists_in self.now) pixel lists.new) }
     {
         match self {
             Blocks::One(block) => block.copy_eight(pixel, lists),
             Blocks::Several(blocks) => copy_across(blocks, pixels, pixel, lists),
+        }
+    }
+
+    // The same with the words of a lone block packed, of whose nodes so many were claimed.
+    pub(crate) fn packed(self, alloc: Global, claimed: u64) -> Result<Blocks, NoMemory>
+        ensures { IfOk result (λ blocks. lists_in blocks ≡ lists_in self) }
+    {
+        match self {
+            Blocks::One(block) => Ok(Blocks::One(block.packed(alloc, claimed)?)),
+            Blocks::Several(blocks) => Ok(Blocks::Several(blocks)),
         }
     }
 

@@ -1,5 +1,5 @@
 // A frame that is drawn.
-ghost use Rattle.std.specs.Prelude.{◌≡◌, ℕ, ◌+◌, ◌*◌, ◌<◌, ◌≤◌, ◌^◌, IfOk, IfSome, IfNone, IsPermutation, List, All, flat_map, length, map, slice_index_or, sum_by, vec_items, []};
+ghost use Rattle.std.specs.Prelude.{◌≡◌, ℕ, ◌+◌, ◌*◌, ◌<◌, ◌≤◌, ◌^◌, IfOk, IfSome, IfNone, IsPermutation, List, All, flat_map, length, slice_index_or, sum_by, []};
 ghost use Rattle.abuf_num.specs.declared.limits.TheConstants.{MAX_NODES, MAX_PIXELS};
 ghost use Rattle.abuf_frame.specs.Chains.{IsListAt};
 ghost use Rattle.abuf_frame.specs.Closing.{AllSeen, list_at};
@@ -10,6 +10,7 @@ use crate::block::Block;
 use crate::blocks::Blocks;
 use crate::frame::Frame;
 use crate::pass::Pass;
+use crate::payloads::Payloads;
 use crate::still::Still;
 use abuf_num::{List, NoMemory};
 use std::alloc::Global;
@@ -155,6 +156,30 @@ impl Closed {
         })
     }
 
+    /// The same frame with its words packed: 8 bytes for each fragment and 4 for each pixel, where a table has 16 for each node and 8
+    /// for each pixel. Lists are read sooner from these: more of them lies in the caches. The words stay as they are where the
+    /// frame is full, where a payload is 2^40 or more, and where it is one of stripes, which may be packed before they are put
+    /// together. Each word is read once. An error means that memory ran out, and the frame is let go.
+    pub fn packed(self, alloc: Global) -> Result<Closed, NoMemory>
+        ensures { IfOk result (λ closed. closed ≡ self) }
+    {
+        if self.full().is_some() {
+            return Ok(self);
+        }
+        let Closed {
+            blocks,
+            pixels,
+            nodes,
+            fragments,
+        } = self;
+        Ok(Closed {
+            blocks: blocks.packed(alloc, fragments)?,
+            pixels,
+            nodes,
+            fragments,
+        })
+    }
+
     /// A frame of as many pixels and nodes, whose lists are empty, with its whole pass, as `Frame::start` gives them. The words of
     /// this one are let go first, so that their memory serves for it. After `NoMemory` there is no frame.
     pub fn reopen(self, alloc: Global) -> Result<(Frame, Pass), NoMemory>
@@ -193,12 +218,12 @@ impl Closed {
     /// The lists of the eight pixels from this one on, each as `copy_list` gives it, and an empty one for each pixel past the
     /// last. A walk along one list waits for memory at each node. Eight are walked here side by side, so that their waits
     /// overlap, and neighbouring nodes are read while they are in the cache. The cost grows with the longest list and with the
-    /// sum of the eight. Only where the eight lie in several stripes are they walked one after another. After want of memory the
-    /// buffers hold some of the payloads.
-    pub fn copy_eight(&self, pixel: u32, lists: &mut [Vec<u64>; 8]) -> Result<(), NoMemory>
+    /// sum of the eight. Where the words aren't packed, or the eight lie in several stripes, they are walked one after another.
+    /// After want of memory the buffers hold some of the payloads.
+    pub fn copy_eight(&self, pixel: u32, lists: &mut [Payloads; 8]) -> Result<(), NoMemory>
         requires { pixel < self.now.pixels }
         ensures length { length lists.new ≡ 8 }
-        ensures lists { IfOk result (λ _. (k : ℕ) → k < 8 → slice_index_or (map vec_items lists.new) k [] ≡ list_at self.now (pixel + k)) }
+        ensures lists { IfOk result (λ _. (k : ℕ) → k < 8 → slice_index_or lists.new k [] ≡ list_at self.now (pixel + k)) }
     {
         self.blocks.copy_eight(self.pixels, pixel, lists)
     }

@@ -7,8 +7,9 @@
 //! A number that has no node is lost, and the counter runs on, so that it tells how many nodes would have been enough. Threads
 //! draw at the same time by passes that are split off and joined again; others may `count` and `look` while they draw. A whole,
 //! settled pass closes the frame, which takes constant time, and a `Closed` frame has the lists. Threads share it, and read the
-//! lists one by one or eight side by side from the words that were drawn. Stripes of pixels may each be drawn into a frame of
-//! their own: `Closed::of_stripes` makes one closed frame of theirs, and leaves the words where they are.
+//! lists from the words that were drawn, or sooner, and eight side by side, from packed ones: `Closed::packed` has the same lists
+//! in half the memory. Stripes of pixels may each be drawn into a frame of their own: `Closed::of_stripes` makes one closed frame
+//! of theirs, and leaves the words where they are.
 //!
 //! `specs/Lawful.antt` says what holds between any two steps of any number of threads, and each call here is proved to keep
 //! it. What the crates above need of it is in the contracts alone: of a pass its frame, its credit, its entries as pairs of
@@ -27,10 +28,14 @@ mod closed;
 mod frame;
 mod lanes;
 mod look;
+mod packed;
+mod packing;
 mod pass;
+mod payloads;
 mod rule;
 mod steps;
 mod still;
+mod stored;
 #[cfg(test)]
 mod tests;
 mod view;
@@ -40,3 +45,4 @@ pub use closed::{Closed, Full};
 pub use frame::Frame;
 pub use look::Look;
 pub use pass::Pass;
+pub use payloads::Payloads;

@@ -1,9 +1,10 @@
 // Worked rows.
 ghost use Rattle.std.specs.Prelude.{◌≡◌};
 
+mod packed;
 mod stripes;
 
-use crate::{Frame, Full, Look};
+use crate::{Frame, Full, Look, Payloads};
 use std::array;
 use std::test::Fail;
 use std::thread::{join_mut, map_indices};
@@ -281,7 +282,7 @@ fn eight_lists_at_once(rt: HostRuntime) -> Result<(), Fail> {
         ],
     );
     let closed = frame.close(pass);
-    let mut lists = array::from_fn(|_| Vec::new(alloc));
+    let mut lists = array::from_fn(|_| Payloads::new(alloc));
     closed.copy_eight(0, &mut lists)?;
     assert!(rt; lists[0].as_slice() == [3, 2, 1].as_slice());
     assert!(rt; lists[1].as_slice().is_empty());

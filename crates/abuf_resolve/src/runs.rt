@@ -1,5 +1,5 @@
 // The sums of pixels that follow each other.
-ghost use Rattle.std.specs.Prelude.{◌≡◌, ◌+◌, ◌-◌, ◌*◌, ◌%◌, ◌++◌, ◌∷◌, [], ◌<◌, ◌≤◌, max, length, map, vec_items, IfOk, OnOk};
+ghost use Rattle.std.specs.Prelude.{◌≡◌, ◌+◌, ◌-◌, ◌*◌, ◌%◌, ◌++◌, ◌∷◌, [], ◌<◌, ◌≤◌, max, length, IfOk, OnOk};
 ghost use Rattle.std.specs.List.{range_with_len, All};
 ghost use Rattle.abuf_raster.specs.Samples.{offsets_of};
 ghost use Rattle.abuf_resolve.specs.Laws.{x_at, y_at};
@@ -10,7 +10,7 @@ ghost use Rattle.abuf_resolve.specs.Words.{AreFragmentLists, IsFragmentAt};
 
 use crate::pixels::Buffers;
 use crate::scene::{Pixel, Scene};
-use abuf_frame::Closed;
+use abuf_frame::{Closed, Payloads};
 use abuf_num::{List, NoMemory, PixelSum};
 use abuf_raster::Region;
 use std::alloc::Global;
@@ -40,14 +40,14 @@ impl Resolved {
 #[inline(always)]
 fn hold_eight(
     closed: &Closed,
-    lists: &mut [Vec<u64>; 8],
+    lists: &mut [Payloads; 8],
     place: u32,
     i: u32,
 ) -> Result<(), NoMemory>
     requires place { place < closed.now.pixels }
-    requires held { 0 < i % 8 → HoldEight closed.now (place - i % 8) (map vec_items lists.old) }
+    requires held { 0 < i % 8 → HoldEight closed.now (place - i % 8) lists.old }
     ensures length { length lists.new ≡ 8 }
-    ensures held { IfOk result (λ _. HoldEight closed.now (place - i % 8) (map vec_items lists.new)) }
+    ensures held { IfOk result (λ _. HoldEight closed.now (place - i % 8) lists.new) }
 {
     if i % 8 == 0 {
         closed.copy_eight(place, lists)?;
@@ -137,14 +137,14 @@ impl<'a, 'b> Scene<'a, 'b> {
             longest: 0,
         };
         let mut lists = [
-            Vec::new(alloc),
-            Vec::new(alloc),
-            Vec::new(alloc),
-            Vec::new(alloc),
-            Vec::new(alloc),
-            Vec::new(alloc),
-            Vec::new(alloc),
-            Vec::new(alloc),
+            Payloads::new(alloc),
+            Payloads::new(alloc),
+            Payloads::new(alloc),
+            Payloads::new(alloc),
+            Payloads::new(alloc),
+            Payloads::new(alloc),
+            Payloads::new(alloc),
+            Payloads::new(alloc),
         ];
         let mut buffers = Buffers::new(alloc);
         let mut offset = Offset { column: 0, row: 0 };

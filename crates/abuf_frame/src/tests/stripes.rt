@@ -1,6 +1,6 @@
 // Closed frames of stripes.
 use super::{moved, shared};
-use crate::{Blank, Closed, Frame, Full};
+use crate::{Blank, Closed, Frame, Full, Payloads};
 use abuf_num::NoMemory;
 use std::alloc::Global;
 use std::array;
@@ -34,7 +34,7 @@ fn three_stripes(rt: HostRuntime) -> Result<(), Fail> {
     assert!(rt; list.as_slice() == [51].as_slice());
     closed.copy_list(15, &mut list)?;
     assert!(rt; list.as_slice() == [151].as_slice());
-    let mut lists = array::from_fn(|_| Vec::new(alloc));
+    let mut lists = array::from_fn(|_| Payloads::new(alloc));
     closed.copy_eight(0, &mut lists)?;
     assert!(rt; lists[0].as_slice() == [1].as_slice() && lists[1].as_slice().is_empty());
     assert!(rt; lists[2].as_slice() == [21].as_slice() && lists[3].as_slice().is_empty());

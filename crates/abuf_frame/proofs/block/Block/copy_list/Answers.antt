@@ -1,34 +1,35 @@
 use Rattle.std.proofs.Common.{rules, ◌≡◌, ◌≢◌, ◌<◌, ◌-◌, ap, sym, ◌∙◌, subst, arith, inl, inr, ℕ, List, ◌+◌, ◌*◌, [], slice_index, slice_index_or}
+use Rattle.abuf_frame.specs.Stored.{words_in}
 use Rattle.abuf_frame.specs.Closing.{Threaded}
 use Rattle.abuf_frame.specs.Words.{next_word, payload_word}
 use Rattle.abuf_frame.proofs.Closes.{goes, walk_more, whole_list, within_pixels}
 use Rattle.abuf_frame.proofs.block.Block.copy_list.Goals as goal
 
 pub word-at-requires : goal.word-at-requires
-word-at-requires c = let on = within_pixels c.self.inside.words c.self.inside.pixels c.self.inside.nodes c.args.self.now c.args.pixel c.self.view_is c.requires in let w = c.self.invariant.wide in omega arith
+word-at-requires c = let on = within_pixels (words_in c.self.inside.words) c.self.inside.pixels c.self.inside.nodes c.args.self.now c.args.pixel c.self.view_is c.requires in let w = c.self.invariant.0.wide in omega arith
 
 pub loop-init : goal.loop-init
-loop-init c = let on = within_pixels c.self.inside.words c.self.inside.pixels c.self.inside.nodes c.args.self.now c.args.pixel c.self.view_is c.requires in
-    let t = c.self.invariant.threaded c.args.pixel on in search rules
+loop-init c = let on = within_pixels (words_in c.self.inside.words) c.self.inside.pixels c.self.inside.nodes c.args.self.now c.args.pixel c.self.view_is c.requires in
+    let t = c.self.invariant.0.threaded c.args.pixel on in search rules
 
 pub overflow_mul-node : goal.overflow_mul-node
-overflow_mul-node c = let not : c.loop.at ≢ 0 = search rules in let n = goes _ _ _ _ _ c.loop.invariant.1 not in let l = n.node in let s = c.self.invariant.sized in omega arith
+overflow_mul-node c = let not : c.loop.at ≢ 0 = search rules in let n = goes _ _ _ _ _ c.loop.invariant.1 not in let l = n.node in let s = c.self.invariant.0.sized in omega arith
 
 pub overflow_add-node : goal.overflow_add-node
-overflow_add-node c = let not : c.loop.at ≢ 0 = search rules in let n = goes _ _ _ _ _ c.loop.invariant.1 not in let l = n.node in let s = c.self.invariant.sized in omega arith
+overflow_add-node c = let not : c.loop.at ≢ 0 = search rules in let n = goes _ _ _ _ _ c.loop.invariant.1 not in let l = n.node in let s = c.self.invariant.0.sized in omega arith
 
 pub word-requires : goal.word-requires
-word-requires c = let not : c.loop.at ≢ 0 = search rules in let n = goes _ _ _ _ _ c.loop.invariant.1 not in let l = n.node in let s = c.self.invariant.sized in let w = c.self.invariant.wide in search rules
+word-requires c = let not : c.loop.at ≢ 0 = search rules in let n = goes _ _ _ _ _ c.loop.invariant.1 not in let l = n.node in let s = c.self.invariant.0.sized in let w = c.self.invariant.0.wide in search rules
 
 pub overflow_add-node-in-loop : goal.overflow_add-node-in-loop
-overflow_add-node-in-loop c = let not : c.loop.at ≢ 0 = search rules in let n = goes _ _ _ _ _ c.loop.invariant.1 not in let l = n.node in let s = c.self.invariant.sized in omega arith
+overflow_add-node-in-loop c = let not : c.loop.at ≢ 0 = search rules in let n = goes _ _ _ _ _ c.loop.invariant.1 not in let l = n.node in let s = c.self.invariant.0.sized in omega arith
 
 pub word-at-requires-in-loop : goal.word-at-requires-in-loop
-word-at-requires-in-loop c = let not : c.loop.at ≢ 0 = search rules in let n = goes _ _ _ _ _ c.loop.invariant.1 not in let l = n.node in let s = c.self.invariant.sized in let w = c.self.invariant.wide in search rules
+word-at-requires-in-loop c = let not : c.loop.at ≢ 0 = search rules in let n = goes _ _ _ _ _ c.loop.invariant.1 not in let l = n.node in let s = c.self.invariant.0.sized in let w = c.self.invariant.0.wide in search rules
 
 pub loop-preserved : goal.loop-preserved
-loop-preserved c = let not : c.loop.at ≢ 0 = search rules in let n = goes _ _ _ _ _ c.loop.invariant.1 not in let ws = c.self.inside.words in
-    let l = n.node in let w = c.self.invariant.wide in
+loop-preserved c = let not : c.loop.at ≢ 0 = search rules in let n = goes _ _ _ _ _ c.loop.invariant.1 not in let ws = (words_in c.self.inside.words) in
+    let l = n.node in let w = c.self.invariant.0.wide in
     let more : c.loop.counter < c.self.inside.nodes = search rules in
     let pay : c.word.result ≡ slice_index ws (payload_word c.self.inside.pixels (c.loop.at - 1)) = c.word.ensures in
     let place : (1 + c.self.inside.pixels) + 2 * (c.loop.at - 1) + 1 ≡ next_word c.self.inside.pixels (c.loop.at - 1) = omega arith in
@@ -39,11 +40,11 @@ loop-preserved c = let not : c.loop.at ≢ 0 = search rules in let n = goes _ _ 
     )
 
 pub returns-after-loop : goal.returns-after-loop
-returns-after-loop c = let on = within_pixels c.self.inside.words c.self.inside.pixels c.self.inside.nodes c.args.self.now c.args.pixel c.self.view_is c.requires in
-    whole_list c.self.inside.words c.self.inside.pixels c.self.inside.nodes c.loop.items.items [] (c.self.inside.nodes - c.loop.counter) c.loop.at c.args.pixel c.self.inside.pixels (inr (omega arith)) on c.loop.invariant.2
+returns-after-loop c = let on = within_pixels (words_in c.self.inside.words) c.self.inside.pixels c.self.inside.nodes c.args.self.now c.args.pixel c.self.view_is c.requires in
+    whole_list (words_in c.self.inside.words) c.self.inside.pixels c.self.inside.nodes c.loop.items.items [] (c.self.inside.nodes - c.loop.counter) c.loop.at c.args.pixel c.self.inside.pixels (inr (omega arith)) on c.loop.invariant.2
     ∙ ap (λ (h : List (List ℕ)). slice_index_or h c.args.pixel []) c.self.view_is
 
 pub returns-then-at-eq0 : goal.returns-then-at-eq0
-returns-then-at-eq0 c = let on = within_pixels c.self.inside.words c.self.inside.pixels c.self.inside.nodes c.args.self.now c.args.pixel c.self.view_is c.requires in
-    whole_list c.self.inside.words c.self.inside.pixels c.self.inside.nodes c.loop.items.items [] (c.self.inside.nodes - c.loop.counter) c.loop.at c.args.pixel c.self.inside.pixels (inl (search rules)) on c.loop.invariant.2
+returns-then-at-eq0 c = let on = within_pixels (words_in c.self.inside.words) c.self.inside.pixels c.self.inside.nodes c.args.self.now c.args.pixel c.self.view_is c.requires in
+    whole_list (words_in c.self.inside.words) c.self.inside.pixels c.self.inside.nodes c.loop.items.items [] (c.self.inside.nodes - c.loop.counter) c.loop.at c.args.pixel c.self.inside.pixels (inl (search rules)) on c.loop.invariant.2
     ∙ ap (λ (h : List (List ℕ)). slice_index_or h c.args.pixel []) c.self.view_is

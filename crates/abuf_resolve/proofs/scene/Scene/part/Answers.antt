@@ -1,6 +1,6 @@
-use Rattle.std.proofs.Common.{◌≡◌, ◌∙◌, ◌+◌, ◌-◌, ◌%◌, [], List, ℕ, ap, sym, subst, length, slice_index_or, vec_items, arith}
+use Rattle.std.proofs.Common.{◌≡◌, ◌∙◌, ◌+◌, ◌-◌, ◌%◌, [], List, ℕ, ap, sym, subst, length, slice_index_or, arith}
 use Rattle.std.specs.List.{range_with_len, All}
-use Rattle.std.proofs.lemmas.List.{get_or-map}
+use Rattle.std.proofs.lemmas.List.{get_or_default}
 use Rattle.abuf_raster.specs.Samples.{offsets_of}
 use Rattle.abuf_resolve.specs.Laws.{x_at, y_at}
 use Rattle.abuf_resolve.specs.Parts.{IsPart}
@@ -17,8 +17,8 @@ list_is c =
     let i = c.loop-i.i in
     let lists = c.hold_eight.new.lists in
     let first : c.args.span.from + i - i % 8 + i % 8 ≡ c.args.span.from + i = omega arith in
-    c.as_slice-list.ensures.value
-    ∙ (sym (get_or-map vec_items lists (i % 8) c.index-lists-i.result [] (omega (arith, c.hold_eight.ensures.length)))
+    c.as_slice-list.ensures
+    ∙ (get_or_default lists (i % 8) c.index-lists-i.result [] (omega (arith, c.hold_eight.ensures.length))
     ∙ (c.in_ok-hold_eight.ensures.held (i % 8) (omega arith)
     ∙ ap (λ (p : ℕ). slice_index_or c.args.closed.now.lists p []) first))
 

@@ -1,4 +1,4 @@
-use Rattle.std.proofs.Common.{◌≡◌, ◌+◌, ◌-◌, ◌%◌, ◌<◌, map, length, vec_items}
+use Rattle.std.proofs.Common.{◌≡◌, ◌+◌, ◌-◌, ◌%◌, ◌<◌, length}
 use Rattle.std.specs.List.{range_with_len}
 use Rattle.abuf_resolve.specs.Parts.{HoldEight, IsOffset, IsPart}
 use Rattle.abuf_resolve.proofs.scene.Scene.part.Given as goal
@@ -6,7 +6,7 @@ use Rattle.abuf_resolve.proofs.scene.Scene.part.Given as goal
 abbrev pub invariant-loop-i : goal.invariant-loop-i
 invariant-loop-i l = record {
   part : IsPart l.self l.region l.closed.lists (range_with_len l.span.from l.i) l.part;
-  held : 0 < l.i % 8 → HoldEight l.closed (l.span.from + l.i - l.i % 8) (map vec_items l.lists);
+  held : 0 < l.i % 8 → HoldEight l.closed (l.span.from + l.i - l.i % 8) l.lists;
   last : 0 < l.i % 8 → (0 < l.span.from + l.i) × IsOffset l.region.w (l.span.from + l.i - 1) l.offset;
   eight : length l.lists ≡ 8;
 }
