@@ -17,7 +17,7 @@ PARTS = {
     "projecting": r"abuf_view::|abuf_scene::(assembly|fans|triangles)|abuf_num::division|abuf_top::prepare::show",
     "reading": r"abuf_(cli|io|text|obj|mtl|scene|num)::|abuf_top::(load|prepare|libraries|demonstration)|bstr::|clap::|std_coll",
     "drawing": r"abuf_(fan|draw|raster|peel)::|abuf_frame::pass",
-    "closing": r"abuf_frame::.*pack|abuf_frame::frame::Frame::close|abuf_top::(whole|output)",
+    "closing": r"abuf_frame::.*(pack|gather|lanes|payloads)|abuf_frame::frame::Frame::close|abuf_top::(whole|output)",
     "resolving": r"abuf_(resolve|band)::|abuf_picture::resolving|abuf_frame::|::sort::|std::thread::fork",
     "writing": r"abuf_pam::|abuf_top::image",
 }

@@ -124,8 +124,8 @@ module _ (words : List ℕ) (pixels nodes : ℕ) where
       none (suc n) = ap (λ (b : Bool). cond b [] (slice_index words (payload_word pixels (here - 1)) ∷ payloads_from words pixels n (slice_index words (next_word pixels (here - 1))))) (eq-eqb here 0 e)
   walk_end fuel here (inr e) = ap (λ (n : ℕ). payloads_from words pixels n here) e
 
-  -- what the loop leaves is the list of the pixel
-  pub whole_list : (done all : List ℕ) (fuel here p count : ℕ) → (here ≡ 0) ⊎ (fuel ≡ 0) → p < count → done ++ payloads_from words pixels fuel here ≡ payloads_from words pixels nodes (slice_index words (head_word p))
-      → done ≡ slice_index_or (lists_from words pixels nodes 0 count) p []
-  whole_list done all fuel here p count stop h e = let same : p ≡ 0 + p = omega arith in sym (append-nil done) ∙ (ap (λ (z : List ℕ). done ++ z) (sym (walk_end fuel here stop)) ∙ (e
-      ∙ (ap (λ (i : ℕ). payloads_from words pixels nodes (slice_index words (head_word i))) same ∙ sym (lists_at words pixels nodes 0 count p h))))
+  -- what the loop puts behind what was there is the list of the pixel
+  pub appended_list : (done old : List ℕ) (fuel here p count : ℕ) → (here ≡ 0) ⊎ (fuel ≡ 0) → p < count → done ++ payloads_from words pixels fuel here ≡ old ++ payloads_from words pixels nodes (slice_index words (head_word p))
+      → done ≡ old ++ slice_index_or (lists_from words pixels nodes 0 count) p []
+  appended_list done old fuel here p count stop h e = let same : p ≡ 0 + p = omega arith in sym (append-nil done) ∙ (ap (λ (z : List ℕ). done ++ z) (sym (walk_end fuel here stop)) ∙ (e
+      ∙ ap (λ (z : List ℕ). old ++ z) (ap (λ (i : ℕ). payloads_from words pixels nodes (slice_index words (head_word i))) same ∙ sym (lists_at words pixels nodes 0 count p h))))

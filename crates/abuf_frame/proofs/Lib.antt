@@ -17,3 +17,4 @@ pub mod Wrapping
 pub mod Blanks
 pub mod Stripes
 pub mod Unpacked
+pub mod Starts

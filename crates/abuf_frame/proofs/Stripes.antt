@@ -6,7 +6,7 @@ use Rattle.abuf_frame.specs.declared.blocks.Place.{Place}
 use Rattle.abuf_frame.specs.Stripes.{IsPlace, joined}
 
 module _ (blocks : List (List (List ℕ))) (pixel : ℕ) (place : Place) (block : List (List ℕ)) (is : IsPlace blocks pixel place) (here : block ≡ slice_index_or blocks place.index block) where
-  block_is : block ≡ slice_index_or blocks place.index []
+  pub block_is : block ≡ slice_index_or blocks place.index []
   block_is = get_or_read blocks place.index block is.index here []
 
   -- A list of the block in which a pixel is, of this pixel or of one behind it, is the list among all lists.

@@ -1,6 +1,6 @@
 -- One step of the walks along the lists of eight neighbouring pixels. Each walk has a lane: the word at which it stands, and the
 -- list of the payloads that it has passed.
-use Rattle.std.specs.Prelude.{◌≡◌, ℕ, ◌-◌, ◌<◌, if◌then◌else◌, ◌==◌, nat_lt, List, [], ◌++◌, length, slice_index, slice_index_or}
+use Rattle.std.specs.Prelude.{◌≡◌, ℕ, ◌+◌, ◌-◌, ◌<◌, if◌then◌else◌, ◌==◌, nat_lt, List, [], ◌++◌, length, slice_index, slice_index_or}
 use Rattle.abuf_frame.specs.declared.packed.Packed.{Packed}
 use Rattle.abuf_frame.specs.Closing.{payloads_from}
 use Rattle.abuf_frame.specs.Words.{head_word, next_word}
@@ -27,3 +27,7 @@ pub record Advances (words : List ℕ) (pixels at next : ℕ) (old new : List �
 abbrev pub AllAdvance : List ℕ → ℕ → List ℕ → List ℕ → List (List ℕ) → List (List ℕ) → Type 0
 AllAdvance words pixels at next old new = (k : ℕ) → k < 8
     → Advances words pixels (slice_index at k) (slice_index next k) (slice_index_or old k []) (slice_index_or new k [])
+
+-- these are the lists of the pixel and of the seven after it, of which those past the last are empty
+abbrev pub AreEight : List (List ℕ) → ℕ → List (List ℕ) → Type 0
+AreEight lists pixel eight = (k : ℕ) → k < 8 → slice_index_or eight k [] ≡ slice_index_or lists (pixel + k) []

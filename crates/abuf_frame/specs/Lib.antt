@@ -12,7 +12,9 @@ pub mod Chains
 pub mod Closing
 pub mod Stripes
 pub mod Packed
-pub mod Stored
 pub mod Lanes
+pub mod Gathered
+pub mod Stored
+pub mod Reading
 pub mod Frame
 pub mod Pass

@@ -1,14 +1,8 @@
--- The words of a closed table, as they lie in memory.
-use Rattle.std.specs.Prelude.{◌≡◌, ℕ, List, length}
-use Rattle.abuf_frame.specs.declared.stored.Stored.{Stored}
-use Rattle.abuf_frame.specs.declared.stored.Stored.TheVariants.{Drawn, Packed}
-use Rattle.abuf_frame.specs.Packed.{unpacked}
+-- The lists of one table, in either form.
+use Rattle.std.specs.Prelude.{ℕ, List}
+use Rattle.abuf_frame.specs.declared.block.Stored.{Stored}
+use Rattle.abuf_frame.specs.declared.block.Stored.TheVariants.{Drawn, Gathered}
 
-abbrev pub words_in : Stored → List ℕ
-words_in (Drawn words) = words
-words_in (Packed packed) = unpacked packed
-
--- packed words have a head for each pixel
-abbrev pub HasHeads : Stored → ℕ → Type 0
-HasHeads (Drawn words) pixels = Unit {0}
-HasHeads (Packed packed) pixels = length packed.heads.items ≡ pixels
+abbrev pub lists_of : Stored → List (List ℕ)
+lists_of (Drawn lists) = lists
+lists_of (Gathered lists) = lists

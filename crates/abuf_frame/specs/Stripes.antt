@@ -12,10 +12,6 @@ abbrev pub lists_in : Blocks → List (List ℕ)
 lists_in (One block) = block
 lists_in (Several blocks) = joined blocks.items
 
--- these are the lists of the pixel and of the seven after it, of which those past the last are empty
-abbrev pub AreEight : List (List ℕ) → ℕ → List (List ℕ) → Type 0
-AreEight lists pixel eight = (k : ℕ) → k < 8 → slice_index_or eight k [] ≡ slice_index_or lists (pixel + k) []
-
 -- the pixel is the one of this number in the block of this index
 pub record IsPlace (blocks : List (List (List ℕ))) (pixel : ℕ) (place : Place) : Type 0 where
   pub index : place.index < length blocks

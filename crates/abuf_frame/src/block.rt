@@ -1,33 +1,35 @@
-// One table's words, seen as the lists of its pixels.
+// The lists of one table.
 ghost use Rattle.std.specs.Prelude.{◌≡◌, ◌<◌, [], IfOk, length, slice_index_or};
+ghost use Rattle.std.specs.Option.{option_map_or};
 ghost use Rattle.abuf_frame.specs.Closing.{Kept, lists_from};
 
-use crate::packing::pack;
+use crate::drawn::Drawn;
+use crate::gathered::Gathered;
 use crate::still::Still;
-use crate::stored::Stored;
 use abuf_num::NoMemory;
 use std::alloc::Global;
 use std::marker::Model;
 
+// The lists as they were drawn, each along its links, or gathered.
+#[derive(Drop)]
+pub(crate) enum Stored {
+    Drawn(Drawn),
+    Gathered(Gathered),
+}
+
 // Clauses see the list of each pixel.
 #[derive(Drop)]
 pub(crate) struct Block {
-    pub(crate) words: Stored,
-    pub(crate) pixels: u32,
-    // The most that a walk can pass.
-    pub(crate) nodes: u32,
+    stored: Stored,
 }
 
 impl Model for Block {
     ghost use Rattle.std.specs.Prelude.{ℕ, List};
-    ghost use Rattle.abuf_frame.specs.Closing.{Kept, lists_from};
-    ghost use Rattle.abuf_frame.specs.Stored.{HasHeads, words_in};
+    ghost use Rattle.abuf_frame.specs.Stored.{lists_of};
 
     ghost Value = { List (List ℕ) };
 
-    ghost view = { λ b. lists_from (words_in b.words) b.pixels b.nodes 0 b.pixels };
-
-    ghost invariant = { λ b. Kept (words_in b.words) b.pixels b.nodes × HasHeads b.words b.pixels };
+    ghost view = { λ b. lists_of b.stored };
 }
 
 impl Block {
@@ -36,45 +38,35 @@ impl Block {
         ensures { result ≡ lists_from words pixels nodes 0 pixels }
     {
         Block {
-            words: Stored::Drawn(words),
-            pixels,
-            nodes,
+            stored: Stored::Drawn(Drawn::new(words, pixels, nodes)),
         }
     }
 
     pub(crate) fn pixels(&self) -> u32
         ensures { result ≡ length self.now }
     {
-        self.pixels
+        match &self.stored {
+            Stored::Drawn(drawn) => drawn.pixels(),
+            Stored::Gathered(gathered) => gathered.pixels(),
+        }
     }
 
-    // The same, packed, if it can be. So many nodes were claimed: no list has others.
-    pub(crate) fn packed(self, alloc: Global, claimed: u64) -> Result<Block, NoMemory>
+    // The same, gathered, if it can be. So many nodes were claimed: no list has others.
+    pub(crate) fn gathered(self, alloc: Global, claimed: u64) -> Result<Block, NoMemory>
         ensures { IfOk result (λ block. block ≡ self) }
     {
-        let Block {
-            words,
-            pixels,
-            nodes,
-        } = self;
-        let count = claimed.min(u64::from(nodes)) as u32;
-        match words {
-            Stored::Drawn(drawn) => match pack(alloc, &drawn, pixels, nodes, count)? {
-                Some(packed) => Ok(Block {
-                    words: Stored::Packed(packed),
-                    pixels,
-                    nodes,
+        let Block { stored } = self;
+        match stored {
+            Stored::Drawn(drawn) => match drawn.gathered(alloc, claimed)? {
+                Some(gathered) => Ok(Block {
+                    stored: Stored::Gathered(gathered),
                 }),
                 None => Ok(Block {
-                    words: Stored::Drawn(drawn),
-                    pixels,
-                    nodes,
+                    stored: Stored::Drawn(drawn),
                 }),
             },
-            Stored::Packed(packed) => Ok(Block {
-                words: Stored::Packed(packed),
-                pixels,
-                nodes,
+            Stored::Gathered(gathered) => Ok(Block {
+                stored: Stored::Gathered(gathered),
             }),
         }
     }
@@ -84,17 +76,32 @@ impl Block {
         requires { pixel < length self.now }
         ensures { IfOk result (λ _. items.new.items ≡ slice_index_or self.now pixel []) }
     {
-        items.clear();
-        let payloads = 1 + self.pixels as usize;
-        let mut at = self.words.word(1 + pixel as usize);
-        for _ in 0..self.nodes {
-            if at == 0 {
-                break;
+        match &self.stored {
+            Stored::Drawn(drawn) => drawn.copy_list(pixel, items),
+            Stored::Gathered(gathered) => {
+                items.clear();
+                items.extend_from_slice(gathered.list(pixel))?;
+                Ok(())
             }
-            let node = payloads + 2 * (at - 1) as usize;
-            items.push(self.words.word(node))?;
-            at = self.words.word(node + 1);
         }
-        Ok(())
+    }
+
+    // The payloads of the pixel's list, where they lie side by side, or none: then they are in the buffer.
+    #[inline(always)]
+    pub(crate) fn list_or_copy(
+        &self,
+        pixel: u32,
+        buffer: &mut Vec<u64>,
+    ) -> Result<Option<&[u64]>, NoMemory>
+        requires { pixel < length self.now }
+        ensures { IfOk result (λ list. option_map_or (λ l. l.now) list buffer.new.items ≡ slice_index_or self.now pixel []) }
+    {
+        match &self.stored {
+            Stored::Gathered(gathered) => Ok(Some(gathered.list(pixel))),
+            Stored::Drawn(drawn) => {
+                drawn.copy_list(pixel, buffer)?;
+                Ok(None)
+            }
+        }
     }
 }

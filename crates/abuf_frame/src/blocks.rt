@@ -1,10 +1,10 @@
 // The blocks of a closed frame: that of the table that was closed, or those of several stripes, one after another.
-ghost use Rattle.std.specs.Prelude.{◌≡◌, ℕ, ◌+◌, ◌<◌, ◌≤◌, [], ◌++◌, IfOk, length, slice_index_or, flat_map};
-ghost use Rattle.abuf_num.specs.declared.limits.TheConstants.{MAX_PIXELS};
-ghost use Rattle.abuf_frame.specs.Stripes.{AreEight, IsPlace, joined, lists_in};
+ghost use Rattle.std.specs.Prelude.{◌≡◌, ◌+◌, ◌<◌, [], ◌++◌, IfOk, length, slice_index_or};
+ghost use Rattle.abuf_frame.specs.Reading.{IsRest};
+ghost use Rattle.abuf_frame.specs.Stripes.{IsPlace, joined, lists_in};
 
 use crate::block::Block;
-use crate::payloads::Payloads;
+use crate::rest::Rest;
 use abuf_num::NoMemory;
 use std::alloc::Global;
 
@@ -44,61 +44,17 @@ fn copy_from(blocks: &[Block], pixel: u32, items: &mut Vec<u64>) -> Result<(), N
     blocks[index].copy_list(pixel, items)
 }
 
-// The list of the pixel, or none past the last of so many pixels.
-fn copy_or_clear(
-    blocks: &[Block],
-    pixels: u32,
-    pixel: u32,
-    list: &mut Payloads,
-) -> Result<(), NoMemory>
-    requires { length (joined blocks.now) ≡ pixels }
-    ensures { IfOk result (λ _. list.new ≡ slice_index_or (joined blocks.now) pixel []) }
+// The pixels from this one on that are in its block.
+fn rest_among(blocks: &[Block], pixel: u32) -> Rest<'_>
+    requires { pixel < length (joined blocks.now) }
+    ensures { IsRest (joined blocks.now) pixel result }
 {
-    if pixel < pixels {
-        let Place { index, pixel } = place_of(blocks, pixel);
-        list.copy_or_clear(&blocks[index], pixel)
-    } else {
-        list.clear();
-        Ok(())
-    }
-}
-
-// The lists of eight pixels, one by one.
-fn copy_each(
-    blocks: &[Block],
-    pixels: u32,
-    pixel: u32,
-    lists: &mut [Payloads; 8],
-) -> Result<(), NoMemory>
-    requires pixels { (length (joined blocks.now) ≡ pixels) × (pixels ≤ MAX_PIXELS) }
-    requires pixel { pixel < pixels }
-    ensures length { length lists.new ≡ 8 }
-    ensures lists { IfOk result (λ _. AreEight (joined blocks.now) pixel lists.new) }
-{
-    for k in 0..8 {
-        copy_or_clear(blocks, pixels, pixel + k as u32, &mut lists[k])?;
-    }
-    Ok(())
-}
-
-// The lists of eight pixels: side by side if one block has them all, and else one by one.
-fn copy_across(
-    blocks: &[Block],
-    pixels: u32,
-    pixel: u32,
-    lists: &mut [Payloads; 8],
-) -> Result<(), NoMemory>
-    requires pixels { (length (joined blocks.now) ≡ pixels) × (pixels ≤ MAX_PIXELS) }
-    requires pixel { pixel < pixels }
-    ensures length { length lists.new ≡ 8 }
-    ensures lists { IfOk result (λ _. AreEight (joined blocks.now) pixel lists.new) }
-{
-    let place = place_of(blocks, pixel);
-    let block = &blocks[place.index];
-    if block.pixels() - place.pixel >= 8 {
-        block.copy_eight(place.pixel, lists)
-    } else {
-        copy_each(blocks, pixels, pixel, lists)
+    let Place { index, pixel } = place_of(blocks, pixel);
+    let block = &blocks[index];
+    Rest {
+        block,
+        pixel,
+        count: block.pixels() - pixel,
     }
 }
 
@@ -114,30 +70,27 @@ impl Blocks {
         }
     }
 
-    // The lists of eight pixels.
-    pub(crate) fn copy_eight(
-        &self,
-        pixels: u32,
-        pixel: u32,
-        lists: &mut [Payloads; 8],
-    ) -> Result<(), NoMemory>
-        requires pixels { (length (lists_in self.now) ≡ pixels) × (pixels ≤ MAX_PIXELS) }
-        requires pixel { pixel < pixels }
-        ensures length { length lists.new ≡ 8 }
-        ensures lists { IfOk result (λ _. AreEight (lists_in self.now) pixel lists.new) }
+    // The pixels from this one on that are in its block.
+    pub(crate) fn rest_at(&self, pixel: u32) -> Rest<'_>
+        requires { pixel < length (lists_in self.now) }
+        ensures { IsRest (lists_in self.now) pixel result }
     {
         match self {
-            Blocks::One(block) => block.copy_eight(pixel, lists),
-            Blocks::Several(blocks) => copy_across(blocks, pixels, pixel, lists),
+            Blocks::One(block) => Rest {
+                block,
+                pixel,
+                count: block.pixels() - pixel,
+            },
+            Blocks::Several(blocks) => rest_among(blocks, pixel),
         }
     }
 
-    // The same with the words of a lone block packed, of whose nodes so many were claimed.
-    pub(crate) fn packed(self, alloc: Global, claimed: u64) -> Result<Blocks, NoMemory>
+    // The same with the lists of a lone block gathered, of whose nodes so many were claimed.
+    pub(crate) fn gathered(self, alloc: Global, claimed: u64) -> Result<Blocks, NoMemory>
         ensures { IfOk result (λ blocks. lists_in blocks ≡ lists_in self) }
     {
         match self {
-            Blocks::One(block) => Ok(Blocks::One(block.packed(alloc, claimed)?)),
+            Blocks::One(block) => Ok(Blocks::One(block.gathered(alloc, claimed)?)),
             Blocks::Several(blocks) => Ok(Blocks::Several(blocks)),
         }
     }

@@ -1,5 +1,5 @@
 // A frame that is drawn.
-ghost use Rattle.std.specs.Prelude.{◌≡◌, ℕ, ◌+◌, ◌*◌, ◌<◌, ◌≤◌, ◌^◌, IfOk, IfSome, IfNone, IsPermutation, List, All, flat_map, length, slice_index_or, sum_by, []};
+ghost use Rattle.std.specs.Prelude.{◌≡◌, ℕ, ◌<◌, ◌≤◌, IfOk, IfSome, IfNone, IsPermutation, List, All, flat_map, length, sum_by};
 ghost use Rattle.abuf_num.specs.declared.limits.TheConstants.{MAX_NODES, MAX_PIXELS};
 ghost use Rattle.abuf_frame.specs.Chains.{IsListAt};
 ghost use Rattle.abuf_frame.specs.Closing.{AllSeen, list_at};
@@ -10,7 +10,7 @@ use crate::block::Block;
 use crate::blocks::Blocks;
 use crate::frame::Frame;
 use crate::pass::Pass;
-use crate::payloads::Payloads;
+use crate::reader::Reader;
 use crate::still::Still;
 use abuf_num::{List, NoMemory};
 use std::alloc::Global;
@@ -156,11 +156,13 @@ impl Closed {
         })
     }
 
-    /// The same frame with its words packed: 8 bytes for each fragment and 4 for each pixel, where a table has 16 for each node and 8
-    /// for each pixel. Lists are read sooner from these: more of them lies in the caches. The words stay as they are where the
-    /// frame is full, where a payload is 2^40 or more, and where it is one of stripes, which may be packed before they are put
-    /// together. Each word is read once. An error means that memory ran out, and the frame is let go.
-    pub fn packed(self, alloc: Global) -> Result<Closed, NoMemory>
+    /// The same frame with its lists gathered: the payloads of each lie side by side, in 8 bytes for each fragment and 4 for each
+    /// pixel, where a table has 16 for each node and 8 for each pixel. A `Reader` hands them out as they lie. Long lists are
+    /// walked eight at a time, so that their waits for memory overlap; for this they are copied once more. The lists stay as they
+    /// were drawn where the frame is full, where it is one of stripes, which may be gathered before they are put together, and
+    /// where they are long and a payload is 2^40 or more. The table is let go. An error means that memory ran out, and the
+    /// frame is let go.
+    pub fn gathered(self, alloc: Global) -> Result<Closed, NoMemory>
         ensures { IfOk result (λ closed. closed ≡ self) }
     {
         if self.full().is_some() {
@@ -173,7 +175,7 @@ impl Closed {
             fragments,
         } = self;
         Ok(Closed {
-            blocks: blocks.packed(alloc, fragments)?,
+            blocks: blocks.gathered(alloc, fragments)?,
             pixels,
             nodes,
             fragments,
@@ -215,16 +217,11 @@ impl Closed {
         self.blocks.copy_list(pixel, items)
     }
 
-    /// The lists of the eight pixels from this one on, each as `copy_list` gives it, and an empty one for each pixel past the
-    /// last. A walk along one list waits for memory at each node. Eight are walked here side by side, so that their waits
-    /// overlap, and neighbouring nodes are read while they are in the cache. The cost grows with the longest list and with the
-    /// sum of the eight. Where the words aren't packed, or the eight lie in several stripes, they are walked one after another.
-    /// After want of memory the buffers hold some of the payloads.
-    pub fn copy_eight(&self, pixel: u32, lists: &mut [Payloads; 8]) -> Result<(), NoMemory>
-        requires { pixel < self.now.pixels }
-        ensures length { length lists.new ≡ 8 }
-        ensures lists { IfOk result (λ _. (k : ℕ) → k < 8 → slice_index_or lists.new k [] ≡ list_at self.now (pixel + k)) }
+    /// A reader of the lists, that of this pixel first. It takes no memory before it reads one that isn't gathered.
+    pub fn reader(&self, alloc: Global, pixel: u32) -> Reader<'_>
+        ensures lists { result.lists ≡ self.now.lists }
+        ensures next { result.next ≡ pixel }
     {
-        self.blocks.copy_eight(self.pixels, pixel, lists)
+        Reader::new(alloc, &self.blocks, pixel)
     }
 }

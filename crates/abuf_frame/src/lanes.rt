@@ -1,15 +1,11 @@
 // The lists of eight neighbouring pixels, copied side by side.
-ghost use Rattle.std.specs.Prelude.{◌≡◌, ℕ, ◌+◌, ◌<◌, ◌≤◌, [], IfOk, IsTrue, length, slice_index, slice_index_or};
-ghost use Rattle.abuf_num.specs.declared.limits.TheConstants.{MAX_PIXELS};
+ghost use Rattle.std.specs.Prelude.{◌≡◌, ℕ, ◌+◌, ◌<◌, [], IfOk, IsTrue, length, slice_index, slice_index_or};
 ghost use Rattle.abuf_frame.specs.Closing.{Kept, lists_from};
-ghost use Rattle.abuf_frame.specs.Lanes.{Advances, AllAdvance, AllRefer, head_or_end};
+ghost use Rattle.abuf_frame.specs.Lanes.{Advances, AllAdvance, AllRefer, AreEight, head_or_end};
 ghost use Rattle.abuf_frame.specs.Packed.{unpacked};
-ghost use Rattle.abuf_frame.specs.Stripes.{AreEight};
 
-use crate::block::Block;
 use crate::packed::{NEXTS, Packed};
 use crate::payloads::Payloads;
-use crate::stored::Stored;
 use abuf_num::NoMemory;
 
 // Where the walks along the lists of the eight pixels from this one on begin.
@@ -75,7 +71,7 @@ fn advance_all(words: &Packed, at: &mut [u64; 8], lists: &mut [Payloads; 8]) -> 
 // The lists of the eight pixels from this one on, each a walk that passes at most so many nodes, and an empty one for each pixel past
 // the last. A walk along one list waits for memory at each node. Eight are walked here side by side, so that their waits overlap, and
 // neighbouring nodes are read while they are in the cache.
-fn walk_eight(
+pub(crate) fn walk_eight(
     words: &Packed,
     nodes: u32,
     pixel: u32,
@@ -95,30 +91,4 @@ fn walk_eight(
         advance_all(words, &mut at, lists)?;
     }
     Ok(())
-}
-
-impl Block {
-    // The lists of the eight pixels from this one on, each as `copy_list` gives it, and an empty one for each pixel past the last.
-    pub(crate) fn copy_eight(&self, pixel: u32, lists: &mut [Payloads; 8]) -> Result<(), NoMemory>
-        requires { pixel < length self.now }
-        ensures length { length lists.new ≡ 8 }
-        ensures lists { IfOk result (λ _. AreEight self.now pixel lists.new) }
-    {
-        match &self.words {
-            Stored::Packed(words) => walk_eight(words, self.nodes, pixel, lists),
-            Stored::Drawn(_) => self.copy_singly(pixel, lists),
-        }
-    }
-
-    // The same, one list after another.
-    fn copy_singly(&self, pixel: u32, lists: &mut [Payloads; 8]) -> Result<(), NoMemory>
-        requires { (pixel < length self.now) × (pixel ≤ MAX_PIXELS) }
-        ensures length { length lists.new ≡ 8 }
-        ensures lists { IfOk result (λ _. AreEight self.now pixel lists.new) }
-    {
-        for k in 0..8 {
-            lists[k].copy_or_clear(self, pixel + k as u32)?;
-        }
-        Ok(())
-    }
 }

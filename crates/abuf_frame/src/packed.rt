@@ -22,38 +22,6 @@ impl Packed {
     ghost use Rattle.abuf_frame.specs.Packed.{unpacked};
     ghost use Rattle.abuf_frame.specs.Words.{head_word};
 
-    // The packed node that stands there, and 0 past the last.
-    fn node(&self, place: usize) -> u64
-        ensures { result ≡ slice_index self.now.nodes.items place }
-    {
-        if place < self.nodes.len() {
-            self.nodes[place]
-        } else {
-            0
-        }
-    }
-
-    // One of the words of the table.
-    pub(crate) fn word(&self, i: usize) -> u64
-        requires { i < length (unpacked self.now) }
-        ensures { result ≡ slice_index (unpacked self.now) i }
-    {
-        if i == 0 {
-            return 0;
-        }
-        let place = i - 1;
-        if place < self.heads.len() {
-            return u64::from(self.heads[place]);
-        }
-        let place = place - self.heads.len();
-        let node = self.node(1 + place / 2);
-        if place % 2 == 0 {
-            node / NEXTS
-        } else {
-            node % NEXTS
-        }
-    }
-
     // The head of the pixel.
     pub(crate) fn head(&self, pixel: usize) -> u64
         requires { pixel < length self.now.heads.items }

@@ -1,14 +1,13 @@
 // A buffer for the list of a pixel.
-ghost use Rattle.std.specs.Prelude.{◌≡◌, ◌<◌, ◌++◌, ◌∷◌, [], if◌then◌else◌, IfOk, length, slice_index_or};
+ghost use Rattle.std.specs.Prelude.{◌≡◌, ◌++◌, ◌∷◌, [], if◌then◌else◌, IfOk};
 
-use crate::block::Block;
 use abuf_num::NoMemory;
 use std::alloc::Global;
 use std::marker::Model;
 
-/// The payloads of a pixel's list, in a buffer that serves for one list after another. Contracts see the payloads.
+// The payloads of a pixel's list, in a buffer that serves for one list after another. Clauses see the payloads.
 #[derive(Drop)]
-pub struct Payloads {
+pub(crate) struct Payloads {
     // As many words as the longest list took so far, and some more. The payloads are the first of them.
     words: Vec<u64>,
     count: usize,
@@ -25,8 +24,8 @@ impl Model for Payloads {
 }
 
 impl Payloads {
-    /// An empty list. It takes no memory yet.
-    pub fn new(alloc: Global) -> Payloads
+    // An empty list. It takes no memory yet.
+    pub(crate) fn new(alloc: Global) -> Payloads
         ensures { result ≡ [] }
     {
         Payloads {
@@ -35,8 +34,7 @@ impl Payloads {
         }
     }
 
-    /// The list as the last copy left it.
-    pub fn as_slice(&self) -> &[u64]
+    pub(crate) fn as_slice(&self) -> &[u64]
         ensures { result.now ≡ self.now }
     {
         &self.words[..self.count]
@@ -71,28 +69,5 @@ impl Payloads {
         self.words[self.count] = payload;
         self.count += usize::from(is_there);
         Ok(())
-    }
-
-    // The list of the block's pixel.
-    fn copy_from(&mut self, block: &Block, pixel: u32) -> Result<(), NoMemory>
-        requires { pixel < length block.now }
-        ensures { IfOk result (λ _. self.new ≡ slice_index_or block.now pixel []) }
-    {
-        self.count = 0;
-        block.copy_list(pixel, &mut self.words)?;
-        self.count = self.words.len();
-        Ok(())
-    }
-
-    // The same, or an empty list past the block's last pixel.
-    pub(crate) fn copy_or_clear(&mut self, block: &Block, pixel: u32) -> Result<(), NoMemory>
-        ensures { IfOk result (λ _. self.new ≡ slice_index_or block.now pixel []) }
-    {
-        if pixel < block.pixels() {
-            self.copy_from(block, pixel)
-        } else {
-            self.clear();
-            Ok(())
-        }
     }
 }

@@ -120,7 +120,7 @@ fn draw_in_one<R: Threads + Sync, G: Gate + Sync>(
     ensures { IfOk result (IsFrameOf primitives.now.triangles.now target.now.pattern target.now.region target.now.nodes) }
 {
     let (frame, pass) = draw_pass(rt, alloc, primitives, target, room, gate)?;
-    close_drawn(primitives, target, frame, pass).packed(alloc)
+    close_drawn(primitives, target, frame, pass).gathered(alloc)
 }
 
 /// The closed frame into which the primitives are drawn. A small one is drawn by the target's number of workers together. A

@@ -91,7 +91,7 @@ impl<'a> Stripes<'a> {
         };
         let started = Frame::start_from(alloc, blank, target.region.pixels(), target.nodes)?;
         let (frame, pass) = draw_into(rt, alloc, &self.primitives, &target, started, gate)?;
-        close_drawn(&self.primitives, &target, frame, pass).packed(alloc)
+        close_drawn(&self.primitives, &target, frame, pass).gathered(alloc)
     }
 
     /// The closed frame of a stripe, which has a node for each fragment. It is drawn with as many nodes as were guessed, and where

@@ -33,13 +33,12 @@ pub(crate) struct Run {
     pub(crate) resolved: Resolved,
 }
 
-/// How many pixels each run has but the last: whole groups of eight, since the lists of eight pixels are read together.
+/// How many pixels each run has but the last.
 fn run_size(pixels: u32, threads: u32) -> u32
     requires threads { (1 ≤ threads) × (threads ≤ MAX_THREADS) }
     ensures { (1 ≤ result) × (result ≤ LONGEST_RUN) }
 {
-    let eights = pixels / (8 * RUNS_A_THREAD * threads);
-    8 * eights.clamp(1, LONGEST_RUN / 8)
+    (pixels / (RUNS_A_THREAD * threads)).clamp(1, LONGEST_RUN)
 }
 
 /// How many runs of this size so many pixels make.

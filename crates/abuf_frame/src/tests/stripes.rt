@@ -1,9 +1,8 @@
 // Closed frames of stripes.
 use super::{moved, shared};
-use crate::{Blank, Closed, Frame, Full, Payloads};
+use crate::{Blank, Closed, Frame, Full};
 use abuf_num::NoMemory;
 use std::alloc::Global;
-use std::array;
 use std::test::Fail;
 use std::thread::map_indices;
 
@@ -34,19 +33,21 @@ fn three_stripes(rt: HostRuntime) -> Result<(), Fail> {
     assert!(rt; list.as_slice() == [51].as_slice());
     closed.copy_list(15, &mut list)?;
     assert!(rt; list.as_slice() == [151].as_slice());
-    let mut lists = array::from_fn(|_| Payloads::new(alloc));
-    closed.copy_eight(0, &mut lists)?;
-    assert!(rt; lists[0].as_slice() == [1].as_slice() && lists[1].as_slice().is_empty());
-    assert!(rt; lists[2].as_slice() == [21].as_slice() && lists[3].as_slice().is_empty());
-    assert!(rt; lists[4].as_slice() == [42, 41].as_slice());
-    assert!(rt; lists[5].as_slice() == [51].as_slice() && lists[6].as_slice() == [61].as_slice());
-    assert!(rt; lists[7].as_slice() == [71].as_slice());
-    closed.copy_eight(8, &mut lists)?;
-    assert!(rt; lists[0].as_slice() == [81].as_slice() && lists[6].as_slice().is_empty());
-    assert!(rt; lists[7].as_slice() == [151].as_slice());
-    closed.copy_eight(14, &mut lists)?;
-    assert!(rt; lists[0].as_slice().is_empty() && lists[1].as_slice() == [151].as_slice());
-    assert!(rt; lists[2].as_slice().is_empty() && lists[7].as_slice().is_empty());
+    let mut reader = closed.reader(alloc, 0);
+    assert_next!(rt, reader, [1]);
+    reader.read()?;
+    assert!(rt; reader.list().is_empty());
+    assert_next!(rt, reader, [21]);
+    reader.read()?;
+    assert_next!(rt, reader, [42, 41]);
+    assert_next!(rt, reader, [51]);
+    assert_next!(rt, reader, [61]);
+    assert_next!(rt, reader, [71]);
+    assert_next!(rt, reader, [81]);
+    let mut reader = closed.reader(alloc, 14);
+    reader.read()?;
+    assert!(rt; reader.list().is_empty());
+    assert_next!(rt, reader, [151]);
     Ok(())
 }
 
