@@ -108,14 +108,21 @@ fn long_tokens(rt: HostRuntime) -> Result<(), Fail> {
     Ok(())
 }
 
-/// 64 MiB of empty lines are the most that is read of a scene, and of a library.
+/// 64 MiB of empty lines are the most that is read of a scene.
 #[test]
-fn most_bytes(rt: HostRuntime) -> Result<(), Fail> {
+fn most_bytes_of_a_scene(rt: HostRuntime) -> Result<(), Fail> {
     let alloc = rt.alloc();
     let outcome = drawn(&rt, alloc, repeated(alloc, b"", b"\n", 67108864)?)?;
     assert!(rt; is_answer(alloc, &outcome, BLACK)?);
     let outcome = drawn(&rt, alloc, repeated(alloc, b"", b"\n", 67108865)?)?;
     assert!(rt; is_answer(alloc, &outcome, "3 scene too long")?);
+    Ok(())
+}
+
+/// The same of a library.
+#[test]
+fn most_bytes_of_a_library(rt: HostRuntime) -> Result<(), Fail> {
+    let alloc = rt.alloc();
     let outcome = with_library(&rt, alloc, repeated(alloc, b"", b"\n", 67108864)?)?;
     assert!(rt; is_answer(alloc, &outcome, BLACK)?);
     let outcome = with_library(&rt, alloc, repeated(alloc, b"", b"\n", 67108865)?)?;
