@@ -2,7 +2,7 @@
 
 A sample counts for the part of the function in which it was taken; in the kernel and in the C library, of the function that
 called them. The crate of a function decides, and its name where a crate has functions of several parts. What the compiler puts
-into a function of another crate counts there; the top call's functions are told by what they are made of.
+into a function of another crate counts there.
 """
 
 import os
@@ -13,16 +13,15 @@ from collections import Counter
 
 # The parts, and what the names of their functions hold; the first that fits counts.
 PARTS = {
-    "starting": r"abuf_frame::(frame::.*(start|words)|blank)|atomic_table::.*of_words|abuf_picture::(drawing|layout|striped|stripes)|abuf_fan::most|abuf_raster::upper_bound",
-    "projecting": r"abuf_view::|abuf_scene::(assembly|fans|triangles)|abuf_num::division|abuf_top::prepare::show",
+    "starting": r"abuf_frame::(frame::.*(start|words)|blank)|atomic_table::.*of_words|abuf_picture::(re)?drawing|abuf_fan::(most|order)|abuf_raster::upper_bound",
+    "projecting": r"abuf_view::|abuf_scene::(assembly|fans|triangles)|abuf_num::division|abuf_top::loaded",
     "reading": r"abuf_(cli|io|text|obj|mtl|scene|num)::|abuf_top::(load|prepare|libraries|demonstration)|bstr::|clap::|std_coll",
-    "drawing": r"abuf_(fan|draw|raster|peel)::|abuf_frame::pass",
-    "closing": r"abuf_frame::.*(pack|gather|lanes|payloads)|abuf_frame::frame::Frame::close|abuf_top::(whole|output)",
-    "resolving": r"abuf_(resolve|band)::|abuf_picture::resolving|abuf_frame::|::sort::|std::thread::fork",
+    "drawing": r"abuf_(fan|draw|peel)::|abuf_raster::(?!plane)|abuf_frame::pass",
+    "resolving": r"abuf_(resolve|band)::|abuf_raster::plane|abuf_picture::resolving|abuf_frame::|::sort::|std::thread::fork",
     "writing": r"abuf_pam::|abuf_top::image",
 }
 OTHER = "other"
-COLUMNS = ("reading", "projecting", "starting", "drawing", "closing", "resolving", "writing", OTHER)
+COLUMNS = ("reading", "projecting", "starting", "drawing", "resolving", "writing", OTHER)
 
 
 class Failed(Exception):
@@ -34,8 +33,9 @@ def part_of(function):
 
 
 def function_of(frames, program):
-    """The innermost function of the program, else the innermost of all; a frame is a function and the file that holds it."""
-    return next((function for function, file in frames if file == program), frames[0][0])
+    """The innermost function of the program that isn't the allocator's, else the innermost of all; a frame is a function and the
+    file that holds it."""
+    return next((name for name, file in frames if file == program and not name.startswith("rattle_")), frames[0][0])
 
 
 class Shares:

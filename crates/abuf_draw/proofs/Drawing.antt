@@ -1,14 +1,15 @@
 -- How far the drawing of a list of items has come.
-use Rattle.std.proofs.Common.{◌≡◌, ℕ, ◌≤◌, List, [], ◌∷◌, ◌++◌, length, map, All, sym, ap, ◌∙◌, subst, arith, IsPermutation, length-append, append_assoc, append-nil}
+use Rattle.std.proofs.Common.{◌≡◌, ℕ, ◌+◌, ◌≤◌, List, [], ◌∷◌, ◌++◌, length, map, All, sym, ap, ◌∙◌, subst, arith, IsPermutation, length-append, append_assoc, append-nil}
 use Rattle.std.proofs.lemmas.List.{length-map, map-append}
 use Rattle.std.proofs.lemmas.List.Elements.{All-nil, All-cons, All-tail}
-use Rattle.std.proofs.lemmas.List.Sorted.{length_permutation}
+use Rattle.std.proofs.lemmas.List.Sorted.{length_permutation, IsPermutation-refl, IsPermutation-trans, IsPermutation-append, IsPermutation-append_right}
 use Rattle.abuf_raster.specs.declared.region.Hit.{Hit}
 use Rattle.abuf_raster.specs.Region.{Region}
 use Rattle.abuf_raster.specs.Hits.{placed}
 use Rattle.abuf_frame.specs.declared.view.View.{View}
 use Rattle.abuf_frame.specs.Draws.{Draws}
 use Rattle.abuf_frame.proofs.Draws.{draws_none, draws_then, draws_permuted, draws_credit}
+use Rattle.abuf_draw.specs.Waiting.{Passes}
 
 -- some of all items were drawn, and the rest comes later
 pub record Midway (all rest : List (ℕ × ℕ)) (v w : View) : Type 0 where
@@ -20,27 +21,67 @@ pub record Midway (all rest : List (ℕ × ℕ)) (v w : View) : Type 0 where
 pub midway_starts : (all rest : List (ℕ × ℕ)) (v : View) → IsPermutation rest all → Midway all rest v v
 midway_starts all rest v p = record { out = []; drawn = draws_none v; left = p }
 
+-- When those that wait had been put first, the others came.
+pub waiting_first : (waited came items : List (ℕ × ℕ)) → IsPermutation came items → IsPermutation (waited ++ came) (waited ++ items)
+waiting_first waited came items p = IsPermutation-append_right waited came items p
+
 module _ (all : List (ℕ × ℕ)) (v w : View) where
   -- there is credit for the next ones
-  pub midway_room : (next rest : List (ℕ × ℕ)) → Midway all (next ++ rest) v w → (area : ℕ) → length all ≤ area → area ≤ v.credit → length next ≤ w.credit
-  midway_room next rest m area few enough =
+  pub midway_room : (next rest : List (ℕ × ℕ)) → Midway all (next ++ rest) v w → (most : ℕ) → length all ≤ most → most ≤ v.credit → length next ≤ w.credit
+  midway_room next rest m most few enough =
       let l = length_permutation (m.out ++ (next ++ rest)) all m.left in
       let a = length-append m.out (next ++ rest) in
       let b = length-append next rest in
       let c = draws_credit m.out v w m.drawn in
       omega arith
 
-  -- once they are drawn
-  pub midway_more : (next rest : List (ℕ × ℕ)) → Midway all (next ++ rest) v w → (u : View) → Draws next w u → Midway all rest v u
-  midway_more next rest m u d = record {
-    out = m.out ++ next;
-    drawn = draws_then m.out next v w u m.drawn d;
-    left = subst (λ (xs : List (ℕ × ℕ)). IsPermutation xs all) (sym (append_assoc m.out next rest)) m.left;
-  }
+  -- once some came to those that wait, and some of them were drawn
+  pub midway_more : (waited came waits rest : List (ℕ × ℕ)) → Midway all (waited ++ (came ++ rest)) v w → (u : View) → Passes waited came waits w u → Midway all (waits ++ rest) v u
+  midway_more waited came waits rest m u p =
+      let xs : List (ℕ × ℕ) = m.out in let ys : List (ℕ × ℕ) = p.out in
+      let moved : IsPermutation ((ys ++ waits) ++ rest) ((waited ++ came) ++ rest) = IsPermutation-append (ys ++ waits) (waited ++ came) rest rest p.same (IsPermutation-refl rest) in
+      let inner : IsPermutation (ys ++ (waits ++ rest)) (waited ++ (came ++ rest)) =
+      subst (λ (l : List (ℕ × ℕ)). IsPermutation l (waited ++ (came ++ rest))) (append_assoc ys waits rest) (subst (IsPermutation ((ys ++ waits) ++ rest)) (append_assoc waited came rest) moved) in
+      let whole = IsPermutation-append_right xs (ys ++ (waits ++ rest)) (waited ++ (came ++ rest)) inner in
+      record {
+        out = xs ++ ys;
+        drawn = draws_then xs ys v w u m.drawn p.drawn;
+        left = subst (λ (l : List (ℕ × ℕ)). IsPermutation l all) (sym (append_assoc xs ys (waits ++ rest))) (IsPermutation-trans (xs ++ (ys ++ (waits ++ rest))) (xs ++ (waited ++ (came ++ rest))) all whole m.left);
+      }
 
-  -- When none is left, all are drawn.
-  pub midway_ends : Midway all [] v w → Draws all v w
-  midway_ends m = draws_permuted m.out all v w (subst (λ (xs : List (ℕ × ℕ)). IsPermutation xs all) (append-nil m.out) m.left) m.drawn
+-- When only those are left that wait, the others were drawn.
+pub midway_ends : (waited came waits : List (ℕ × ℕ)) (v w : View) → Midway (waited ++ came) (waits ++ []) v w → Passes waited came waits v w
+midway_ends waited came waits v w m = record {
+  out = m.out;
+  drawn = m.drawn;
+  same = subst (λ (l : List (ℕ × ℕ)). IsPermutation (m.out ++ l) (waited ++ came)) (append-nil waits) m.left;
+}
+
+-- Nothing came, and nothing was drawn.
+pub passes_none : (waited : List (ℕ × ℕ)) (v : View) → Passes waited [] waited v v
+passes_none waited v = record { out = []; drawn = draws_none v; same = subst (IsPermutation waited) (sym (append-nil waited)) (IsPermutation-refl waited) }
+
+-- One after another.
+pub passes_then : (a xs b ys d : List (ℕ × ℕ)) (v w u : View) → Passes a xs b v w → Passes b ys d w u → Passes a (xs ++ ys) d v u
+passes_then a xs b ys d v w u p q =
+    let m = midway_more (a ++ (xs ++ ys)) v w b ys d [] (record { out = p.out; drawn = p.drawn; left = ready }) u q in
+    midway_ends a (xs ++ ys) d v u m
+  where
+    ready : IsPermutation (p.out ++ (b ++ (ys ++ []))) (a ++ (xs ++ ys))
+    ready = subst (λ (l : List (ℕ × ℕ)). IsPermutation (p.out ++ (b ++ l)) (a ++ (xs ++ ys))) (sym (append-nil ys))
+        (subst (λ (l : List (ℕ × ℕ)). IsPermutation l (a ++ (xs ++ ys))) (append_assoc p.out b ys)
+        (subst (IsPermutation ((p.out ++ b) ++ ys)) (append_assoc a xs ys) (IsPermutation-append (p.out ++ b) (a ++ xs) ys ys p.same (IsPermutation-refl ys))))
+
+-- Once those that wait are drawn, all are.
+pub passes_end : (came waits : List (ℕ × ℕ)) (v w u : View) → Passes [] came waits v w → Draws waits w u → Draws came v u
+passes_end came waits v w u p d = draws_permuted (p.out ++ waits) came v u p.same (draws_then p.out waits v w u p.drawn d)
+
+-- What was spent is told by how many wait.
+pub passes_credit : (waited came waits : List (ℕ × ℕ)) (v w : View) → Passes waited came waits v w → w.credit + length came + length waited ≡ v.credit + length waits
+passes_credit waited came waits v w p =
+    let l = length_permutation (p.out ++ waits) (waited ++ came) p.same in
+    let a = length-append p.out waits in let b = length-append waited came in let c = draws_credit p.out v w p.drawn in
+    omega arith
 
 -- as many items as hits
 pub placed_few : (r : Region) (xs ys : List Hit) → IsPermutation xs ys → (n : ℕ) → length xs ≤ n → length (map (placed r) ys) ≤ n
@@ -57,9 +98,9 @@ all_rest P [] ys h = h
 all_rest P (x ∷ xs) ys h = all_rest P xs ys (All-tail P x (xs ++ ys) h)
 
 -- the next tile's hits, and what is left
-pub midway_tile : (r : Region) (all : List (ℕ × ℕ)) (next rest old : List Hit) (v w : View) → next ++ rest ≡ old → Midway all (map (placed r) old) v w → Midway all (map (placed r) next ++ map (placed r) rest) v w
-midway_tile r all next rest old v w e m = subst (λ (xs : List (ℕ × ℕ)). Midway all xs v w) (ap (map (placed r)) (sym e) ∙ map-append (placed r) next rest) m
+pub midway_tile : (r : Region) (all waits : List (ℕ × ℕ)) (next rest old : List Hit) (v w : View) → next ++ rest ≡ old → Midway all (waits ++ map (placed r) old) v w → Midway all (waits ++ (map (placed r) next ++ map (placed r) rest)) v w
+midway_tile r all waits next rest old v w e m = subst (λ (xs : List (ℕ × ℕ)). Midway all (waits ++ xs) v w) (ap (map (placed r)) (sym e) ∙ map-append (placed r) next rest) m
 
 -- none is left
-pub none_left : (r : Region) (all : List (ℕ × ℕ)) (old : List Hit) (v w : View) → old ≡ [] → Midway all (map (placed r) old) v w → Midway all [] v w
-none_left r all old v w e m = subst (λ (xs : List Hit). Midway all (map (placed r) xs) v w) e m
+pub none_left : (r : Region) (all waits : List (ℕ × ℕ)) (old : List Hit) (v w : View) → old ≡ [] → Midway all (waits ++ map (placed r) old) v w → Midway all (waits ++ []) v w
+none_left r all waits old v w e m = subst (λ (xs : List Hit). Midway all (waits ++ map (placed r) xs) v w) e m

@@ -1,17 +1,14 @@
 -- A triangle that covers no sample of a region has no hits in it.
-use Rattle.std.proofs.Common.{◌≡◌, ℕ, ◌*◌, ◌≤◌, ℤ, List, [], map, arith, ap, sym, subst, ◌∙◌, inl, inr}
+use Rattle.std.proofs.Common.{◌≡◌, ℕ, ◌*◌, ◌≤◌, ℤ, List, [], arith, ap, ◌∙◌, inl, inr}
 use Rattle.std.specs.List.{filter_map, range_with_len}
 use Rattle.std.proofs.lemmas.Bool.{cases_lt}
 use Rattle.abuf_raster.specs.declared.region.Hit.{Hit}
 use Rattle.abuf_raster.specs.Region.{Region}
 use Rattle.abuf_raster.specs.Triangle.{Triangle}
 use Rattle.abuf_raster.specs.BoundingBox.{CoversNone}
-use Rattle.abuf_raster.specs.Hits.{hits, hit_at, fragments, placed}
+use Rattle.abuf_raster.specs.Hits.{hits, hit_at}
 use Rattle.abuf_raster.proofs.Blocks.{block_none}
 use Rattle.abuf_raster.proofs.Boxes.{hits_rows}
-use Rattle.abuf_frame.specs.declared.view.View.{View}
-use Rattle.abuf_frame.specs.Draws.{Draws}
-use Rattle.abuf_frame.proofs.Draws.{draws_none}
 
 module _ (t : Triangle) (n : ℕ) (os : List (ℤ × ℤ)) (r : Region) (none : CoversNone t os r) where
   -- A region without columns has no places.
@@ -28,7 +25,3 @@ module _ (t : Triangle) (n : ℕ) (os : List (ℤ × ℤ)) (r : Region) (none : 
     | inl some ↦ hits_rows t n os r some ∙ block_none t n os r.x0 r.w r.y0 r.h none
     | inr empty ↦ without_pixels empty
   ]
-
-  -- So nothing is drawn of it.
-  pub draws_nothing : (v : View) → Draws (fragments t n os r) v v
-  draws_nothing v = subst (λ (hs : List Hit). Draws (map (placed r) hs) v v) (sym no_hits) (draws_none v)

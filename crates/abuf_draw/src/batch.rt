@@ -1,5 +1,5 @@
 // Items that wait for their claim.
-ghost use Rattle.std.specs.Prelude.{◌≡◌, ℕ, ◌+◌, ◌*◌, ◌<◌, ◌≤◌, List, [], ◌∷◌, ◌++◌, length, take, map, All};
+ghost use Rattle.std.specs.Prelude.{◌≡◌, ℕ, ◌+◌, ◌*◌, ◌<◌, ◌≤◌, ◌↔◌, IsTrue, List, [], ◌∷◌, ◌++◌, length, take, map, All};
 ghost use Rattle.abuf_raster.specs.Hits.{IsHitIn, placed};
 
 use abuf_raster::{Hit, Region, pack};
@@ -52,28 +52,38 @@ impl Batch {
         self.count += 1;
     }
 
-    fn clear(&mut self)
+    pub(crate) fn clear(&mut self)
         ensures { self.new ≡ [] }
     {
         self.count = 0;
     }
 
-    /// Holds the items of these hits and no others.
+    /// Whether so many more find room.
     #[inline(always)]
-    pub(crate) fn fill(&mut self, region: Region, hits: &[Hit])
+    pub(crate) fn has_room(&self, count: usize) -> bool
+        requires { count ≤ 64 }
+        ensures { IsTrue result ↔ (length self.now + count ≤ 64) }
+    {
+        self.count + count <= 64
+    }
+
+    /// Puts the items of these hits last.
+    #[inline(always)]
+    pub(crate) fn add(&mut self, region: Region, hits: &[Hit])
         requires within { All (IsHitIn region) hits.now }
-        requires few { length hits.now ≤ 64 }
-        ensures items { self.new ≡ map (placed region) hits.now }
+        requires room { length self.old + length hits.now ≤ 64 }
+        requires places { All (λ x. x.0 < region.w * region.h) self.old }
+        ensures items { self.new ≡ self.old ++ map (placed region) hits.now }
         ensures places { All (λ x. x.0 < region.w * region.h) self.new }
     {
-        self.clear();
         for hit in hits {
             self.push(item(region, *hit));
         }
     }
 
     pub(crate) fn as_slice(&self) -> &[(u32, u64)]
-        ensures { result.now ≡ self.now }
+        ensures items { result.now ≡ self.now }
+        ensures few { length result.now ≤ 64 }
     {
         &self.items[..self.count]
     }

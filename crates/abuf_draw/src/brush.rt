@@ -1,10 +1,11 @@
 // Triangles, put into the frame one after another.
-ghost use Rattle.std.specs.Prelude.{◌≡◌, ◌+◌, ◌*◌, ◌<◌, ◌≤◌, length, map, take, All};
+ghost use Rattle.std.specs.Prelude.{◌≡◌, ◌+◌, ◌*◌, ◌<◌, ◌≤◌, [], length, map, take, All};
 ghost use Rattle.abuf_num.specs.declared.limits.TheConstants.{MAX_PRIMITIVES};
 ghost use Rattle.abuf_raster.specs.Samples.{offsets_of};
 ghost use Rattle.abuf_raster.specs.Hits.{IsHitIn, fragments, placed};
 ghost use Rattle.abuf_frame.specs.Views.{endowment, loose};
 ghost use Rattle.abuf_frame.specs.Draws.{Draws};
+ghost use Rattle.abuf_draw.specs.Waiting.{Passes};
 
 use crate::batch::Batch;
 use abuf_frame::{Frame, Pass};
@@ -17,8 +18,9 @@ const NO_HIT: Hit = Hit {
     fragment: Fragment { prim: 0, mask: 0 },
 };
 
-/// Draws triangles into a region, sampled in a pattern. It has room for the fragments of a tile, which serves for one triangle
-/// after another: to clear it for each would cost more than a small triangle.
+/// Draws triangles into a region, sampled in a pattern. Fragments, of one triangle after another, wait until there are up to 64 of
+/// them, and are then put into the frame by one claim, since a claim costs as much as a fragment, and more where many threads draw.
+/// After the last triangle those that still wait are flushed.
 #[derive(Drop)]
 pub struct Brush {
     pub region: Region,
@@ -26,11 +28,13 @@ pub struct Brush {
     hits: [Hit; 64],
     batch: Batch,
     ghost long: { length hits ≡ 64 },
+    ghost placed: { All (λ x. x.0 < region.w * region.h) batch },
 }
 
 impl Brush {
     pub fn new(region: Region, pattern: Pattern) -> Brush
-        ensures { (result.region ≡ region) × (result.pattern ≡ pattern) }
+        ensures brush { (result.region ≡ region) × (result.pattern ≡ pattern) }
+        ensures none { result.batch ≡ [] }
     {
         Brush {
             region,
@@ -40,34 +44,49 @@ impl Brush {
         }
     }
 
-    /// Puts the first `count` hits into the frame, by one claim.
-    fn draw_hits(&mut self, frame: &Frame, pass: &mut Pass, count: usize)
+    /// Puts the fragments that wait into the frame, by one claim.
+    pub fn flush(&mut self, frame: &Frame, pass: &mut Pass)
+        requires frame { pass.old.frame ≡ frame.now }
+        requires pixels { self.old.region.w * self.old.region.h ≤ frame.now.pixels }
+        requires credit { length self.old.batch ≤ pass.old.view.credit }
+        ensures brush { (self.new.region ≡ self.old.region) × (self.new.pattern ≡ self.old.pattern) × (self.new.hits ≡ self.old.hits) }
+        ensures none { self.new.batch ≡ [] }
+        ensures frame { pass.new.frame ≡ pass.old.frame }
+        ensures draws { Draws self.old.batch pass.old.view pass.new.view }
+    {
+        pass.insert_all(frame, self.batch.as_slice());
+        self.batch.clear();
+    }
+
+    /// Lets the first `count` hits wait for their claim. Those that wait already are put into the frame first where there is no room
+    /// for both.
+    fn add(&mut self, frame: &Frame, pass: &mut Pass, count: usize)
         requires frame { pass.old.frame ≡ frame.now }
         requires count { count ≤ 64 }
         requires within { All (IsHitIn self.old.region) (take count self.old.hits) }
         requires pixels { self.old.region.w * self.old.region.h ≤ frame.now.pixels }
-        requires credit { length (take count self.old.hits) ≤ pass.old.view.credit }
+        requires credit { length self.old.batch ≤ pass.old.view.credit }
         ensures brush { (self.new.region ≡ self.old.region) × (self.new.pattern ≡ self.old.pattern) }
         ensures frame { pass.new.frame ≡ pass.old.frame }
-        ensures draws { Draws (map (placed self.old.region) (take count self.old.hits)) pass.old.view pass.new.view }
+        ensures passes { Passes self.old.batch (map (placed self.old.region) (take count self.old.hits)) self.new.batch pass.old.view pass.new.view }
     {
-        self.batch.fill(self.region, &self.hits[..count]);
-        pass.insert_all(frame, self.batch.as_slice());
+        if !self.batch.has_room(count) {
+            self.flush(frame, pass);
+        }
+        self.batch.add(self.region, &self.hits[..count]);
     }
 
-    /// Draws the triangle as primitive number `prim`, as [`draw`] does.
+    /// Draws the triangle as primitive number `prim`, as [`draw`] does, but that some of its fragments may wait with those that
+    /// waited before.
     pub fn draw(&mut self, frame: &Frame, pass: &mut Pass, t: &ScreenTri, prim: u32)
         requires frame { pass.old.frame ≡ frame.now }
         requires prim { prim < MAX_PRIMITIVES }
         requires pixels { self.old.region.w * self.old.region.h ≤ frame.now.pixels }
-        requires credit { self.old.region.w * self.old.region.h ≤ pass.old.view.credit }
+        requires credit { length self.old.batch + self.old.region.w * self.old.region.h ≤ pass.old.view.credit }
         ensures brush { (self.new.region ≡ self.old.region) × (self.new.pattern ≡ self.old.pattern) }
         ensures frame { pass.new.frame ≡ pass.old.frame }
-        ensures draws { Draws (fragments t.now prim (offsets_of self.old.pattern) self.old.region) pass.old.view pass.new.view }
-        ensures credit { pass.new.view.credit + length (fragments t.now prim (offsets_of self.old.pattern) self.old.region) ≡ pass.old.view.credit }
-        ensures few { pass.old.view.credit ≤ pass.new.view.credit + self.old.region.w * self.old.region.h }
-        ensures endowment { endowment pass.new.view ≡ endowment pass.old.view }
-        ensures loose { loose pass.new.view.entries ≡ loose pass.old.view.entries }
+        ensures passes { Passes self.old.batch (fragments t.now prim (offsets_of self.old.pattern) self.old.region) self.new.batch pass.old.view pass.new.view }
+        ensures few { pass.old.view.credit + length self.new.batch ≤ pass.new.view.credit + length self.old.batch + self.old.region.w * self.old.region.h }
     {
         // For a triangle outside of the region, this takes much less than to set up its tiles.
         if !meets(t, self.region, self.pattern) {
@@ -75,7 +94,7 @@ impl Brush {
         }
         let mut tiles = TileHits::new(t, prim, self.region, self.pattern);
         while let Some(count) = tiles.next_tile(&mut self.hits) {
-            self.draw_hits(frame, pass, count);
+            self.add(frame, pass, count);
         }
     }
 }
@@ -104,4 +123,5 @@ pub fn draw(
 {
     let mut brush = Brush::new(region, pattern);
     brush.draw(frame, pass, t, prim);
+    brush.flush(frame, pass);
 }

@@ -5,3 +5,4 @@ pub mod Taken
 pub mod Serving
 pub mod Halves
 mod Counted
+pub mod Ordered

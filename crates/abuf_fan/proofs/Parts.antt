@@ -12,17 +12,17 @@ use Rattle.abuf_raster.proofs.Hits.{hits_few}
 pub next_of : (ts : List Triangle) (i : ℕ) (t : Triangle) → i < length ts → t ≡ slice_index_or ts i t → drop i ts ≡ t ∷ drop (i + 1) ts
 next_of ts i t l e = let s : suc i ≡ i + 1 = omega arith in drop-cons ts i t l ∙ λ k. sym e k ∷ drop (s k) ts
 
--- Credit for some triangles on each pixel is enough for one of them,
-pub one_more : (n area credit : ℕ) → suc n * area ≤ credit → area ≤ credit
-one_more n area credit l = omega arith
+-- Credit for those that wait, and for some triangles on each pixel, is enough for one triangle,
+pub one_more_waits : (waiting n area credit : ℕ) → waiting + suc n * area ≤ credit → waiting + area ≤ credit
+one_more_waits waiting n area credit l = omega arith
 
 -- what one leaves of it is enough for the others,
-pub one_less : (n area credit after : ℕ) → suc n * area ≤ credit → credit ≤ after + area → n * area ≤ after
-one_less n area credit after l f = omega arith
+pub still_room : (old new n area credit after : ℕ) → old + suc n * area ≤ credit → credit + new ≤ after + old + area → new + n * area ≤ after
+still_room old new n area credit after l f = omega arith
 
 -- and all together have spent no more than that.
-pub still_few : (n area start now after all : ℕ) → start + suc n * area ≤ now + all → now ≤ after + area → start + n * area ≤ after + all
-still_few n area start now after all l f = omega arith
+pub still_few : (old new n area start now after all : ℕ) → start + suc n * area + old ≤ now + all → now + new ≤ after + old + area → start + n * area + new ≤ after + all
+still_few old new n area start now after all l f = omega arith
 
 module _ (os : List (ℤ × ℤ)) (r : Region) where
   -- The fragments of two lists of triangles are those of the first, and then those of the second, numbered after them.

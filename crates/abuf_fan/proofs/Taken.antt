@@ -13,9 +13,7 @@ use Rattle.abuf_raster.specs.Triangle.{Triangle}
 use Rattle.abuf_frame.specs.Counting.{below, times}
 use Rattle.abuf_frame.proofs.Counting.{times-append, below_more, below_from}
 use Rattle.abuf_frame.proofs.Counting.{split_at, none_in}
-use Rattle.abuf_raster.specs.Hits.{all_fragments}
-use Rattle.abuf_fan.proofs.Parts.{all_fragments-append}
-use Rattle.abuf_fan.specs.Parts.{part_fragments, parts_of}
+use Rattle.abuf_fan.specs.Parts.{fragments_of, part_fragments, parts_of}
 
 -- Lists of the same numbers lead to the same items, in some order.
 pub flat_same : {A : Type 0} (f : ℕ → List A) (xs ys : List ℕ) → ((n : ℕ) → times n xs ≡ times n ys) → IsPermutation (flat_map f xs) (flat_map f ys)
@@ -39,39 +37,34 @@ times_first n count = let r = times_range n 0 count in let z = none n in let e :
     none : (n : ℕ) → below n 0 ≡ 0
     none n = grind arith
 
-module _ (ts : List Triangle) (os : List (ℤ × ℤ)) (r : Region) where
-  -- Without triangles it makes no difference what the first number is.
-  all_at : (xs : List Triangle) (a b : ℕ) → (length xs ≡ 0) ⊎ (a ≡ b) → all_fragments xs a os r ≡ all_fragments xs b os r
-  all_at xs a b (inl e) = let n = nil_from_length xs e in ap (λ (l : List Triangle). all_fragments l a os r) n ∙ sym (ap (λ (l : List Triangle). all_fragments l b os r) n)
-  all_at xs a b (inr e) = ap (λ (k : ℕ). all_fragments xs k os r) e
+module _ (ts : List Triangle) (os : List (ℤ × ℤ)) (r : Region) (order : List ℕ) where
+  abbrev items : List ℕ → List (ℕ × ℕ)
+  items = flat_map (fragments_of ts os r)
 
-  -- The fragments of the triangles from a part on are those of the part, and of those from the next part on.
-  one_part : (p : ℕ) → all_fragments (drop (64 * p) ts) (64 * p) os r ≡ part_fragments ts os r p ++ all_fragments (drop (64 * (p + 1)) ts) (64 * (p + 1)) os r
-  one_part p = let xs : List Triangle = drop (64 * p) ts in let ys : List Triangle = drop (64 * (p + 1)) ts in
-      let w : 64 * (p + 1) - 64 * p ≡ 64 = omega arith in let cut : xs ≡ take 64 xs ++ ys = drop_split ts (64 * p) (64 * (p + 1)) (omega arith) ∙ ap (λ (k : ℕ). take k xs ++ ys) w in
-      ap (λ (l : List Triangle). all_fragments l (64 * p) os r) cut ∙ (all_fragments-append os r (take 64 xs) ys (64 * p)
-      ∙ ap (λ (l : List (ℕ × ℕ)). all_fragments (take 64 xs) (64 * p) os r ++ l) (all_at ys (64 * p + length (take 64 xs)) (64 * (p + 1)) (number p)))
-    where
-      number : (p : ℕ) → (length (drop (64 * (p + 1)) ts) ≡ 0) ⊎ (64 * p + length (take 64 (drop (64 * p) ts)) ≡ 64 * (p + 1))
-      number p = let l = length-drop (64 * p) ts in let m = length-drop (64 * (p + 1)) ts in
-          ⊎_elim (λ (h : length ts < 64 * (p + 1)). inl (omega arith)) (λ (h : 64 * (p + 1) ≤ length ts). let k = length-take-le 64 (drop (64 * p) ts) (omega arith) in inr (omega arith)) (cases_lt (length ts) (64 * (p + 1)))
+  abbrev part : ℕ → List (ℕ × ℕ)
+  part = part_fragments ts os r order
 
-  -- The fragments of so many parts that follow each other, and of what comes after them, are those of all triangles from the first
-  -- of these parts on.
-  from_part : (count p : ℕ) → flat_map (part_fragments ts os r) (range_with_len p count) ++ all_fragments (drop (64 * (p + count)) ts) (64 * (p + count)) os r ≡ all_fragments (drop (64 * p) ts) (64 * p) os r
-  from_part zero p = let e : p + 0 ≡ p = omega arith in ap (λ (k : ℕ). all_fragments (drop (64 * k) ts) (64 * k) os r) e
+  -- What is drawn from a part on is the part, and what is drawn from the next part on.
+  one_part : (p : ℕ) → items (drop (64 * p) order) ≡ part p ++ items (drop (64 * (p + 1)) order)
+  one_part p = let xs : List ℕ = drop (64 * p) order in let ys : List ℕ = drop (64 * (p + 1)) order in
+      let w : 64 * (p + 1) - 64 * p ≡ 64 = omega arith in let cut : xs ≡ take 64 xs ++ ys = drop_split order (64 * p) (64 * (p + 1)) (omega arith) ∙ ap (λ (k : ℕ). take k xs ++ ys) w in
+      ap (λ (l : List ℕ). items l) cut ∙ flat_map-append (fragments_of ts os r) (take 64 xs) ys
+
+  -- So many parts that follow each other, and what comes after them, are all that is drawn from the first of these parts on.
+  from_part : (count p : ℕ) → flat_map part (range_with_len p count) ++ items (drop (64 * (p + count)) order) ≡ items (drop (64 * p) order)
+  from_part zero p = let e : p + 0 ≡ p = omega arith in ap (λ (k : ℕ). items (drop (64 * k) order)) e
   from_part (suc count) p = let e : p + suc count ≡ p + 1 + count = omega arith in
-      append_assoc (part_fragments ts os r p) (flat_map (part_fragments ts os r) (range_with_len (p + 1) count)) (all_fragments (drop (64 * (p + suc count)) ts) (64 * (p + suc count)) os r)
-      ∙ (ap (λ (l : List (ℕ × ℕ)). part_fragments ts os r p ++ l) (ap (λ (k : ℕ). flat_map (part_fragments ts os r) (range_with_len (p + 1) count) ++ all_fragments (drop (64 * k) ts) (64 * k) os r) e ∙ from_part count (p + 1)) ∙ sym (one_part p))
+      append_assoc (part p) (flat_map part (range_with_len (p + 1) count)) (items (drop (64 * (p + suc count)) order))
+      ∙ (ap (λ (l : List (ℕ × ℕ)). part p ++ l) (ap (λ (k : ℕ). flat_map part (range_with_len (p + 1) count) ++ items (drop (64 * k) order)) e ∙ from_part count (p + 1)) ∙ sym (one_part p))
 
-  -- Where numbers are those below their count, each once, and all triangles lie in so many parts, they give the fragments of all
-  -- triangles.
-  pub taken_all : (numbers : List ℕ) → ((n : ℕ) → times n numbers ≡ below n (length numbers)) → length ts ≤ 64 * length numbers → IsPermutation (flat_map (part_fragments ts os r) numbers) (all_fragments ts 0 os r)
-  taken_all numbers once enough = let d : ℕ = length numbers in let f = flat_same (part_fragments ts os r) numbers (range_with_len 0 d) (λ n. once n ∙ sym (times_first n d)) in
-      let gone : drop (64 * (0 + d)) ts ≡ [] = nil_from_length (drop (64 * (0 + d)) ts) (let l = length-drop (64 * (0 + d)) ts in omega arith) in
-      let all : flat_map (part_fragments ts os r) (range_with_len 0 d) ≡ all_fragments ts 0 os r =
-      sym (append-nil (flat_map (part_fragments ts os r) (range_with_len 0 d))) ∙ (sym (ap (λ (l : List Triangle). flat_map (part_fragments ts os r) (range_with_len 0 d) ++ all_fragments l (64 * (0 + d)) os r) gone) ∙ from_part d 0) in
-      subst (IsPermutation (flat_map (part_fragments ts os r) numbers)) all f
+  -- Where numbers are those below their count, each once, and the order lies in so many parts, the parts of the numbers are all
+  -- that is drawn.
+  pub taken_all : (numbers : List ℕ) → ((n : ℕ) → times n numbers ≡ below n (length numbers)) → length order ≤ 64 * length numbers → IsPermutation (flat_map (part_fragments ts os r order) numbers) (flat_map (fragments_of ts os r) order)
+  taken_all numbers once enough = let d : ℕ = length numbers in let f = flat_same part numbers (range_with_len 0 d) (λ n. once n ∙ sym (times_first n d)) in
+      let gone : drop (64 * (0 + d)) order ≡ [] = nil_from_length (drop (64 * (0 + d)) order) (let l = length-drop (64 * (0 + d)) order in omega arith) in
+      let all : flat_map part (range_with_len 0 d) ≡ items order =
+      sym (append-nil (flat_map part (range_with_len 0 d))) ∙ (sym (ap (λ (l : List ℕ). flat_map part (range_with_len 0 d) ++ items l) gone) ∙ from_part d 0) in
+      subst (IsPermutation (flat_map part numbers)) all f
 
 -- Where one of the numbers below their count is beyond the parts, all triangles lie in parts of the numbers.
 pub past_all : (numbers : List ℕ) (count beyond : ℕ) → ((n : ℕ) → times n numbers ≡ below n (length numbers)) → 0 < times beyond numbers → parts_of count ≤ beyond → count ≤ 64 * length numbers
@@ -87,11 +80,11 @@ under_last m p [] u = All-head (λ n. n < m) p [] u
 under_last m p (n ∷ ns) u = under_last m p ns (All-tail (λ n. n < m) n (ns ++ p ∷ []) u)
 
 -- Credit for what is left at one part is enough for a part further on.
-pub part_room : (ts : List Triangle) (next p area credit : ℕ) → next ≤ p → length (drop (64 * next) ts) * area ≤ credit → length (take 64 (drop (64 * p) ts)) * area ≤ credit
-part_room ts next p area credit l room = let a = length-drop (64 * next) ts in let b = length-drop (64 * p) ts in let c = length-take 64 (drop (64 * p) ts) in
-    let d : length (take 64 (drop (64 * p) ts)) ≤ length (drop (64 * next) ts) = omega arith in let e = mul-le-mul d (le_refl area) in omega arith
+pub part_room : (xs : List ℕ) (next p area credit : ℕ) → next ≤ p → length (drop (64 * next) xs) * area ≤ credit → length (take 64 (drop (64 * p) xs)) * area ≤ credit
+part_room xs next p area credit l room = let a = length-drop (64 * next) xs in let b = length-drop (64 * p) xs in let c = length-take 64 (drop (64 * p) xs) in
+    let d : length (take 64 (drop (64 * p) xs)) ≤ length (drop (64 * next) xs) = omega arith in let e = mul-le-mul d (le_refl area) in omega arith
 
 -- What such a part leaves is enough for those after it.
-pub rest_room : (ts : List Triangle) (next p area credit after : ℕ) → next ≤ p → length (drop (64 * next) ts) * area ≤ credit → credit ≤ after + length (take 64 (drop (64 * p) ts)) * area → length (drop (64 * (p + 1)) ts) * area ≤ after
-rest_room ts next p area credit after l room few = let a = length-drop (64 * next) ts in let b = length-drop (64 * p) ts in let c = length-take 64 (drop (64 * p) ts) in let d = length-drop (64 * (p + 1)) ts in
-    let e : length (take 64 (drop (64 * p) ts)) + length (drop (64 * (p + 1)) ts) ≤ length (drop (64 * next) ts) = omega arith in let f = mul-le-mul e (le_refl area) in omega arith
+pub rest_room : (xs : List ℕ) (next p area credit after : ℕ) → next ≤ p → length (drop (64 * next) xs) * area ≤ credit → credit ≤ after + length (take 64 (drop (64 * p) xs)) * area → length (drop (64 * (p + 1)) xs) * area ≤ after
+rest_room xs next p area credit after l room few = let a = length-drop (64 * next) xs in let b = length-drop (64 * p) xs in let c = length-take 64 (drop (64 * p) xs) in let d = length-drop (64 * (p + 1)) xs in
+    let e : length (take 64 (drop (64 * p) xs)) + length (drop (64 * (p + 1)) xs) ≤ length (drop (64 * next) xs) = omega arith in let f = mul-le-mul e (le_refl area) in omega arith

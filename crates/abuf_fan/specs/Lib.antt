@@ -3,3 +3,4 @@ pub mod Parts
 pub mod Grows
 pub mod Workers
 pub mod Most
+pub mod Order

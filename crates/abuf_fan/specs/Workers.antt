@@ -36,18 +36,18 @@ pub record Parted (v left right : View) : Type 0 where
 
 -- From h to k a turn has drawn these numbers, one of them beyond the parts, and from v to w a pass has drawn the parts of
 -- the numbers.
-pub record Served (ts : List Triangle) (offsets : List (ℤ × ℤ)) (r : Region) (parts : ℕ) (h k : Hand) (v w : View) : Type 0 where
+pub record Served (ts : List Triangle) (offsets : List (ℤ × ℤ)) (r : Region) (order : List ℕ) (h k : Hand) (v w : View) : Type 0 where
   pub numbers : List ℕ
   pub drawn_are : k.drawn ≡ h.drawn ++ numbers
   pub spent_turn : k.credit + length numbers ≡ h.credit
   pub beyond : ℕ
   pub taken : 0 < times beyond numbers
-  pub is_beyond : parts ≤ beyond
+  pub is_beyond : parts_of (length order) ≤ beyond
   pub each_once : EachOnceIfWhole k
-  pub grows : Grows (flat_map (part_fragments ts offsets r) numbers) v w
+  pub grows : Grows (flat_map (part_fragments ts offsets r order) numbers) v w
 
 -- From h to k a turn, and from p to q a pass, have served the work.
 pub record HaveServed (work : Work) (h k : TurnState) (p q : PassState) : Type 0 where
   pub same_frame : q.frame ≡ p.frame
   pub same_desk : k.table ≡ h.table
-  pub served : Served work.tris.now (offsets_of work.pattern) work.region (parts_of (length work.tris.now)) h.hand k.hand p.view q.view
+  pub served : Served work.tris.now (offsets_of work.pattern) work.region work.order.now h.hand k.hand p.view q.view

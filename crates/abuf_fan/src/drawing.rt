@@ -10,6 +10,7 @@ ghost use denote.Param.Send.{IsSync};
 
 use crate::desk::{Desk, MAX_PARTS, Turn};
 use crate::gate::Gate;
+use crate::order::order_of;
 use crate::part::{draw_part, part_of};
 use crate::work::{Work, Workers};
 use abuf_frame::{Frame, Pass};
@@ -27,8 +28,8 @@ fn draw_parts<G: Gate>(gate: &G, worker: u32, work: &Work, pass: &mut Pass, turn
     // One above the last part drawn, and 0 before the first.
     let mut next = 0;
     while let Some(part) = work.desk.take(turn) {
-        let tris = part_of(work.tris, part);
-        draw_part(work.frame, pass, tris, 64 * part, work.region, work.pattern);
+        let numbers = part_of(work.order, part);
+        draw_part(work, pass, numbers);
         if next == 0 {
             gate.pass_by(worker, pass);
         }
@@ -113,11 +114,13 @@ pub fn draw_all<R: Threads + Sync, G: Gate + Sync>(
     ensures endowment { endowment pass.new.view ≡ endowment pass.old.view }
     ensures loose { loose pass.new.view.entries ≡ loose pass.old.view.entries }
 {
+    let order = order_of(alloc, tris, region, pattern)?;
     let (desk, mut turn) = Desk::start(alloc, tris.len().div_ceil(64) as u32)?;
     let work = Work {
         frame,
         desk: &desk,
         tris,
+        order: &order,
         region,
         pattern,
     };

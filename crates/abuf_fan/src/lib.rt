@@ -18,6 +18,7 @@ mod drawing;
 mod gate;
 mod meeting;
 mod most;
+mod order;
 mod part;
 mod rule;
 #[cfg(test)]

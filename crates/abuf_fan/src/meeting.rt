@@ -1,13 +1,16 @@
-// A gate at which two workers meet.
+// A gate at which workers meet.
 use crate::Gate;
 use abuf_frame::Pass;
-use std::sync::atomic::{AtomicBool, AtomicU64, Ordering};
+use abuf_num::NoMemory;
+use std::alloc::Global;
+use std::sync::atomic::{AtomicBool, AtomicU32, AtomicU64, Ordering};
+use std::thread::yield_now;
 
-/// What one worker leaves for the other to see.
+/// What one worker leaves for the others to see.
 #[derive(Drop)]
 struct Side {
+    calls: AtomicU32,
     credit: AtomicU64,
-    called: AtomicBool,
     drew: AtomicBool,
     met: AtomicBool,
 }
@@ -15,66 +18,90 @@ struct Side {
 impl Side {
     fn new() -> Side {
         Side {
+            calls: AtomicU32::new(0),
             credit: AtomicU64::new(0),
-            called: AtomicBool::new(false),
             drew: AtomicBool::new(false),
             met: AtomicBool::new(false),
         }
     }
 }
 
-/// A gate for tests of two workers: each of them draws its part, and goes on once it sees that the other has drawn its own.
-/// That it has is told from the credit of its pass, which is less by as many fragments at its second call than at its first.
-/// A worker that doesn't see the other looks for it during some 2^28 loads, and goes on.
+/// A gate for tests of workers that draw at once: each of them draws its first part, and goes on once it sees that all others have
+/// drawn theirs, so that none takes a second part before. That a worker has drawn its part is told from the credit of its pass,
+/// which is less by as many fragments at its second call than at its first. A worker that doesn't see another looks for it during
+/// some 2^28 loads, and goes on.
 #[derive(Drop)]
 pub struct MeetingGate {
     part: u64,
-    first: Side,
-    second: Side,
+    sides: Vec<Side>,
+    /// A call came that none of the workers makes when it draws its part.
+    fault: AtomicBool,
 }
 
-impl MeetingGate {
-    /// Each worker is to draw so many fragments.
-    pub fn new(part: u64) -> MeetingGate {
-        MeetingGate {
-            part,
-            first: Side::new(),
-            second: Side::new(),
-        }
-    }
-
-    /// Each of the two has drawn its part and seen that the other had.
-    pub fn have_met(&self) -> bool {
-        self.first.met.load(Ordering::SeqCst) && self.second.met.load(Ordering::SeqCst)
-    }
-}
-
-/// Looks for a flag, for so many turns at most.
+/// Looks for a flag, for so many turns at most. On a machine with more to do, whoever is to raise it needs the processor too, so
+/// that it is let go now and then.
 fn look_for(flag: &AtomicBool) -> bool {
-    for _ in 0..1u32 << 28 {
+    for turn in 0..1u32 << 28 {
         if flag.load(Ordering::SeqCst) {
             return true;
+        }
+        if turn % 1024 == 0 {
+            yield_now();
         }
     }
     false
 }
 
+impl MeetingGate {
+    /// A gate of so many workers, each of which is to draw so many fragments in its first part.
+    pub fn new(alloc: Global, workers: u32, part: u64) -> Result<MeetingGate, NoMemory> {
+        let mut sides = Vec::new(alloc);
+        for _ in 0..workers {
+            sides.push(Side::new())?;
+        }
+        Ok(MeetingGate {
+            part,
+            sides,
+            fault: AtomicBool::new(false),
+        })
+    }
+
+    /// Each of the workers has drawn its part and seen that all others had, and no worker called but these, none called a third
+    /// time, and none drew more or less.
+    pub fn have_met(&self) -> bool {
+        let sound = !self.fault.load(Ordering::SeqCst);
+        sound
+            && self
+                .sides
+                .iter()
+                .all(|side| side.met.load(Ordering::SeqCst))
+    }
+
+    /// Whether this is the first call of one of the workers, or the second after it drew its part. There it waits for the others.
+    fn accepts(&self, worker: usize, credit: u64) -> bool {
+        let Some(own) = self.sides.get(worker) else {
+            return false;
+        };
+        match own.calls.fetch_add(1, Ordering::SeqCst) {
+            0 => own.credit.store(credit, Ordering::SeqCst),
+            1 => {
+                if own.credit.load(Ordering::SeqCst).checked_sub(self.part) != Some(credit) {
+                    return false;
+                }
+                own.drew.store(true, Ordering::SeqCst);
+                let all = self.sides.iter().all(|side| look_for(&side.drew));
+                own.met.store(all, Ordering::SeqCst);
+            }
+            _ => return false,
+        }
+        true
+    }
+}
+
 impl Gate for MeetingGate {
     fn pass_by(&self, worker: u32, pass: &Pass) {
-        let (own, other) = if worker == 0 {
-            (&self.first, &self.second)
-        } else {
-            (&self.second, &self.first)
-        };
-        let credit = pass.credit();
-        if !own.called.load(Ordering::SeqCst) {
-            own.credit.store(credit, Ordering::SeqCst);
-            own.called.store(true, Ordering::SeqCst);
-            return;
-        }
-        if own.credit.load(Ordering::SeqCst).checked_sub(self.part) == Some(credit) {
-            own.drew.store(true, Ordering::SeqCst);
-            own.met.store(look_for(&other.drew), Ordering::SeqCst);
+        if !self.accepts(worker as usize, pass.credit()) {
+            self.fault.store(true, Ordering::SeqCst);
         }
     }
 }

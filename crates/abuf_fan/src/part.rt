@@ -1,45 +1,53 @@
-// Parts of 64 triangles that follow each other.
-ghost use Rattle.std.specs.Prelude.{◌≡◌, ℕ, ◌+◌, ◌*◌, ◌≤◌, length, take, drop};
+// Parts of 64 triangles that follow each other in the order of a drawing.
+ghost use Rattle.std.specs.Prelude.{◌≡◌, ◌+◌, ◌*◌, ◌<◌, ◌≤◌, length, take, drop, All};
+ghost use Rattle.std.specs.List.{flat_map};
 ghost use Rattle.abuf_num.specs.declared.limits.TheConstants.{MAX_PRIMITIVES};
 ghost use Rattle.abuf_raster.specs.Samples.{offsets_of};
-ghost use Rattle.abuf_raster.specs.Hits.{all_fragments};
 ghost use Rattle.abuf_frame.specs.Draws.{Draws};
+ghost use Rattle.abuf_draw.specs.Waiting.{Passes};
+ghost use Rattle.abuf_fan.specs.Parts.{fragments_of};
 
+use crate::work::Work;
 use abuf_draw::Brush;
-use abuf_frame::{Frame, Pass};
-use abuf_raster::{Pattern, Region, ScreenTri};
+use abuf_frame::Pass;
 
-/// The triangles of a part.
-pub(crate) fn part_of(tris: &[ScreenTri], part: u32) -> &[ScreenTri]
-    requires part { 64 * part ≤ length tris.now }
-    requires few { length tris.now ≤ MAX_PRIMITIVES }
-    ensures { result.now ≡ take 64 (drop (64 * part) tris.now) }
+/// The numbers of the triangles of a part.
+pub(crate) fn part_of(order: &[u32], part: u32) -> &[u32]
+    requires part { 64 * part ≤ length order.now }
+    requires few { length order.now ≤ MAX_PRIMITIVES }
+    ensures { result.now ≡ take 64 (drop (64 * part) order.now) }
 {
-    let rest = &tris[64 * part as usize..];
+    let rest = &order[64 * part as usize..];
     &rest[..rest.len().min(64)]
 }
 
-/// Draws these triangles, which have the primitive numbers from `first` on.
-pub(crate) fn draw_part(
-    frame: &Frame,
-    pass: &mut Pass,
-    tris: &[ScreenTri],
-    first: u32,
-    region: Region,
-    pattern: Pattern,
-)
-    requires frame { pass.old.frame ≡ frame.now }
-    requires pixels { region.w * region.h ≤ frame.now.pixels }
-    requires count { first + length tris.now ≤ MAX_PRIMITIVES }
-    requires credit { length tris.now * (region.w * region.h) ≤ pass.old.view.credit }
+/// Draws the triangle of this number, some of whose fragments may wait in the brush then.
+fn draw_one(work: &Work, brush: &mut Brush, pass: &mut Pass, number: u32)
+    requires brush { (brush.old.region ≡ work.now.region) × (brush.old.pattern ≡ work.now.pattern) }
+    requires frame { pass.old.frame ≡ work.now.frame.now }
+    requires number { number < length work.now.tris.now }
+    requires credit { length brush.old.batch + work.now.region.w * work.now.region.h ≤ pass.old.view.credit }
+    ensures brush { (brush.new.region ≡ work.now.region) × (brush.new.pattern ≡ work.now.pattern) }
     ensures frame { pass.new.frame ≡ pass.old.frame }
-    ensures draws { Draws (all_fragments tris.now first (offsets_of pattern) region) pass.old.view pass.new.view }
-    ensures few { pass.old.view.credit ≤ pass.new.view.credit + length tris.now * (region.w * region.h) }
+    ensures passes { Passes brush.old.batch (fragments_of work.now.tris.now (offsets_of work.now.pattern) work.now.region number) brush.new.batch pass.old.view pass.new.view }
+    ensures few { pass.old.view.credit + length brush.new.batch ≤ pass.new.view.credit + length brush.old.batch + work.now.region.w * work.now.region.h }
 {
-    let mut brush = Brush::new(region, pattern);
-    let mut prim = first;
-    for t in tris {
-        brush.draw(frame, pass, t, prim);
-        prim += 1;
+    let triangle = &work.tris[number as usize];
+    brush.draw(work.frame, pass, triangle, number);
+}
+
+/// Draws the triangles of these numbers.
+pub(crate) fn draw_part(work: &Work, pass: &mut Pass, numbers: &[u32])
+    requires frame { pass.old.frame ≡ work.now.frame.now }
+    requires numbers { All (λ n. n < length work.now.tris.now) numbers.now }
+    requires credit { length numbers.now * (work.now.region.w * work.now.region.h) ≤ pass.old.view.credit }
+    ensures frame { pass.new.frame ≡ pass.old.frame }
+    ensures draws { Draws (flat_map (fragments_of work.now.tris.now (offsets_of work.now.pattern) work.now.region) numbers.now) pass.old.view pass.new.view }
+    ensures few { pass.old.view.credit ≤ pass.new.view.credit + length numbers.now * (work.now.region.w * work.now.region.h) }
+{
+    let mut brush = Brush::new(work.region, work.pattern);
+    for number in numbers {
+        draw_one(work, &mut brush, pass, *number);
     }
+    brush.flush(work.frame, pass);
 }

@@ -1,12 +1,16 @@
 // Drawing on threads, and a desk.
-ghost use Rattle.std.specs.Prelude.{◌≡◌};
-ghost use Rattle.abuf_raster.specs.Region.{whole_image};
+ghost use Rattle.std.specs.Prelude.{◌≡◌, ◌≤◌};
+ghost use Rattle.abuf_num.specs.declared.limits.TheConstants.{MAX_THREADS};
+ghost use Rattle.abuf_raster.specs.Region.{IsImageSize, whole_image};
 
 use crate::{Desk, Gate, MeetingGate, draw_all, most_fragments};
 use abuf_frame::{Frame, Pass};
 use abuf_raster::{Pattern, Region, ScreenTri};
+use std::alloc::Global;
+use std::process::Abort;
 use std::sync::atomic::{AtomicU64, Ordering};
 use std::test::Fail;
+use std::thread::Threads;
 
 fn square() -> Region
     ensures { result ≡ whole_image 4 4 }
@@ -14,11 +18,18 @@ fn square() -> Region
     Region::whole_image(4, 4)
 }
 
-// The two halves of a square of 4 by 4 pixels, which meet along its diagonal.
-fn halves() -> Option<[ScreenTri; 2]> {
-    let upper = ScreenTri::new([0, 1024, 0], [0, 0, 1024], [0, 0, 0])?;
-    let lower = ScreenTri::new([1024, 1024, 0], [0, 1024, 1024], [0, 0, 0])?;
+// The two halves of an image, which meet along its diagonal.
+fn halves_of(width: u32, height: u32) -> Option<[ScreenTri; 2]> {
+    let right = 256 * i64::from(width);
+    let bottom = 256 * i64::from(height);
+    let upper = ScreenTri::new([0, right, 0], [0, 0, bottom], [0, 0, 0])?;
+    let lower = ScreenTri::new([right, right, 0], [0, bottom, bottom], [0, 0, 0])?;
     Some([upper, lower])
+}
+
+// Those of a square of 4 by 4 pixels.
+fn halves() -> Option<[ScreenTri; 2]> {
+    halves_of(4, 4)
 }
 
 /// Both halves of the square lie in its 16 pixels, and have 10 and 6 of them.
@@ -44,7 +55,7 @@ fn two_workers_meet(rt: HostRuntime) -> Result<(), Fail> {
     }
     let count = tris.len();
     assert!(rt; count == 128);
-    let gate = MeetingGate::new(512);
+    let gate = MeetingGate::new(alloc, 2, 512)?;
     let (frame, mut pass) = Frame::start(alloc, 16, 1024)?;
     let drawn = draw_all(
         &rt,
@@ -61,6 +72,85 @@ fn two_workers_meet(rt: HostRuntime) -> Result<(), Fail> {
     let closed = frame.close(pass);
     assert!(rt; drawn && gate.have_met());
     assert!(rt; closed.fragments() == 1024 && closed.full().is_none());
+    Ok(())
+}
+
+// Workers draw the two halves of an image, so often in turn that each has a part that covers every pixel of it 32 times. The frame
+// has fewer nodes than that, which changes no count.
+fn all_meet<R: Threads + Sync + Abort>(
+    rt: &R,
+    alloc: Global,
+    width: u32,
+    height: u32,
+    workers: u32,
+) -> Result<(), Fail>
+    requires size { IsImageSize width height }
+    requires workers { (1 ≤ workers) × (workers ≤ MAX_THREADS) }
+{
+    let region = Region::whole_image(width, height);
+    let halves = halves_of(width, height).ok_or("no triangle")?;
+    let mut tris = Vec::new(alloc);
+    for _ in 0..32 * workers {
+        tris.extend_from_slice(&halves)?;
+    }
+    let count = tris.len();
+    assert!(rt; count == 64 * workers as usize);
+    let part = 32 * u64::from(region.pixels());
+    let gate = MeetingGate::new(alloc, workers, part)?;
+    let (frame, mut pass) = Frame::start(alloc, region.pixels(), 1024)?;
+    let drawn = draw_all(
+        rt,
+        alloc,
+        &frame,
+        &mut pass,
+        &tris,
+        region,
+        Pattern::One,
+        workers,
+        &gate,
+    )
+    .is_ok();
+    let closed = frame.close(pass);
+    assert!(rt;
+        drawn && gate.have_met(),
+        "{workers} workers, {width} by {height} pixels"
+    );
+    assert!(rt; closed.fragments() == part * u64::from(workers) && closed.full().is_some());
+    Ok(())
+}
+
+/// Each worker sees that all others have drawn their parts before it goes on, in small images and in large ones, whose triangles
+/// are drawn in another order.
+#[test]
+fn all_workers_meet(rt: HostRuntime) -> Result<(), Fail> {
+    let alloc = rt.alloc();
+    for workers in [2, 3, 7] {
+        all_meet(&rt, alloc, 64, 64, workers)?;
+        all_meet(&rt, alloc, 640, 480, workers)?;
+    }
+    Ok(())
+}
+
+/// One worker that draws one fragment has met itself, until it calls again. It hasn't where two were expected of it, or no worker.
+#[test]
+fn a_gate_tells_other_calls(rt: HostRuntime) -> Result<(), Fail> {
+    let alloc = rt.alloc();
+    let right = MeetingGate::new(alloc, 1, 1)?;
+    let longer = MeetingGate::new(alloc, 1, 2)?;
+    let empty = MeetingGate::new(alloc, 0, 1)?;
+    let (frame, mut pass) = Frame::start(alloc, 1, 1)?;
+    for gate in [&right, &longer, &empty] {
+        gate.pass_by(0, &pass);
+    }
+    pass.insert(&frame, 0, 7);
+    for gate in [&right, &longer, &empty] {
+        gate.pass_by(0, &pass);
+    }
+    let met = right.have_met();
+    right.pass_by(0, &pass);
+    frame.close(pass);
+    assert!(rt; met && !right.have_met());
+    assert!(rt; !longer.have_met() && !empty.have_met());
     Ok(())
 }
 

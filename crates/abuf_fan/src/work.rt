@@ -1,7 +1,7 @@
 // What is drawn, and by which workers.
 ghost use Rattle.std.specs.Prelude.{◌≡◌, ◌+◌, ◌-◌, ◌*◌, ◌/◌, ◌≤◌, length};
 ghost use Rattle.abuf_num.specs.declared.limits.TheConstants.{MAX_PRIMITIVES, MAX_THREADS};
-ghost use Rattle.abuf_fan.specs.Parts.{parts_of};
+ghost use Rattle.abuf_fan.specs.Parts.{IsOrder, parts_of};
 
 use crate::desk::Desk;
 use abuf_frame::Frame;
@@ -13,11 +13,14 @@ pub(crate) struct Work<'a> {
     pub(crate) frame: &'a Frame,
     pub(crate) desk: &'a Desk,
     pub(crate) tris: &'a [ScreenTri],
+    /// The numbers of the triangles, in the order in which they are drawn.
+    pub(crate) order: &'a [u32],
     pub(crate) region: Region,
     pub(crate) pattern: Pattern,
     pub(crate) ghost fits: { region.w * region.h ≤ frame.now.pixels },
     pub(crate) ghost few: { length tris.now ≤ MAX_PRIMITIVES },
-    pub(crate) ghost parts: { desk.now.parts ≡ parts_of (length tris.now) },
+    pub(crate) ghost each: { IsOrder (length tris.now) order.now },
+    pub(crate) ghost parts: { desk.now.parts ≡ parts_of (length order.now) },
 }
 
 /// Workers whose numbers follow each other.

@@ -1,5 +1,5 @@
 -- The words at the start, laid out a row of nodes at a time.
-use Rattle.std.proofs.Common.{◌≡◌, ℕ, ◌+◌, ◌-◌, ◌*◌, ◌<◌, ◌≤◌, List, ◌++◌, length, take, drop, ap, ◌∙◌, arith, ⊎_elim, slice_index}
+use Rattle.std.proofs.Common.{◌≡◌, ℕ, ◌+◌, ◌-◌, ◌*◌, ◌<◌, ◌≤◌, List, ◌++◌, length, take, ap, ◌∙◌, arith, ⊎_elim, slice_index}
 use Rattle.std.proofs.lemmas.List.{get_or_append_left, get_or-append_right, get_or-take, get_or-drop, length-append, length-drop, length-take-le}
 use Rattle.std.proofs.lemmas.Bool.{cases_lt}
 use Rattle.abuf_frame.specs.Words.{AreBlank, IsBlank, next_word, payload_word}
@@ -31,15 +31,3 @@ blank_first m most row l r = let long = r.0 in (
   λ k b. get_or-take (2 * m) row (2 * k) 0 (omega arith) ∙ r.1 k (omega arith),
   λ k b. get_or-take (2 * m) row (2 * k + 1) 0 (omega arith) ∙ r.2 k (omega arith),
 )
-
--- the words of fewer pixels and nodes, which begin with a later head
-pub blank_part : (p n : ℕ) (ws : List ℕ) (pixels nodes : ℕ) → pixels ≤ p → nodes ≤ n → IsBlank p n ws → IsBlank pixels nodes (take (1 + pixels + 2 * nodes) (drop (p - pixels) ws))
-blank_part p n ws pixels nodes few less b = let size : ℕ = 1 + pixels + 2 * nodes in let from : ℕ = p - pixels in let is = b.0 in let long : length (drop from ws) ≡ length ws - from = length-drop from ws in (
-  length-take-le size (drop from ws) (omega arith),
-  λ i l. there i (omega arith) ∙ b.1 (from + i) (omega arith),
-  λ k l. there (next_word pixels k) (omega arith) ∙ ap (λ (i : ℕ). slice_index ws i) (let e : from + next_word pixels k ≡ next_word p k = omega arith in e) ∙ b.2 k (omega arith),
-  λ k l. there (payload_word pixels k) (omega arith) ∙ ap (λ (i : ℕ). slice_index ws i) (let e : from + payload_word pixels k ≡ payload_word p k = omega arith in e) ∙ b.3 k (omega arith),
-) where
-  -- Each is the word that stands so many places further on.
-  there : (i : ℕ) → i < 1 + pixels + 2 * nodes → slice_index (take (1 + pixels + 2 * nodes) (drop (p - pixels) ws)) i ≡ slice_index ws (p - pixels + i)
-  there i l = get_or-take (1 + pixels + 2 * nodes) (drop (p - pixels) ws) i 0 l ∙ get_or-drop (p - pixels) ws i 0

@@ -39,10 +39,6 @@ pub lists_length : (words : List ℕ) (pixels nodes first count : ℕ) → lengt
 lists_length words pixels nodes first zero = refl
 lists_length words pixels nodes first (suc count) = ap suc (lists_length words pixels nodes (first + 1) count)
 
--- A pixel that has a list among these is one of the frame's.
-pub within_pixels : (words : List ℕ) (pixels nodes : ℕ) (lists : List (List ℕ)) (p : ℕ) → lists_from words pixels nodes 0 pixels ≡ lists → p < length lists → p < pixels
-within_pixels words pixels nodes lists p e l = let long = lists_length words pixels nodes 0 pixels in let same = ap (λ (ls : List (List ℕ)). length ls) e in omega arith
-
 -- The states of a frame's table.
 abbrev St : Type 0
 St = State (Unit {0}) View
@@ -124,8 +120,8 @@ module _ (words : List ℕ) (pixels nodes : ℕ) where
       none (suc n) = ap (λ (b : Bool). cond b [] (slice_index words (payload_word pixels (here - 1)) ∷ payloads_from words pixels n (slice_index words (next_word pixels (here - 1))))) (eq-eqb here 0 e)
   walk_end fuel here (inr e) = ap (λ (n : ℕ). payloads_from words pixels n here) e
 
-  -- what the loop puts behind what was there is the list of the pixel
-  pub appended_list : (done old : List ℕ) (fuel here p count : ℕ) → (here ≡ 0) ⊎ (fuel ≡ 0) → p < count → done ++ payloads_from words pixels fuel here ≡ old ++ payloads_from words pixels nodes (slice_index words (head_word p))
-      → done ≡ old ++ slice_index_or (lists_from words pixels nodes 0 count) p []
-  appended_list done old fuel here p count stop h e = let same : p ≡ 0 + p = omega arith in sym (append-nil done) ∙ (ap (λ (z : List ℕ). done ++ z) (sym (walk_end fuel here stop)) ∙ (e
-      ∙ ap (λ (z : List ℕ). old ++ z) (ap (λ (i : ℕ). payloads_from words pixels nodes (slice_index words (head_word i))) same ∙ sym (lists_at words pixels nodes 0 count p h))))
+  -- what the loop leaves is the list of the pixel
+  pub whole_list : (done all : List ℕ) (fuel here p count : ℕ) → (here ≡ 0) ⊎ (fuel ≡ 0) → p < count → done ++ payloads_from words pixels fuel here ≡ payloads_from words pixels nodes (slice_index words (head_word p))
+      → done ≡ slice_index_or (lists_from words pixels nodes 0 count) p []
+  whole_list done all fuel here p count stop h e = let same : p ≡ 0 + p = omega arith in sym (append-nil done) ∙ (ap (λ (z : List ℕ). done ++ z) (sym (walk_end fuel here stop)) ∙ (e
+      ∙ (ap (λ (i : ℕ). payloads_from words pixels nodes (slice_index words (head_word i))) same ∙ sym (lists_at words pixels nodes 0 count p h))))

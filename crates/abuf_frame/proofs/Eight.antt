@@ -1,59 +1,59 @@
 -- Eight walks side by side, each in a lane with a word and a list of its own.
-use Rattle.std.proofs.Common.{◌≡◌, ◌≢◌, ◌⊎◌, inl, ℕ, ◌+◌, ◌-◌, ◌<◌, ◌≤◌, Bool, cond, ltb, true, false, List, [], ◌∷◌, ◌++◌, length, refl, sym, ◌∙◌, ap, subst, arith, ⊎_elim, slice_index, slice_index_or, slice_set, length-set, get_or-set_same, get_or-set_other, eq-eqb, ne_eqb, append-nil}
-use Rattle.std.proofs.lemmas.Bool.{cases_eq, cases_lt, ltb-true, ltb-false}
-use Rattle.std.proofs.lemmas.List.{get_or_default, get_or_past, set_past}
+use Rattle.std.proofs.Common.{◌≡◌, ◌≢◌, ◌⊎◌, inl, ℕ, ◌+◌, ◌-◌, ◌*◌, ◌<◌, ◌≤◌, Bool, cond, ltb, true, false, List, [], ◌∷◌, ◌++◌, map, length, refl, sym, ◌∙◌, ap, subst, arith, ⊎_elim, slice_index, slice_index_or, slice_set, length-set, get_or-set_same, get_or-set_other, eq-eqb, ne_eqb, append-nil}
+use Rattle.std.proofs.lemmas.Bool.{cases_eq, ltb-true, ltb-false}
+use Rattle.std.proofs.lemmas.List.{get_or-map, get_or_past, length-map, map-set}
 use Rattle.abuf_frame.specs.Closing.{Kept, Threaded, lists_from, payloads_from}
-use Rattle.abuf_frame.specs.Lanes.{Advances, head_or_end}
+use Rattle.abuf_frame.specs.Lanes.{Advances, Refers, head_or_end}
 use Rattle.abuf_frame.specs.Words.{head_word, next_word, payload_word}
 use Rattle.abuf_frame.proofs.Closes.{goes, lists_at, lists_length, walk_end, walk_more}
 
--- the lanes before k have the lists that they are to have
-abbrev pub HaveLists : (ℕ → List ℕ) → List (List ℕ) → ℕ → Type 0
-HaveLists lists xs k = (length xs ≡ 8) × ((j : ℕ) → j < k → slice_index_or xs j [] ≡ lists j)
+module _ {X : Type 0} (f : X → List ℕ) where
+  -- the list of a lane that was just written
+  put_same : (xs : List X) (k : ℕ) (v : X) → k < length xs → slice_index_or (map f (slice_set xs k v)) k [] ≡ f v
+  put_same xs k v l = ap (λ (ys : List (List ℕ)). slice_index_or ys k []) (map-set f xs k v) ∙ get_or-set_same (map f xs) k (f v) [] (let e = length-map xs f in omega arith)
 
--- one more lane has its list
-pub have_more : (lists : ℕ → List ℕ) (xs : List (List ℕ)) (k : ℕ) (v : List ℕ) → k < 8 → v ≡ lists k → HaveLists lists xs k → HaveLists lists (slice_set xs k v) (k + 1)
-have_more lists xs k v l e s = let long = s.0 in (
-  length-set xs k v ∙ long,
-  λ j b. ⊎_elim
-      (λ (h : j ≡ k). subst (λ (i : ℕ). slice_index_or (slice_set xs k v) i [] ≡ lists i) (sym h) (get_or-set_same xs k v [] (omega arith) ∙ e))
-      (λ (h : j ≢ k). get_or-set_other xs k j v [] h ∙ s.1 j (omega arith)) (cases_eq j k),
-)
+  -- the list of another lane
+  put_other : (xs : List X) (k j : ℕ) (v : X) → j ≢ k → slice_index_or (map f (slice_set xs k v)) j [] ≡ slice_index_or (map f xs) j []
+  put_other xs k j v h = ap (λ (ys : List (List ℕ)). slice_index_or ys j []) (map-set f xs k v) ∙ get_or-set_other (map f xs) k j (f v) [] h
 
--- one more word refers to one of so many nodes
-pub refers_all : (count : ℕ) (at : List ℕ) (k next : ℕ) → next < count → ((j : ℕ) → j < 8 → slice_index at j < count) → (j : ℕ) → j < 8 → slice_index (slice_set at k next) j < count
-refers_all count at k next l all j b = ⊎_elim same (λ (h : j ≢ k). subst (λ (n : ℕ). n < count) (sym (get_or-set_other at k j next 0 h)) (all j b)) (cases_eq j k)
-  where
-    same : j ≡ k → slice_index (slice_set at k next) j < count
-    same h = ⊎_elim
-        (λ (i : k < length at). subst (λ (n : ℕ). slice_index (slice_set at k next) n < count) (sym h) (subst (λ (n : ℕ). n < count) (sym (get_or-set_same at k next 0 i)) l))
-        (λ (i : length at ≤ k). subst (λ (xs : List ℕ). slice_index xs j < count) (sym (set_past at k next i)) (all j b)) (cases_lt k (length at))
+  -- the lists of the lanes before k are empty
+  abbrev pub Emptied : List X → ℕ → Type 0
+  Emptied xs k = (length xs ≡ 8) × ((j : ℕ) → j < k → slice_index_or (map f xs) j [] ≡ [])
 
--- In the lanes before k, R relates the words and lists from before to the present ones, and the other lanes are as they were.
-module _ (R : ℕ → ℕ → List ℕ → List ℕ → Type 0) (from : List ℕ) (before : List (List ℕ)) where
-  -- What a loop over lanes has done up to this one.
-  abbrev pub AdvancedTo : List ℕ → List (List ℕ) → ℕ → Type 0
-  AdvancedTo at xs k = (length at ≡ 8) × (length xs ≡ 8)
-      × ((j : ℕ) → j < k → R (slice_index from j) (slice_index at j) (slice_index_or before j []) (slice_index_or xs j []))
-      × ((j : ℕ) → k ≤ j → (slice_index at j ≡ slice_index from j) × (slice_index_or xs j [] ≡ slice_index_or before j []))
+  -- one more lane was emptied
+  pub empties : (xs : List X) (k : ℕ) (v : X) → k < 8 → f v ≡ [] → Emptied xs k → Emptied (slice_set xs k v) (k + 1)
+  empties xs k v l e s = let long = s.0 in (
+    length-set xs k v ∙ long,
+    λ j b. ⊎_elim
+        (λ (h : j ≡ k). subst (λ (i : ℕ). slice_index_or (map f (slice_set xs k v)) i [] ≡ []) (sym h) (put_same xs k v (omega arith) ∙ e))
+        (λ (h : j ≢ k). put_other xs k j v h ∙ s.1 j (omega arith)) (cases_eq j k),
+  )
 
-  -- one more lane has advanced
-  pub advances_lane : (at : List ℕ) (xs : List (List ℕ)) (k next : ℕ) (v d : List ℕ) → k < 8 → R (slice_index at k) next (slice_index_or xs k d) v → AdvancedTo at xs k → AdvancedTo (slice_set at k next) (slice_set xs k v) (k + 1)
-  advances_lane at xs k next v d l r s = let wide = s.0 in let long = s.1 in let here = s.3 k (omega arith) in
-      let now : List ℕ = slice_set at k next in let lists : List (List ℕ) = slice_set xs k v in
-      let same : R (slice_index from k) (slice_index now k) (slice_index_or before k []) (slice_index_or lists k []) =
-      subst (λ (a : ℕ). R a (slice_index now k) (slice_index_or before k []) (slice_index_or lists k [])) here.0
-      (subst (λ (b : ℕ). R (slice_index at k) b (slice_index_or before k []) (slice_index_or lists k [])) (sym (get_or-set_same at k next 0 (omega arith)))
-      (subst (λ (c : List ℕ). R (slice_index at k) next c (slice_index_or lists k [])) (get_or_default xs k d [] (omega arith) ∙ here.1)
-      (subst (λ (e : List ℕ). R (slice_index at k) next (slice_index_or xs k d) e) (sym (get_or-set_same xs k v [] (omega arith))) r))) in (
-        length-set at k next ∙ wide,
-        length-set xs k v ∙ long,
-        (λ j b. ⊎_elim
-            (λ (h : j ≡ k). subst (λ (i : ℕ). R (slice_index from i) (slice_index now i) (slice_index_or before i []) (slice_index_or lists i [])) (sym h) same)
-            (λ (h : j ≢ k). subst (λ (a : ℕ). R (slice_index from j) a (slice_index_or before j []) (slice_index_or lists j [])) (sym (get_or-set_other at k j next 0 h))
-            (subst (λ (e : List ℕ). R (slice_index from j) (slice_index at j) (slice_index_or before j []) e) (sym (get_or-set_other xs k j v [] h)) (s.2 j (omega arith)))) (cases_eq j k)),
-        (λ j b. let h : j ≢ k = omega arith in let was = s.3 j (omega arith) in (get_or-set_other at k j next 0 h ∙ was.0, get_or-set_other xs k j v [] h ∙ was.1)),
-      )
+  -- In the lanes before k, R relates the words and lists from before to the present ones, and the other lanes are as they were.
+  module _ (R : ℕ → ℕ → List ℕ → List ℕ → Type 0) (from : List ℕ) (before : List X) where
+    -- What a loop over lanes has done up to this one.
+    abbrev pub AdvancedTo : List ℕ → List X → ℕ → Type 0
+    AdvancedTo at xs k = (length at ≡ 8) × (length xs ≡ 8)
+        × ((j : ℕ) → j < k → R (slice_index from j) (slice_index at j) (slice_index_or (map f before) j []) (slice_index_or (map f xs) j []))
+        × ((j : ℕ) → k ≤ j → (slice_index at j ≡ slice_index from j) × (slice_index_or (map f xs) j [] ≡ slice_index_or (map f before) j []))
+
+    -- one more lane has advanced
+    pub advances_lane : (at : List ℕ) (xs : List X) (k next : ℕ) (v d : X) → k < 8 → R (slice_index at k) next (f (slice_index_or xs k d)) (f v) → AdvancedTo at xs k → AdvancedTo (slice_set at k next) (slice_set xs k v) (k + 1)
+    advances_lane at xs k next v d l r s = let wide = s.0 in let long = s.1 in let here = s.3 k (omega arith) in
+        let now : List ℕ = slice_set at k next in let lists : List X = slice_set xs k v in
+        let same : R (slice_index from k) (slice_index now k) (slice_index_or (map f before) k []) (slice_index_or (map f lists) k []) =
+        subst (λ (a : ℕ). R a (slice_index now k) (slice_index_or (map f before) k []) (slice_index_or (map f lists) k [])) here.0
+        (subst (λ (b : ℕ). R (slice_index at k) b (slice_index_or (map f before) k []) (slice_index_or (map f lists) k [])) (sym (get_or-set_same at k next 0 (omega arith)))
+        (subst (λ (c : List ℕ). R (slice_index at k) next c (slice_index_or (map f lists) k [])) (sym (get_or-map f xs k d [] (omega arith)) ∙ here.1)
+        (subst (λ (e : List ℕ). R (slice_index at k) next (f (slice_index_or xs k d)) e) (sym (put_same xs k v (omega arith))) r))) in (
+          length-set at k next ∙ wide,
+          length-set xs k v ∙ long,
+          (λ j b. ⊎_elim
+              (λ (h : j ≡ k). subst (λ (i : ℕ). R (slice_index from i) (slice_index now i) (slice_index_or (map f before) i []) (slice_index_or (map f lists) i [])) (sym h) same)
+              (λ (h : j ≢ k). subst (λ (a : ℕ). R (slice_index from j) a (slice_index_or (map f before) j []) (slice_index_or (map f lists) j [])) (sym (get_or-set_other at k j next 0 h))
+              (subst (λ (e : List ℕ). R (slice_index from j) (slice_index at j) (slice_index_or (map f before) j []) e) (sym (put_other xs k j v h)) (s.2 j (omega arith)))) (cases_eq j k)),
+          (λ j b. let h : j ≢ k = omega arith in let was = s.3 j (omega arith) in (get_or-set_other at k j next 0 h ∙ was.0, put_other xs k j v h ∙ was.1)),
+        )
 
 module _ (words : List ℕ) (pixels nodes : ℕ) where
   -- A walk is to collect `all`. It has collected `done`, stands at the word `at`, and may pass at most so many nodes more.
@@ -61,6 +61,11 @@ module _ (words : List ℕ) (pixels nodes : ℕ) where
     pub rest : List ℕ
     pub threaded : Threaded words pixels nodes at rest
     pub sum : done ++ payloads_from words pixels most at ≡ all
+
+  -- the word at which a walk stands refers to a node of the frame, or is 0
+  pub refers : (at : ℕ) (rest : List ℕ) → nodes ≤ 8388608 → length words ≡ 1 + pixels + 2 * nodes → Threaded words pixels nodes at rest → Refers words pixels at
+  refers at [] few wide t = let e : at ≡ 0 = t in (omega arith, omega arith)
+  refers at (n ∷ ns) few wide t = let e = t.0 in let l = t.1 in (omega arith, omega arith)
 
   -- each walk, from the head of its pixel or at the end
   pub begins : Kept words pixels nodes → (p most at : ℕ) (done : List ℕ) → most ≡ nodes → at ≡ head_or_end words pixels p → done ≡ [] → Walks most at done (slice_index_or (lists_from words pixels nodes 0 pixels) p [])

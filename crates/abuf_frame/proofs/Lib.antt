@@ -15,6 +15,3 @@ pub mod Eight
 pub mod Crosses
 pub mod Wrapping
 pub mod Blanks
-pub mod Stripes
-pub mod Unpacked
-pub mod Starts

@@ -1,7 +1,7 @@
 -- One step of the walks along the lists of eight neighbouring pixels. Each walk has a lane: the word at which it stands, and the
 -- list of the payloads that it has passed.
-use Rattle.std.specs.Prelude.{◌≡◌, ℕ, ◌+◌, ◌-◌, ◌<◌, if◌then◌else◌, ◌==◌, nat_lt, List, [], ◌++◌, length, slice_index, slice_index_or}
-use Rattle.abuf_frame.specs.declared.packed.Packed.{Packed}
+use Rattle.std.specs.Prelude.{◌≡◌, ℕ, ◌+◌, ◌-◌, ◌*◌, ◌<◌, ◌≤◌, if◌then◌else◌, ◌==◌, nat_lt, List, [], ◌++◌, length, slice_index, slice_index_or}
+use Rattle.abuf_num.specs.declared.limits.TheConstants.{MAX_NODES}
 use Rattle.abuf_frame.specs.Closing.{payloads_from}
 use Rattle.abuf_frame.specs.Words.{head_word, next_word}
 
@@ -9,9 +9,9 @@ use Rattle.abuf_frame.specs.Words.{head_word, next_word}
 abbrev pub head_or_end : List ℕ → ℕ → ℕ → ℕ
 head_or_end words pixels p = if nat_lt p pixels then slice_index words (head_word p) else 0
 
--- each of the eight words refers to a node, or is 0
-abbrev pub AllRefer : Packed → List ℕ → Type 0
-AllRefer p at = (k : ℕ) → k < 8 → slice_index at k < length p.nodes.items
+-- the word is 0, or refers to a node that the words have; no frame has more than MAX_NODES
+abbrev pub Refers : List ℕ → ℕ → ℕ → Type 0
+Refers words pixels at = (at ≤ MAX_NODES) × (pixels + 2 * at < length words)
 
 -- the next of the node to which the word refers, and 0 at the end
 abbrev pub next_from : List ℕ → ℕ → ℕ → ℕ
@@ -27,7 +27,3 @@ pub record Advances (words : List ℕ) (pixels at next : ℕ) (old new : List �
 abbrev pub AllAdvance : List ℕ → ℕ → List ℕ → List ℕ → List (List ℕ) → List (List ℕ) → Type 0
 AllAdvance words pixels at next old new = (k : ℕ) → k < 8
     → Advances words pixels (slice_index at k) (slice_index next k) (slice_index_or old k []) (slice_index_or new k [])
-
--- these are the lists of the pixel and of the seven after it, of which those past the last are empty
-abbrev pub AreEight : List (List ℕ) → ℕ → List (List ℕ) → Type 0
-AreEight lists pixel eight = (k : ℕ) → k < 8 → slice_index_or eight k [] ≡ slice_index_or lists (pixel + k) []

@@ -10,11 +10,6 @@ pub mod Draws
 pub mod Look
 pub mod Chains
 pub mod Closing
-pub mod Stripes
-pub mod Packed
 pub mod Lanes
-pub mod Gathered
-pub mod Stored
-pub mod Reading
 pub mod Frame
 pub mod Pass

@@ -1,18 +1,17 @@
-// The words of frames at their start.
-ghost use Rattle.std.specs.Prelude.{◌≡◌, ◌+◌, ◌*◌, ◌-◌, ◌≤◌, ◌↔◌, IsTrue, IfOk};
+// The words of a frame at its start.
+ghost use Rattle.std.specs.Prelude.{◌≡◌, ◌+◌, ◌*◌, IfOk};
 ghost use Rattle.abuf_frame.specs.Words.{AreBlank, IsBlank, Sized};
 
 use abuf_num::NoMemory;
 use std::alloc::Global;
 use std::marker::Model;
 
-/// The words of a frame at its start, laid out once for any number of frames of up to so many pixels and nodes. A `&Blank` may
-/// be shared between threads.
+/// The words of a frame of so many pixels and nodes at its start. They may be laid out by a thread of their own.
 #[derive(Drop)]
 pub struct Blank {
     words: Vec<u64>,
-    pixels: u32,
-    nodes: u32,
+    pub(crate) pixels: u32,
+    pub(crate) nodes: u32,
 }
 
 impl Model for Blank {
@@ -56,7 +55,7 @@ fn blank_words(alloc: Global, pixels: u32, nodes: u32) -> Result<Vec<u64>, NoMem
 }
 
 impl Blank {
-    /// For frames of 1 to 4194304 pixels and of 1 to 8388608 nodes. It takes 8 bytes a pixel and 16 a node.
+    /// For a frame of 1 to 4194304 pixels and of 1 to 8388608 nodes. It takes 8 bytes a pixel and 16 a node.
     pub fn new(alloc: Global, pixels: u32, nodes: u32) -> Result<Blank, NoMemory>
         requires { Sized pixels nodes }
         ensures { IfOk result (λ b. (b.pixels ≡ pixels) × (b.nodes ≡ nodes)) }
@@ -68,20 +67,10 @@ impl Blank {
         })
     }
 
-    // Whether it has as many pixels and nodes as this.
-    pub(crate) fn serves(&self, pixels: u32, nodes: u32) -> bool
-        ensures { IsTrue result ↔ ((pixels ≤ self.now.pixels) × (nodes ≤ self.now.nodes)) }
+    pub(crate) fn words(&self) -> &[u64]
+        ensures words { IsBlank self.now.pixels self.now.nodes result.now }
+        ensures sized { Sized self.now.pixels self.now.nodes }
     {
-        pixels <= self.pixels && nodes <= self.nodes
-    }
-
-    // Those of a frame of so many pixels and nodes: fewer heads before the payloads and nexts, and fewer of these.
-    pub(crate) fn words(&self, pixels: u32, nodes: u32) -> &[u64]
-        requires { (pixels ≤ self.now.pixels) × (nodes ≤ self.now.nodes) }
-        ensures { IsBlank pixels nodes result.now }
-    {
-        let from = (self.pixels - pixels) as usize;
-        let count = 1 + pixels as usize + 2 * nodes as usize;
-        &self.words[from..from + count]
+        &self.words
     }
 }

@@ -1,16 +1,13 @@
 // A frame that is drawn.
-ghost use Rattle.std.specs.Prelude.{◌≡◌, ℕ, ◌<◌, ◌≤◌, IfOk, IfSome, IfNone, IsPermutation, List, All, flat_map, length, sum_by};
-ghost use Rattle.abuf_num.specs.declared.limits.TheConstants.{MAX_NODES, MAX_PIXELS};
+ghost use Rattle.std.specs.Prelude.{◌≡◌, ℕ, ◌+◌, ◌*◌, ◌<◌, ◌≤◌, ◌^◌, IfOk, IfSome, IfNone, IsPermutation, List, length, slice_index, slice_index_or, []};
+ghost use Rattle.abuf_num.specs.declared.limits.TheConstants.{MAX_NODES};
 ghost use Rattle.abuf_frame.specs.Chains.{IsListAt};
 ghost use Rattle.abuf_frame.specs.Closing.{AllSeen, list_at};
 ghost use Rattle.abuf_frame.specs.Draws.{pairs, payloads_at};
 ghost use Rattle.abuf_frame.specs.Views.{IsSettled, IsWhole, lost, whole_view};
 
-use crate::block::Block;
-use crate::blocks::Blocks;
 use crate::frame::Frame;
 use crate::pass::Pass;
-use crate::reader::Reader;
 use crate::still::Still;
 use abuf_num::{List, NoMemory};
 use std::alloc::Global;
@@ -19,24 +16,24 @@ use std::marker::Model;
 /// A frame that is drawn: its lists don't change any more. A `&Closed` may be shared between threads.
 #[derive(Drop)]
 pub struct Closed {
-    blocks: Blocks,
-    pixels: u32,
-    // How many the pool has, which may be more than the blocks have together: `full` compares with these.
+    pub(crate) words: Still,
+    pub(crate) pixels: u32,
+    // How many nodes the words have, which is the most that a walk can pass.
+    pub(crate) table_nodes: u32,
+    // How many the pool has: `full` compares with these.
     nodes: u32,
     fragments: u64,
 }
 
 impl Model for Closed {
-    ghost use Rattle.std.specs.Prelude.{◌≡◌, length};
-    ghost use Rattle.abuf_frame.specs.Closing.{Ended};
-    ghost use Rattle.abuf_frame.specs.Stripes.{lists_in};
+    ghost use Rattle.abuf_frame.specs.Closing.{Ended, Kept, lists_from};
     ghost use Rattle.abuf_frame.specs.Words.{Sized};
 
     ghost Value = { Ended };
 
-    ghost view = { λ c. record { lists = lists_in c.blocks; pixels = c.pixels; nodes = c.nodes; fragments = c.fragments } };
+    ghost view = { λ c. record { lists = lists_from c.words c.pixels c.table_nodes 0 c.pixels; pixels = c.pixels; nodes = c.nodes; fragments = c.fragments } };
 
-    ghost invariant = { λ c. (length (lists_in c.blocks) ≡ c.pixels) × Sized c.pixels c.nodes };
+    ghost invariant = { λ c. Kept c.words c.pixels c.table_nodes × Sized c.pixels c.nodes };
 }
 
 /// More fragments were drawn than the frame has nodes, so some were lost.
@@ -75,10 +72,10 @@ impl Frame {
             pixels: _,
             nodes: _,
         } = pass;
-        let words = Still::new(table.close_with(seat));
         Closed {
-            blocks: Blocks::One(Block::new(words, pixels, nodes)),
+            words: Still::new(table.close_with(seat)),
             pixels,
+            table_nodes: nodes,
             nodes,
             fragments,
         }
@@ -92,6 +89,13 @@ impl Closed {
         ensures lists { length self.now.lists ≡ result }
     {
         self.pixels
+    }
+
+    /// The number of nodes of its pool.
+    pub fn nodes(&self) -> u32
+        ensures { result ≡ self.now.nodes }
+    {
+        self.nodes
     }
 
     /// How many entries there were, Linked and Lost.
@@ -127,73 +131,19 @@ impl Closed {
         Closed { nodes, ..self }
     }
 
-    /// The closed frame of stripes of pixels, in a pool of so many nodes. The pixels of the first stripe come first, and each list is
-    /// that of its stripe. The words stay where they were drawn, so the cost grows with the number of stripes alone; a stripe may
-    /// itself be one of stripes. To read a list passes the stripes before it, so there should be few. An error means that memory
-    /// ran out, and the stripes are let go.
-    pub fn of_stripes(alloc: Global, stripes: Vec<Closed>, nodes: u32) -> Result<Closed, NoMemory>
-        requires some { 1 ≤ length stripes.items }
-        requires pixels { sum_by (λ s. s.pixels) stripes.items ≤ MAX_PIXELS }
-        requires not_full { All (λ s. s.fragments ≤ s.nodes) stripes.items }
-        requires nodes { (sum_by (λ s. s.fragments) stripes.items ≤ nodes) × (1 ≤ nodes) × (nodes ≤ MAX_NODES) }
-        ensures lists { IfOk result (λ c. c.lists ≡ flat_map (λ s. s.lists) stripes.items) }
-        ensures sizes { IfOk result (λ c. (c.pixels ≡ sum_by (λ s. s.pixels) stripes.items) × (c.nodes ≡ nodes)) }
-        ensures fragments { IfOk result (λ c. c.fragments ≡ sum_by (λ s. s.fragments) stripes.items) }
-    {
-        let mut blocks = Vec::new(alloc);
-        let mut pixels = 0;
-        let mut fragments = 0;
-        for stripe in stripes {
-            pixels += stripe.pixels;
-            fragments += stripe.fragments;
-            stripe.blocks.append_to(&mut blocks)?;
-        }
-        Ok(Closed {
-            blocks: Blocks::Several(blocks),
-            pixels,
-            nodes,
-            fragments,
-        })
-    }
-
-    /// The same frame with its lists gathered: the payloads of each lie side by side, in 8 bytes for each fragment and 4 for each
-    /// pixel, where a table has 16 for each node and 8 for each pixel. A `Reader` hands them out as they lie. Long lists are
-    /// walked eight at a time, so that their waits for memory overlap; for this they are copied once more. The lists stay as they
-    /// were drawn where the frame is full, where it is one of stripes, which may be gathered before they are put together, and
-    /// where they are long and a payload is 2^40 or more. The table is let go. An error means that memory ran out, and the
-    /// frame is let go.
-    pub fn gathered(self, alloc: Global) -> Result<Closed, NoMemory>
-        ensures { IfOk result (λ closed. closed ≡ self) }
-    {
-        if self.full().is_some() {
-            return Ok(self);
-        }
-        let Closed {
-            blocks,
-            pixels,
-            nodes,
-            fragments,
-        } = self;
-        Ok(Closed {
-            blocks: blocks.gathered(alloc, fragments)?,
-            pixels,
-            nodes,
-            fragments,
-        })
-    }
-
     /// A frame of as many pixels and nodes, whose lists are empty, with its whole pass, as `Frame::start` gives them. The words of
     /// this one are let go first, so that their memory serves for it. After `NoMemory` there is no frame.
     pub fn reopen(self, alloc: Global) -> Result<(Frame, Pass), NoMemory>
         ensures { IfOk result (λ r. (r.0.pixels ≡ self.pixels) × (r.0.nodes ≡ self.nodes) × (r.1.frame ≡ r.0) × (r.1.view ≡ whole_view)) }
     {
         let Closed {
-            blocks,
+            words,
             pixels,
+            table_nodes: _,
             nodes,
             fragments: _,
         } = self;
-        drop(blocks);
+        drop(words);
         Frame::start(alloc, pixels, nodes)
     }
 
@@ -214,14 +164,17 @@ impl Closed {
         requires { pixel < self.now.pixels }
         ensures { IfOk result (λ _. items.new.items ≡ list_at self.now pixel) }
     {
-        self.blocks.copy_list(pixel, items)
-    }
-
-    /// A reader of the lists, that of this pixel first. It takes no memory before it reads one that isn't gathered.
-    pub fn reader(&self, alloc: Global, pixel: u32) -> Reader<'_>
-        ensures lists { result.lists ≡ self.now.lists }
-        ensures next { result.next ≡ pixel }
-    {
-        Reader::new(alloc, &self.blocks, pixel)
+        items.clear();
+        let payloads = 1 + self.pixels as usize;
+        let mut at = self.words.word(1 + pixel as usize);
+        for _ in 0..self.table_nodes {
+            if at == 0 {
+                break;
+            }
+            let node = payloads + 2 * (at - 1) as usize;
+            items.push(self.words.word(node))?;
+            at = self.words.word(node + 1);
+        }
+        Ok(())
     }
 }

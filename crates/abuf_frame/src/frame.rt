@@ -71,24 +71,13 @@ impl Frame {
         ensures { IfOk result (λ r. (r.0.pixels ≡ pixels) × (r.0.nodes ≡ nodes) × (r.1.frame ≡ r.0) × (r.1.view ≡ whole_view)) }
     {
         let blank = Blank::new(alloc, pixels, nodes)?;
-        Frame::of_words(alloc, blank.words(pixels, nodes), pixels, nodes)
+        Frame::start_from(alloc, &blank)
     }
 
-    /// The same from a blank, which serves for one frame after another: no second block is taken, unless the frame is to have more
-    /// pixels or nodes than the blank.
-    pub fn start_from(
-        alloc: Global,
-        blank: &Blank,
-        pixels: u32,
-        nodes: u32,
-    ) -> Result<(Frame, Pass), NoMemory>
-        requires { Sized pixels nodes }
-        ensures { IfOk result (λ r. (r.0.pixels ≡ pixels) × (r.0.nodes ≡ nodes) × (r.1.frame ≡ r.0) × (r.1.view ≡ whole_view)) }
+    /// The same from words that were laid out before, which are copied, so that no second block is taken.
+    pub fn start_from(alloc: Global, blank: &Blank) -> Result<(Frame, Pass), NoMemory>
+        ensures { IfOk result (λ r. (r.0.pixels ≡ blank.now.pixels) × (r.0.nodes ≡ blank.now.nodes) × (r.1.frame ≡ r.0) × (r.1.view ≡ whole_view)) }
     {
-        if blank.serves(pixels, nodes) {
-            Frame::of_words(alloc, blank.words(pixels, nodes), pixels, nodes)
-        } else {
-            Frame::start(alloc, pixels, nodes)
-        }
+        Frame::of_words(alloc, blank.words(), blank.pixels, blank.nodes)
     }
 }

@@ -1,33 +1,32 @@
 // The lists of eight neighbouring pixels, copied side by side.
-ghost use Rattle.std.specs.Prelude.{◌≡◌, ℕ, ◌+◌, ◌<◌, [], IfOk, IsTrue, length, slice_index, slice_index_or};
-ghost use Rattle.abuf_frame.specs.Closing.{Kept, lists_from};
-ghost use Rattle.abuf_frame.specs.Lanes.{Advances, AllAdvance, AllRefer, AreEight, head_or_end};
-ghost use Rattle.abuf_frame.specs.Packed.{unpacked};
+ghost use Rattle.std.specs.Prelude.{◌≡◌, ℕ, ◌+◌, ◌<◌, [], IfOk, IsTrue, length, map, slice_index, slice_index_or, vec_items};
+ghost use Rattle.abuf_frame.specs.Closing.{list_at};
+ghost use Rattle.abuf_frame.specs.Lanes.{Advances, AllAdvance, Refers, head_or_end};
 
-use crate::packed::{NEXTS, Packed};
-use crate::payloads::Payloads;
+use crate::closed::Closed;
+use crate::still::Still;
 use abuf_num::NoMemory;
 
 // Where the walks along the lists of the eight pixels from this one on begin.
-fn heads(words: &Packed, pixel: u32) -> [u64; 8]
+fn heads(words: &Still, pixels: u32, pixel: u32) -> [u64; 8]
+    requires { pixels < length words.now }
     ensures length { length result ≡ 8 }
-    ensures heads { (k : ℕ) → k < 8 → slice_index result k ≡ head_or_end (unpacked words.now) (length words.now.heads.items) (pixel + k) }
-    ensures refer { AllRefer words.now result }
+    ensures heads { (k : ℕ) → k < 8 → slice_index result k ≡ head_or_end words.now pixels (pixel + k) }
 {
     let mut at = [0; 8];
     for k in 0..8 {
         let there = pixel as usize + k;
-        if there < words.heads.len() {
-            at[k] = words.head(there);
+        if there < pixels as usize {
+            at[k] = words.word(1 + there);
         }
     }
     at
 }
 
 // Empties the buffers, and keeps their memory.
-fn clear_all(lists: &mut [Payloads; 8])
+fn clear_all(lists: &mut [Vec<u64>; 8])
     ensures length { length lists.new ≡ 8 }
-    ensures empty { (k : ℕ) → k < 8 → slice_index_or lists.new k [] ≡ [] }
+    ensures empty { (k : ℕ) → k < 8 → slice_index_or (map vec_items lists.new) k [] ≡ [] }
 {
     for k in 0..8 {
         lists[k].clear();
@@ -44,51 +43,55 @@ fn all_ended(at: &[u64; 8]) -> bool
 
 // Passes the node to which the word refers, if it isn't 0: puts its payload last in the list, and answers its next.
 #[inline(always)]
-fn advance(words: &Packed, at: u64, list: &mut Payloads) -> Result<u64, NoMemory>
-    requires { at < length words.now.nodes.items }
-    ensures within { IfOk result (λ next. next < length words.now.nodes.items) }
-    ensures lane { IfOk result (λ next. Advances (unpacked words.now) (length words.now.heads.items) at next list.old list.new) }
+fn advance(words: &Still, pixels: u32, at: u64, list: &mut Vec<u64>) -> Result<u64, NoMemory>
+    requires { Refers words.now pixels at }
+    ensures { IfOk result (λ next. Advances words.now pixels at next list.old.items list.new.items) }
 {
-    let node = words.nodes[at as usize];
-    list.put(node / NEXTS, at != 0)?;
-    Ok(node % NEXTS)
+    if at == 0 {
+        return Ok(0);
+    }
+    let node = 1 + pixels as usize + 2 * (at - 1) as usize;
+    list.push(words.word(node))?;
+    Ok(words.word(node + 1))
 }
 
 // The same in each lane. No lane's loads wait for those of another.
 #[inline(always)]
-fn advance_all(words: &Packed, at: &mut [u64; 8], lists: &mut [Payloads; 8]) -> Result<(), NoMemory>
-    requires { AllRefer words.now at.old }
+fn advance_all(
+    words: &Still,
+    pixels: u32,
+    at: &mut [u64; 8],
+    lists: &mut [Vec<u64>; 8],
+) -> Result<(), NoMemory>
+    requires { (k : ℕ) → k < 8 → Refers words.now pixels (slice_index at.old k) }
     ensures length { (length at.new ≡ 8) × (length lists.new ≡ 8) }
-    ensures refer { IfOk result (λ _. AllRefer words.now at.new) }
-    ensures lanes { IfOk result (λ _. AllAdvance (unpacked words.now) (length words.now.heads.items) at.old at.new lists.old lists.new) }
+    ensures lanes { IfOk result (λ _. AllAdvance words.now pixels at.old at.new (map vec_items lists.old) (map vec_items lists.new)) }
 {
     for k in 0..8 {
-        at[k] = advance(words, at[k], &mut lists[k])?;
+        at[k] = advance(words, pixels, at[k], &mut lists[k])?;
     }
     Ok(())
 }
 
-// The lists of the eight pixels from this one on, each a walk that passes at most so many nodes, and an empty one for each pixel past
-// the last. A walk along one list waits for memory at each node. Eight are walked here side by side, so that their waits overlap, and
-// neighbouring nodes are read while they are in the cache.
-pub(crate) fn walk_eight(
-    words: &Packed,
-    nodes: u32,
-    pixel: u32,
-    lists: &mut [Payloads; 8],
-) -> Result<(), NoMemory>
-    requires { Kept (unpacked words.now) (length words.now.heads.items) nodes }
-    ensures length { length lists.new ≡ 8 }
-    ensures lists { IfOk result (λ _. AreEight
-        (lists_from (unpacked words.now) (length words.now.heads.items) nodes 0 (length words.now.heads.items)) pixel lists.new) }
-{
-    let mut at = heads(words, pixel);
-    clear_all(lists);
-    for _ in 0..nodes {
-        if all_ended(&at) {
-            break;
+impl Closed {
+    /// The lists of the eight pixels from this one on, each as `copy_list` gives it, and an empty one for each pixel past the
+    /// last. A walk along one list waits for memory at each node. Eight are walked here side by side, so that their waits
+    /// overlap, and neighbouring nodes are read while they are in the cache. The cost grows with the longest list and with the
+    /// sum of the eight. After want of memory the buffers hold some of the payloads.
+    pub fn copy_eight(&self, pixel: u32, lists: &mut [Vec<u64>; 8]) -> Result<(), NoMemory>
+        requires { pixel < self.now.pixels }
+        ensures length { length lists.new ≡ 8 }
+        ensures lists { IfOk result (λ _. (k : ℕ) → k < 8 → slice_index_or (map vec_items lists.new) k [] ≡ list_at self.now (pixel + k)) }
+    {
+        let words = &self.words;
+        let mut at = heads(words, self.pixels, pixel);
+        clear_all(lists);
+        for _ in 0..self.table_nodes {
+            if all_ended(&at) {
+                break;
+            }
+            advance_all(words, self.pixels, &mut at, lists)?;
         }
-        advance_all(words, &mut at, lists)?;
+        Ok(())
     }
-    Ok(())
 }

@@ -7,35 +7,24 @@
 //! A number that has no node is lost, and the counter runs on, so that it tells how many nodes would have been enough. Threads
 //! draw at the same time by passes that are split off and joined again; others may `count` and `look` while they draw. A whole,
 //! settled pass closes the frame, which takes constant time, and a `Closed` frame has the lists. Threads share it, and read the
-//! lists along the words that were drawn, or as they lie once they are gathered: `Closed::gathered` has the same lists, each in one
-//! piece, in half the memory. Stripes of pixels may each be drawn into a frame of their own: `Closed::of_stripes` makes one closed frame
-//! of theirs, and leaves the words where they are.
+//! lists one by one or eight side by side from the words that were drawn.
 //!
 //! `specs/Lawful.antt` says what holds between any two steps of any number of threads, and each call here is proved to keep
 //! it. What the crates above need of it is in the contracts alone: of a pass its frame, its credit, its entries as pairs of
 //! pixel and payload (`Draws`), what it was told and what it has seen; of a closed frame that each list is a permutation of
 //! the payloads of the entries at its pixel, in the order of the walk along their old heads (`specs/Chains.antt`), and that no
-//! entry is lost where there are no more of them than nodes. No call waits, and none between `start` and `close` takes memory.
+//! entry is lost where there are no more of them than nodes. No call waits, and none between `start` and `list` takes memory.
 //!
 //! Not promised are which of two threads comes first, and so where their entries stand in a list, and which entries are linked
 //! where some are lost.
 #![tactic(auto)]
 
 mod blank;
-mod block;
-mod blocks;
 mod closed;
-mod drawn;
 mod frame;
-mod gathered;
 mod lanes;
 mod look;
-mod packed;
-mod packing;
 mod pass;
-mod payloads;
-mod reader;
-mod rest;
 mod rule;
 mod steps;
 mod still;
@@ -48,4 +37,3 @@ pub use closed::{Closed, Full};
 pub use frame::Frame;
 pub use look::Look;
 pub use pass::Pass;
-pub use reader::Reader;

@@ -1,18 +1,8 @@
 // Worked rows.
 ghost use Rattle.std.specs.Prelude.{◌≡◌};
 
-// The payloads of the next list are these.
-macro_rules! assert_next {
-    ($rt:ident, $reader:ident, $payloads:expr) => {{
-        $reader.read()?;
-        assert!($rt; $reader.list() == $payloads.as_slice());
-    }};
-}
-
-mod gathered;
-mod stripes;
-
 use crate::{Frame, Full, Look};
+use std::array;
 use std::test::Fail;
 use std::thread::{join_mut, map_indices};
 
@@ -258,17 +248,49 @@ fn two_threads_insert_at_once(rt: HostRuntime) -> Result<(), Fail> {
 }
 
 #[test]
-fn lists_one_after_another(rt: HostRuntime) -> Result<(), Fail> {
+fn eight_lists_at_once(rt: HostRuntime) -> Result<(), Fail> {
     let alloc = rt.alloc();
-    let (frame, mut pass) = Frame::start(alloc, 4, 6)?;
-    pass.insert_all(&frame, &[(3, 31), (0, 1), (2, 21), (0, 2), (2, 22), (0, 3)]);
+    let (frame, mut pass) = Frame::start(alloc, 11, 16)?;
+    // The payload's tens are the pixel.
+    pass.insert_all(
+        &frame,
+        &[
+            (0, 1),
+            (7, 71),
+            (2, 21),
+            (9, 91),
+            (3, 31),
+            (0, 2),
+            (2, 22),
+            (8, 81),
+        ],
+    );
+    pass.insert_all(
+        &frame,
+        &[
+            (9, 92),
+            (2, 23),
+            (0, 3),
+            (2, 24),
+            (9, 93),
+            (7, 72),
+            (2, 25),
+            (9, 94),
+        ],
+    );
     let closed = frame.close(pass);
-    let mut reader = closed.reader(alloc, 0);
-    assert_next!(rt, reader, [3, 2, 1]);
-    reader.read()?;
-    assert!(rt; reader.list().is_empty());
-    assert_next!(rt, reader, [22, 21]);
-    assert_next!(rt, reader, [31]);
+    let mut lists = array::from_fn(|_| Vec::new(alloc));
+    closed.copy_eight(0, &mut lists)?;
+    assert!(rt; lists[0].as_slice() == [3, 2, 1].as_slice());
+    assert!(rt; lists[1].as_slice().is_empty());
+    assert!(rt; lists[2].as_slice() == [25, 24, 23, 22, 21].as_slice());
+    assert!(rt; lists[3].as_slice() == [31].as_slice());
+    assert!(rt; lists[7].as_slice() == [72, 71].as_slice());
+    closed.copy_eight(8, &mut lists)?;
+    assert!(rt; lists[0].as_slice() == [81].as_slice());
+    assert!(rt; lists[1].as_slice() == [94, 93, 92, 91].as_slice());
+    assert!(rt; lists[2].as_slice().is_empty() && lists[3].as_slice().is_empty());
+    assert!(rt; lists[7].as_slice().is_empty());
     Ok(())
 }
 

@@ -1,9 +1,2 @@
 pub mod Credit
 pub mod Sights
-pub mod Rows
-pub mod Stacked
-pub mod Placed
-pub mod Joined
-pub mod Above
-pub mod AllStripes
-pub mod Groups

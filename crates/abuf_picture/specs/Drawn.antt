@@ -32,8 +32,7 @@ pub record IsStarted (triangles : List Triangle) (pattern : Pattern) (r : Region
 pub record IsDrawn (triangles : List Triangle) (pattern : Pattern) (r : Region) (nodes : ℕ) (frame : Shape) (pass : PassState) : Type 0 where
   pub belongs : pass.frame ≡ frame
   pub pixels_are : frame.pixels ≡ r.w * r.h
-  pub few : frame.nodes ≤ nodes
-  pub enough : min (total triangles pattern r) nodes ≤ frame.nodes
+  pub pool : IsPool (total triangles pattern r) nodes frame.nodes
   pub whole : IsWhole pass.view
   pub settled : IsSettled pass.view
   pub drawn : Adds (fragments triangles pattern r) pass.view.entries

@@ -1,4 +1,3 @@
 pub mod Picture
 pub mod Drawn
-pub mod Stripes
-pub mod Groups
+pub mod Redrawing

@@ -1,19 +1,20 @@
 // The drawing into a frame, and its closing.
-ghost use Rattle.std.specs.Prelude.{◌≡◌, ◌≤◌, min, IfOk};
+ghost use Rattle.std.specs.Prelude.{◌≡◌, ◌*◌, ◌≤◌, min, IfOk};
+ghost use Rattle.abuf_num.specs.declared.limits.TheConstants.{MAX_NODES};
+ghost use Rattle.abuf_frame.specs.Words.{Sized};
 ghost use Rattle.abuf_frame.specs.Views.{lost};
 ghost use Rattle.abuf_picture.specs.Drawn.{IsDrawn, IsPool, IsStarted};
 ghost use Rattle.abuf_picture.specs.Picture.{IsFrameOf, total};
 
-use crate::layout::Stripes;
 use crate::primitives::Primitives;
-use crate::stripes::stripe_count;
+use crate::redrawing::{close_roomy, in_pool, redraw};
 use crate::target::Target;
 use abuf_fan::{Gate, draw_all, most_fragments};
-use abuf_frame::{Closed, Frame, Pass};
+use abuf_frame::{Blank, Closed, Frame, Pass};
 use abuf_num::NoMemory;
 use abuf_raster::region_law;
 use std::alloc::Global;
-use std::thread::Threads;
+use std::thread::{Threads, join};
 
 /// How many nodes a pool is made with that may have so many, for so many fragments at most.
 fn nodes_for(most: u64, nodes: u32) -> u32
@@ -73,6 +74,37 @@ pub(crate) fn draw_into<R: Threads + Sync, G: Gate + Sync>(
     }
 }
 
+/// From how many words on a frame's start is shared among threads: for fewer, starting them takes longer.
+const MANY_WORDS: usize = 1048576;
+
+/// The words of the frame at its start. While one thread lays them out, another takes as much memory, writes it and lets it go: into
+/// this they will be copied, and the kernel has cleared it by then. Nothing hangs on whether there was so much.
+fn blank_for<R: Threads + Sync>(
+    rt: &R,
+    alloc: Global,
+    target: &Target,
+    room: u32,
+) -> Result<Blank, NoMemory>
+    requires { (1 ≤ room) × (room ≤ MAX_NODES) }
+    ensures { IfOk result (λ b. (b.pixels ≡ target.now.region.w * target.now.region.h) × (b.nodes ≡ room)) }
+{
+    let pixels = target.region.pixels();
+    let words = 1 + pixels as usize + 2 * room as usize;
+    if target.threads == 1 || words < MANY_WORDS {
+        return Blank::new(alloc, pixels, room);
+    }
+    let (blank, warmed) = join(
+        rt,
+        move || -> Result<Blank, NoMemory>
+            requires { Sized pixels room }
+            ensures { IfOk result (λ b. (b.pixels ≡ pixels) × (b.nodes ≡ room)) }
+        { Blank::new(alloc, pixels, room) },
+        move || -> Result<Vec<u64>, NoMemory> { Ok(vec![in alloc; 0; words]?) },
+    );
+    drop(warmed);
+    blank
+}
+
 /// A frame of so many nodes into which the primitives are drawn, on the target's number of threads, and its whole pass.
 pub(crate) fn draw_pass<R: Threads + Sync, G: Gate + Sync>(
     rt: &R,
@@ -85,7 +117,9 @@ pub(crate) fn draw_pass<R: Threads + Sync, G: Gate + Sync>(
     requires { IsPool (total primitives.now.triangles.now target.now.pattern target.now.region) target.now.nodes room }
     ensures { IfOk result (λ p. IsDrawn primitives.now.triangles.now target.now.pattern target.now.region target.now.nodes p.0 p.1) }
 {
-    let started = Frame::start(alloc, target.region.pixels(), room)?;
+    let blank = blank_for(rt, alloc, target, room)?;
+    let started = Frame::start_from(alloc, &blank)?;
+    drop(blank);
     draw_into(rt, alloc, primitives, target, started, gate)
 }
 
@@ -100,32 +134,11 @@ pub(crate) fn close_drawn(
     ensures frame { IsFrameOf primitives.now.triangles.now target.now.pattern target.now.region target.now.nodes result }
     ensures kept { total primitives.now.triangles.now target.now.pattern target.now.region ≤ target.now.nodes → lost pass.view.entries ≡ 0 }
 {
-    let closed = frame.close(pass);
-    match closed.full() {
-        None => closed.in_larger_pool(target.nodes),
-        Some(_) => closed,
-    }
+    let closed = close_roomy(primitives, target, frame, pass);
+    in_pool(primitives, target, closed)
 }
 
-/// The closed frame of so many nodes into which the primitives are drawn, on the target's number of threads.
-fn draw_in_one<R: Threads + Sync, G: Gate + Sync>(
-    rt: &R,
-    alloc: Global,
-    primitives: &Primitives,
-    target: &Target,
-    room: u32,
-    gate: &G,
-) -> Result<Closed, NoMemory>
-    requires { IsPool (total primitives.now.triangles.now target.now.pattern target.now.region) target.now.nodes room }
-    ensures { IfOk result (IsFrameOf primitives.now.triangles.now target.now.pattern target.now.region target.now.nodes) }
-{
-    let (frame, pass) = draw_pass(rt, alloc, primitives, target, room, gate)?;
-    close_drawn(primitives, target, frame, pass).gathered(alloc)
-}
-
-/// The closed frame into which the primitives are drawn. A small one is drawn by the target's number of workers together. A
-/// large one is drawn in stripes of rows, each by one worker into a table of its own, and as many at once as there are threads: the
-/// tables stay in the caches, and each is laid out by the worker that draws into it. Every worker that draws passes by the gate
+/// The closed frame into which the primitives are drawn, by the target's number of workers together. Every worker passes by the gate
 /// twice. An error means that memory ran out.
 pub fn draw<R: Threads + Sync, G: Gate + Sync>(
     rt: &R,
@@ -136,22 +149,6 @@ pub fn draw<R: Threads + Sync, G: Gate + Sync>(
 ) -> Result<Closed, NoMemory>
     ensures { IfOk result (IsFrameOf primitives.now.triangles.now target.now.pattern target.now.region target.now.nodes) }
 {
-    region_law(target.region);
-    let count = stripe_count(
-        target.region.h(),
-        primitives.triangles.len(),
-        target.threads,
-    );
-    if count > 1 {
-        let stripes = Stripes {
-            primitives: *primitives,
-            target: *target,
-            count,
-        };
-        if let Some(closed) = stripes.draw(rt, alloc, gate)? {
-            return Ok(closed);
-        }
-    }
-    let room = room_for(rt, primitives, target);
-    draw_in_one(rt, alloc, primitives, target, room, gate)
+    let closed = redraw(rt, alloc, primitives, target, None, gate)?;
+    Ok(in_pool(primitives, target, closed))
 }

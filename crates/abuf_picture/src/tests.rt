@@ -44,7 +44,7 @@ fn a_square_is_drawn_looked_at_and_resolved(rt: HostRuntime) -> Result<(), Fail>
     Ok(())
 }
 
-/// What is drawn into a region of 1024 by 512 pixels, whose frame is large enough for stripes, on two threads.
+/// What is drawn into a region of 1024 by 512 pixels, on two threads.
 fn large_target(nodes: u32) -> Target
     requires { (1 ≤ nodes) × (nodes ≤ MAX_NODES) }
 {
@@ -57,9 +57,9 @@ fn large_target(nodes: u32) -> Target
     }
 }
 
-// With 524288 nodes the fragments are counted first, since their bounds are more; one node less is too few.
+// 524288 nodes are enough; one node less is too few.
 #[test]
-fn a_large_rectangle_is_drawn_in_stripes(rt: HostRuntime) -> Result<(), Fail> {
+fn a_large_rectangle_is_drawn(rt: HostRuntime) -> Result<(), Fail> {
     let alloc = rt.alloc();
     let upper = ScreenTri::new([0, 262144, 0], [0, 0, 131072], [0; 3]).ok_or("upper")?;
     let lower = ScreenTri::new([262144, 262144, 0], [0, 131072, 131072], [0; 3]).ok_or("lower")?;

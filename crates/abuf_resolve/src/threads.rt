@@ -33,12 +33,13 @@ pub(crate) struct Run {
     pub(crate) resolved: Resolved,
 }
 
-/// How many pixels each run has but the last.
+/// How many pixels each run has but the last: whole groups of eight, since the lists of eight pixels are read together.
 fn run_size(pixels: u32, threads: u32) -> u32
     requires threads { (1 ≤ threads) × (threads ≤ MAX_THREADS) }
     ensures { (1 ≤ result) × (result ≤ LONGEST_RUN) }
 {
-    (pixels / (RUNS_A_THREAD * threads)).clamp(1, LONGEST_RUN)
+    let eights = pixels / (8 * RUNS_A_THREAD * threads);
+    8 * eights.clamp(1, LONGEST_RUN / 8)
 }
 
 /// How many runs of this size so many pixels make.
@@ -187,8 +188,7 @@ impl<'a, 'b> Scene<'a, 'b> {
             alloc,
             threads as usize,
             &|_worker: usize| -> Result<Vec<Run>, NoMemory>
-                requires { (length closed.now.lists ≡ region.w * region.h) × (1 ≤ size) × (size ≤ LONGEST_RUN)
-                    × AreFragmentLists (offsets_of self.now.pattern) self.now.planes region closed.now.lists }
+                requires { (length closed.now.lists ≡ region.w * region.h) × (1 ≤ size) × (size ≤ LONGEST_RUN) × AreFragmentLists (offsets_of self.now.pattern) self.now.planes region closed.now.lists }
                 ensures { IfOk result (λ runs. All (IsRun self.entry.now region closed.entry.now.lists size) runs.items) }
             { self.take_runs(alloc, closed, region, size, next) },
         )?;

@@ -19,7 +19,7 @@ fn two_workers_meet(rt: HostRuntime) -> Result<(), Fail> {
     let mut shelf = SteadyShelf::new(List::new(alloc));
     let mut out = WriteSink::new(Vec::new(alloc));
     let mut err = WriteSink::new(Vec::new(alloc));
-    let gate = MeetingGate::new(512);
+    let gate = MeetingGate::new(alloc, 2, 512)?;
     let ran = run_with(
         &rt,
         alloc,

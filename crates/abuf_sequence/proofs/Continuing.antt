@@ -7,6 +7,7 @@ use Rattle.abuf_scene.specs.declared.triangles.Triangle.{Triangle}
 use Rattle.abuf_sequence.specs.declared.fault.ImageFault.{ImageFault}
 use Rattle.abuf_sequence.specs.declared.fault.ImageFault.TheVariants as fault
 use Rattle.abuf_sequence.specs.declared.fault.SequenceFault.{SequenceFault}
+use Rattle.abuf_sequence.specs.declared.job.Drawn.{Drawn}
 use Rattle.abuf_sequence.specs.declared.path.Shot.{Shot}
 use Rattle.abuf_sequence.specs.declared.plan.Plan.{Plan}
 use Rattle.abuf_io.specs.Sinks.{Taken}
@@ -40,28 +41,28 @@ module _ (plan : Plan) (scene : List Triangle) (shots : List Shot) where
   part_length k n within = length-take n (drop k shots) ∙ omega (arith, length-drop k shots)
 
   -- Images that were drawn for such a part are as many,
-  pub drawn_count : (k n : ℕ) → k + n ≤ length shots → (drawn : List (Result (List ℕ) ImageFault)) → AreDrawn plan scene (take n (drop k shots)) drawn → length drawn ≡ n
+  pub drawn_count : (k n : ℕ) → k + n ≤ length shots → (drawn : List Drawn) → AreDrawn plan scene (take n (drop k shots)) drawn → length drawn ≡ n
   drawn_count k n within drawn are = are.count ∙ part_length k n within
 
   -- and are those of the shots from its start on.
-  pub drawn_from : (k n : ℕ) → k + n ≤ length shots → (drawn : List (Result (List ℕ) ImageFault)) → AreDrawn plan scene (take n (drop k shots)) drawn
+  pub drawn_from : (k n : ℕ) → k + n ≤ length shots → (drawn : List Drawn) → AreDrawn plan scene (take n (drop k shots)) drawn
       → AreDrawnFrom plan scene shots k drawn
   drawn_from k n within drawn are = record {
     within = omega (arith, drawn_count k n within drawn are);
     each = λ j d e below.
         let inside : j < n = omega (arith, drawn_count k n within drawn are) in
-        subst (λ (shot : Shot). IsDrawAnswer plan scene shot (AreBytes plan scene shot) (slice_index_or drawn j e))
+        subst (λ (shot : Shot). IsDrawAnswer plan scene shot (AreBytes plan scene shot) (slice_index_or drawn j e).image)
         (get_or-take n (drop k shots) j d inside ∙ get_or-drop k shots j d) (are.each j d e (omega (arith, part_length k n within)));
   }
 
-  module _ (before : ℕ) (drawn : List (Result (List ℕ) ImageFault)) (are : AreDrawnFrom plan scene shots before drawn) (j : ℕ) (below : j < length drawn)
-      (image : Result (List ℕ) ImageFault) (is : image ≡ slice_index_or drawn j image) where
+  module _ (before : ℕ) (drawn : List Drawn) (are : AreDrawnFrom plan scene shots before drawn) (j : ℕ) (below : j < length drawn)
+      (one : Drawn) (is : one ≡ slice_index_or drawn j one) where
     abbrev shot : Shot
     shot = slice_index_or shots (before + j) nowhere
 
     -- What drawing gave for its shot.
-    drew : IsDrawAnswer plan scene shot (AreBytes plan scene shot) image
-    drew = subst (IsDrawAnswer plan scene shot (AreBytes plan scene shot)) (sym is) (are.each j nowhere image below)
+    drew : IsDrawAnswer plan scene shot (AreBytes plan scene shot) one.image
+    drew = subst (λ (d : Drawn). IsDrawAnswer plan scene shot (AreBytes plan scene shot) d.image) (sym is) (are.each j nowhere one below)
 
     inside : before + j < length shots
     inside = omega (arith, are.within)
@@ -69,11 +70,11 @@ module _ (plan : Plan) (scene : List Triangle) (shots : List Shot) where
     module _ (old mid new : Option (List ℕ)) (faults_old faults_mid faults_new : ℕ) (has : HaveWritten plan scene shots (before + j) (record { old = old; new = mid; faults_old = faults_old; faults_new = faults_mid }))
         (T : Type 0) where
       -- Where it was written, one more has been.
-      pub continued : faults_mid ≤ faults_new → (done : T) → WritesDrawn (record { old = mid; new = new; faults_old = faults_mid; faults_new = faults_new }) {T = T} image (Ok done)
+      pub continued : faults_mid ≤ faults_new → (done : T) → WritesDrawn (record { old = mid; new = new; faults_old = faults_mid; faults_new = faults_new }) {T = T} one.image (Ok done)
           → HaveWritten plan scene shots (before + (j + 1)) (record { old = old; new = new; faults_old = faults_old; faults_new = faults_new })
       continued later done wrote =
           let next : before + j + 1 ≡ before + (j + 1) = omega arith in
-          let written : IsWritten plan scene shot (record { old = mid; new = new; faults_old = faults_mid; faults_new = faults_new }) = answers plan scene shot _ T image (Ok done) drew wrote in
+          let written : IsWritten plan scene shot (record { old = mid; new = new; faults_old = faults_mid; faults_new = faults_new }) = answers plan scene shot _ T one.image (Ok done) drew wrote in
           subst (λ (n : ℕ). HaveWritten plan scene shots n (record { old = old; new = new; faults_old = faults_old; faults_new = faults_new })) next (record {
             sound = one_more plan scene shots (before + j) has.sound nowhere inside written.fit;
             written = written_more plan scene shots (before + j) has.sound nowhere inside old mid new has.written written.written;
@@ -82,8 +83,8 @@ module _ (plan : Plan) (scene : List Triangle) (shots : List Shot) where
 
       -- Where it wasn't, that ends the sequence.
       pub ended : (why : ImageFault) (told : SequenceFault) (n : ℕ) → told ≡ fault_after n why → n ≡ before + j
-          → WritesDrawn (record { old = mid; new = new; faults_old = faults_mid; faults_new = faults_new }) {T = T} image (Err why)
+          → WritesDrawn (record { old = mid; new = new; faults_old = faults_mid; faults_new = faults_new }) {T = T} one.image (Err why)
           → IsSequenceAnswer plan scene shots (record { old = old; new = new; faults_old = faults_old; faults_new = faults_new }) {T = T} (Err told)
       ended why told n so count wrote =
           fails plan scene shots (before + j) has.sound nowhere inside T old mid new faults_old faults_mid faults_new has.written has.later why told n so count
-          (answers plan scene shot _ T image (Err why) drew wrote)
+          (answers plan scene shot _ T one.image (Err why) drew wrote)

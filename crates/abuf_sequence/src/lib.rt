@@ -7,6 +7,7 @@
 
 mod fault;
 mod image;
+mod job;
 mod path;
 mod plan;
 #[cfg(test)]

@@ -193,6 +193,56 @@ fn both_images_are_written(rt: HostRuntime) -> Result<(), Fail> {
     Ok(())
 }
 
+// From where the triangle lies behind the camera.
+const NOTHING: &[bool] = &[false; 16];
+
+// Writes five images: of nothing, of nothing again, from the front, of nothing, and from behind.
+fn write_five<R: Threads + Sync>(
+    rt: &R,
+    alloc: Global,
+    threads: u32,
+    out: &mut MemSink,
+) -> Result<(), SequenceFault>
+    requires { (1 ≤ threads) × (threads ≤ MAX_THREADS) }
+{
+    let Ok(scene) = scene(alloc) else {
+        return Err(SequenceFault::Memory { images: 0 });
+    };
+    let Ok(shots) = read_path(
+        alloc,
+        b"1 0 0 0 0 0 4\n1 0 0 0 0 0 4\n1 0 0 0 0 0 -4\n1 0 0 0 0 0 4\n0 0 1 0 0 0 -4\n",
+    ) else {
+        return Err(SequenceFault::Memory { images: 0 });
+    };
+    sequence(
+        rt,
+        alloc,
+        &scene,
+        shots.as_slice(),
+        &plan(1000, threads),
+        out,
+    )
+}
+
+// By one thread, the frame of an image without fragments serves for the next, and has too few nodes for the third. The third's
+// frame serves for the fourth.
+#[test]
+fn later_images_need_more_nodes_and_fewer(rt: HostRuntime) -> Result<(), Fail> {
+    let alloc = rt.alloc();
+    let mut images = Vec::new(alloc);
+    push_image(&mut images, NOTHING)?;
+    push_image(&mut images, NOTHING)?;
+    push_image(&mut images, FRONT)?;
+    push_image(&mut images, NOTHING)?;
+    push_image(&mut images, BACK)?;
+    for threads in 1..4 {
+        let mut out = MemSink::new(alloc, 1000, List::new(alloc))?;
+        assert_eq!(rt; write_five(&rt, alloc, threads, &mut out), Ok(()));
+        assert!(rt; out.taken() == images.as_slice());
+    }
+    Ok(())
+}
+
 #[test]
 fn images_before_a_full_one_are_written(rt: HostRuntime) -> Result<(), Fail> {
     let alloc = rt.alloc();

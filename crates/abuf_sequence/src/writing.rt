@@ -1,27 +1,30 @@
 // The images of a sequence, several drawn at once, and written one after another.
-ghost use Rattle.std.specs.Prelude.{◌≡◌, ◌+◌, ◌<◌, ◌≤◌, length, IfOk};
+ghost use Rattle.std.specs.Prelude.{◌≡◌, ◌+◌, ◌<◌, ◌≤◌, length, map, IfOk};
 ghost use Rattle.std.specs.List.{All};
 ghost use Rattle.abuf_num.specs.declared.limits.TheConstants.{MAX_IMAGES};
 ghost use Rattle.abuf_sequence.specs.Paths.{IsShot};
 ghost use Rattle.abuf_io.specs.Sinks.{sink_change};
 ghost use Rattle.abuf_sequence.specs.Sequences.{IsPlan, IsSequenceAnswer};
 ghost use Rattle.abuf_sequence.specs.Single.{WritesDrawn};
-ghost use Rattle.abuf_sequence.specs.Batches.{AreDrawn, Continues, MayDraw};
+ghost use Rattle.abuf_sequence.specs.Batches.{AreDrawn, Continues, MayDraw, shot_of};
 ghost use denote.Param.Send.{IsSync};
 
 use crate::fault::{ImageFault, SequenceFault};
-use crate::image::image_of;
+use crate::image::draw_image;
+use crate::job::{Drawn, Job};
 use crate::path::Shot;
 use crate::plan::Plan;
+use abuf_frame::Closed;
 use abuf_io::{Sink, write_all};
-use abuf_num::{List, NoMemory};
+use abuf_num::NoMemory;
 use abuf_scene::Scene;
 use std::alloc::Global;
-use std::thread::{Threads, map_indices};
+use std::thread::{Threads, map_vec};
 
 // What the images that are drawn at once may have together, so that the memory of a run stays below 2 GB. A frame takes 16 bytes a
-// node and 8 a pixel, twice while it is made, and an image 18 bytes a pixel: at most 1.2 GB for so many nodes and pixels. A
-// primitive takes about 130 bytes, and a triangle has at most two: at most 0.6 GB for so many triangles.
+// node and 8 a pixel, twice while it is made, and an image 18 bytes a pixel: at most 1.2 GB for so many nodes and pixels. A frame
+// that is kept from an image before is let go before the next is made, so there is never more than one for an image. A primitive
+// takes about 130 bytes, and a triangle has at most two: at most 0.6 GB for so many triangles.
 const NODES_AND_PIXELS_AT_ONCE: u32 = 33554432;
 
 const TRIANGLES_AT_ONCE: usize = 2097152;
@@ -36,38 +39,72 @@ fn images_at_once(plan: &Plan, triangles: usize) -> usize
     (plan.threads.min(frames) as usize).min(lists).max(1)
 }
 
+/// The frame that an image was drawn into. The image is let go.
+fn frame_of(drawn: Option<Drawn>) -> Option<Closed> {
+    match drawn {
+        Some(drawn) => drawn.kept,
+        None => None,
+    }
+}
+
+/// The job of a shot, with the frame of an image that was written before, if there is one.
+fn job_of(shot: Shot, written: Option<Drawn>) -> Job
+    ensures { result.shot ≡ shot }
+{
+    Job {
+        shot,
+        kept: frame_of(written),
+    }
+}
+
+/// A job for each shot, with the frame of an image that was written before, as far as there are any. The images are let go.
+fn jobs_of(alloc: Global, shots: &[Shot], written: Vec<Drawn>) -> Result<Vec<Job>, NoMemory>
+    requires { All IsShot shots.now }
+    ensures shots { IfOk result (λ jobs. map shot_of jobs.items ≡ shots.now) }
+    ensures each { IfOk result (λ jobs. All (λ job. IsShot job.shot) jobs.items) }
+{
+    let mut written = written;
+    let mut jobs = Vec::with_capacity(alloc, shots.len())?;
+    for shot in shots {
+        let job = job_of(*shot, written.pop());
+        jobs.push(job)?;
+    }
+    Ok(jobs)
+}
+
 /// The images of some shots, all drawn at once: each by a thread of its own, or by several where there are fewer images than
-/// threads.
+/// threads. They are drawn into the frames of images that were written before, where these serve.
 fn draw_batch<R: Threads + Sync>(
     rt: &R,
     alloc: Global,
     scene: &Scene,
     shots: &[Shot],
     plan: &Plan,
-) -> Result<Vec<Result<List<u8>, ImageFault>>, NoMemory>
+    written: Vec<Drawn>,
+) -> Result<Vec<Drawn>, NoMemory>
     requires shots { All IsShot shots.now }
     requires some { (1 ≤ length shots.now) × (length shots.now ≤ plan.now.threads) }
     requires plan { IsPlan plan.now }
     ensures { IfOk result (λ drawn. AreDrawn plan.now scene.now.triangles shots.now drawn.items) }
 {
     let threads = plan.threads / shots.len() as u32;
-    let drawn = map_indices(
+    let jobs = jobs_of(alloc, shots, written)?;
+    let drawn = map_vec(
         rt,
-        alloc,
-        shots.len(),
-        &|k|
-            requires { IsSync R.row × MayDraw plan.now shots.now threads k }
-        { image_of(rt, alloc, scene, shots[k], plan, threads) },
+        jobs,
+        &|job|
+            requires { IsSync R.row × MayDraw plan.now threads job.shot }
+        { draw_image(rt, alloc, scene, job, plan, threads) },
     )?;
     Ok(drawn)
 }
 
 /// Writes an image that was drawn.
-fn write_image<O: Sink>(drawn: &Result<List<u8>, ImageFault>, out: &mut O) -> Result<(), ImageFault>
-    ensures answer { WritesDrawn (sink_change O.taken O.faults out.old out.new) drawn.now result }
+fn write_image<O: Sink>(drawn: &Drawn, out: &mut O) -> Result<(), ImageFault>
+    ensures answer { WritesDrawn (sink_change O.taken O.faults out.old out.new) drawn.now.image result }
     ensures later { O.faults out.old ≤ O.faults out.new }
 {
-    match drawn {
+    match &drawn.image {
         Ok(bytes) => match write_all(out, bytes.as_slice()) {
             Ok(()) => Ok(()),
             Err(_) => Err(ImageFault::Write),
@@ -77,11 +114,7 @@ fn write_image<O: Sink>(drawn: &Result<List<u8>, ImageFault>, out: &mut O) -> Re
 }
 
 /// Writes images that were drawn, one after another, up to the first that is full. So many of their sequence are written before.
-fn write_images<O: Sink>(
-    drawn: &[Result<List<u8>, ImageFault>],
-    before: u32,
-    out: &mut O,
-) -> Result<(), SequenceFault>
+fn write_images<O: Sink>(drawn: &[Drawn], before: u32, out: &mut O) -> Result<(), SequenceFault>
     requires { before + length drawn.now ≤ MAX_IMAGES }
     ensures answer { Continues before drawn.now (sink_change O.taken O.faults out.old out.new) result }
     ensures later { O.faults out.old ≤ O.faults out.new }
@@ -97,7 +130,8 @@ fn write_images<O: Sink>(
 }
 
 /// Draws the image of each shot, and writes it to `out` by one call, in order. As many images are drawn at once as there are threads,
-/// as far as memory goes; when they are written, what they used is let go before the next are begun.
+/// as far as memory goes; when they are written, what they used is let go before the next are begun, all but their frames, into which
+/// the next are drawn.
 ///
 /// An image with more fragments than there are nodes ends the sequence, and so does a sink that fails, and memory that runs out;
 /// see [`SequenceFault`]. Without shots nothing is written.
@@ -116,10 +150,14 @@ pub fn sequence<R: Threads + Sync, O: Sink>(
 {
     let at_once = images_at_once(plan, scene.triangles.as_slice().len());
     let mut images = 0;
+    let mut written = Vec::new(alloc);
     while images < shots.len() {
         let end = shots.len().min(images + at_once);
-        match draw_batch(rt, alloc, scene, &shots[images..end], plan) {
-            Ok(drawn) => write_images(&drawn, images as u32, out)?,
+        match draw_batch(rt, alloc, scene, &shots[images..end], plan, written) {
+            Ok(drawn) => {
+                write_images(&drawn, images as u32, out)?;
+                written = drawn;
+            }
             Err(fault) => return Err(ImageFault::from(fault).after(images as u32)),
         }
         images = end;

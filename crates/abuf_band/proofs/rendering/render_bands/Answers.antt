@@ -8,7 +8,7 @@ use Rattle.abuf_raster.specs.Samples.{offsets_of}
 use Rattle.abuf_raster.specs.Triangle.{Triangle}
 use Rattle.abuf_resolve.specs.Sums.{IsSmall, region_sums}
 use Rattle.abuf_picture.specs.Picture.{total}
-use Rattle.abuf_picture.proofs.Above.{above, above_all, sums_next}
+use Rattle.abuf_band.proofs.Above.{above, above_all, sums_next}
 use Rattle.abuf_band.specs.Answers.{Banded, IsAnswer}
 use Rattle.abuf_band.specs.Bands.{band_region, band_total}
 use Rattle.abuf_band.proofs.Fullness.{none_full}

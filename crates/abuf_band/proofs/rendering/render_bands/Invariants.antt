@@ -3,7 +3,7 @@ use Rattle.std.specs.List.{All}
 use Rattle.abuf_raster.specs.Region.{whole_image}
 use Rattle.abuf_raster.specs.Samples.{offsets_of}
 use Rattle.abuf_resolve.specs.Sums.{IsSmall, region_sums}
-use Rattle.abuf_picture.proofs.Above.{above}
+use Rattle.abuf_band.proofs.Above.{above}
 use Rattle.abuf_band.specs.Bands.{band_total}
 use Rattle.abuf_band.proofs.rendering.render_bands.Given as goal
 

@@ -1,5 +1,5 @@
-use Rattle.std.proofs.Common.{arith, ◌+◌, ◌*◌, ◌<◌, ◌≤◌, ◌∙◌, [], ◌∷◌, ◌++◌, length, take, drop, refl, sym, ap, subst, append-nil, All}
-use Rattle.std.proofs.lemmas.List.{length-drop, length-take}
+use Rattle.std.proofs.Common.{arith, ◌+◌, ◌*◌, ◌<◌, ◌≤◌, ◌∙◌, [], ◌∷◌, ◌++◌, length, take, drop, refl, sym, ap, subst, append-nil, All, ℕ, List}
+use Rattle.std.proofs.lemmas.List.Elements.{All-take, All-drop}
 use Rattle.abuf_raster.specs.Samples.{offsets_of}
 use Rattle.abuf_frame.specs.Draws.{Draws}
 use Rattle.abuf_frame.proofs.Draws.{draws_none}
@@ -18,38 +18,38 @@ loop-part-init g c = record {
   spent = omega arith;
   above = λ m u. omega arith;
   low = omega arith;
-  turns = let t = c.requires.can.numbers in let f = c.args.work.now.few in omega arith;
-  room = let t = c.requires.can.fragments in omega arith;
+  turns = let t = c.requires.can.numbers in let f = c.args.work.now.few in let n = c.args.work.now.each.all in omega arith;
+  room = let t = c.requires.can.fragments in let n = ap (λ (k : ℕ). k * (c.args.work.now.region.w * c.args.work.now.region.h)) c.args.work.now.each.all in omega arith;
   drawn = draws_none c.args.pass.now.view;
 }
 
-pub draw_part-requires-clause-count : goal.draw_part-requires-clause-count
-draw_part-requires-clause-count g c = let t = c.in-Some.ensures.number.3 in let p = c.args.work.now.parts in let f = c.args.work.now.few in
-    let e = ap length c.part_of-tris.ensures in let l = length-take 64 (drop (64 * c.in-Some.part) c.args.work.now.tris.now) in let d = length-drop (64 * c.in-Some.part) c.args.work.now.tris.now in let a = t.0 in let b = t.1 in omega arith
+pub draw_part-requires-clause-numbers : goal.draw_part-requires-clause-numbers
+draw_part-requires-clause-numbers g c = let P : ℕ → Type 0 = λ n. n < length c.args.work.now.tris.now in let order : List ℕ = c.args.work.now.order.now in
+    subst (All P) (sym c.part_of-numbers.ensures) (All-take P 64 (drop (64 * c.in-Some.part) order) (All-drop P (64 * c.in-Some.part) order c.args.work.now.each.small))
 
 pub draw_part-requires-clause-credit : goal.draw_part-requires-clause-credit
 draw_part-requires-clause-credit g c = let i = c.loop-part.invariant in let t = c.in-Some.ensures.number in let above = i.above t.0 t.2 in let a = t.3.0 in
-    rw c.part_of-tris.ensures (part_room c.args.work.now.tris.now c.loop-part.next c.in-Some.part (c.args.work.now.region.w * c.args.work.now.region.h) c.loop-part.pass.view.credit (omega arith) i.room)
+    rw c.part_of-numbers.ensures (part_room c.args.work.now.order.now c.loop-part.next c.in-Some.part (c.args.work.now.region.w * c.args.work.now.region.h) c.loop-part.pass.view.credit (omega arith) i.room)
 
 pub loop-part-smaller : goal.loop-part-smaller
 loop-part-smaller g c = let i = c.loop-part.invariant in let t = c.in-Some.ensures.number in let above = i.above t.0 t.2 in let a = t.3.0 in let b = t.3.1 in let p = c.args.work.now.parts in omega arith
 
 pub loop-part-preserved : goal.loop-part-preserved
 loop-part-preserved g c = let i = c.loop-part.invariant in let t = c.in-Some.ensures.number in let above = i.above t.0 t.2 in let a = t.3.0 in let b = t.3.1 in let p = c.args.work.now.parts in
-    let ts = c.args.work.now.tris.now in let os = offsets_of c.args.work.now.pattern in let r = c.args.work.now.region in
+    let ts = c.args.work.now.tris.now in let order = c.args.work.now.order.now in let os = offsets_of c.args.work.now.pattern in let r = c.args.work.now.region in
     let low = i.low in let turns = i.turns in let some : 1 ≤ c.loop-part.turn.hand.credit = omega arith in let credit = ap (λ (h : Hand). h.credit) t.1 in
-    let part : Draws (part_fragments ts os r c.in-Some.part) c.loop-part.pass.view c.draw_part.new.pass.view = rw c.part_of-tris.ensures at c.draw_part.ensures.draws in
-    let few : c.loop-part.pass.view.credit ≤ c.draw_part.new.pass.view.credit + length (take 64 (drop (64 * c.in-Some.part) ts)) * (r.w * r.h) = rw c.part_of-tris.ensures at c.draw_part.ensures.few in record {
+    let part : Draws (part_fragments ts os r order c.in-Some.part) c.loop-part.pass.view c.draw_part.new.pass.view = rw c.part_of-numbers.ensures at c.draw_part.ensures.draws in
+    let few : c.loop-part.pass.view.credit ≤ c.draw_part.new.pass.view.credit + length (take 64 (drop (64 * c.in-Some.part) order)) * (r.w * r.h) = rw c.part_of-numbers.ensures at c.draw_part.ensures.few in record {
       same = c.draw_part.ensures.frame ∙ i.same;
       seat = c.take.ensures.table ∙ i.seat;
       numbers = i.numbers ++ t.0 ∷ [];
-      drawn_are = drawn_next ts os r c.args.turn.now.hand c.loop-part.turn.hand c.take.new.turn.hand i.numbers t.0 i.drawn_are i.spent some t.1;
-      spent = spent_next ts os r c.args.turn.now.hand c.loop-part.turn.hand c.take.new.turn.hand i.numbers t.0 i.drawn_are i.spent some t.1;
+      drawn_are = drawn_next ts os r order c.args.turn.now.hand c.loop-part.turn.hand c.take.new.turn.hand i.numbers t.0 i.drawn_are i.spent some t.1;
+      spent = spent_next ts os r order c.args.turn.now.hand c.loop-part.turn.hand c.take.new.turn.hand i.numbers t.0 i.drawn_are i.spent some t.1;
       above = λ m u. let l = under_last m t.0 c.loop-part.turn.hand.drawn (subst (All (λ n. n < m)) (ap (λ (h : Hand). h.drawn) t.1) u) in omega arith;
       low = omega arith;
       turns = omega arith;
-      room = rest_room ts c.loop-part.next c.in-Some.part (r.w * r.h) c.loop-part.pass.view.credit c.draw_part.new.pass.view.credit (omega arith) i.room few;
-      drawn = draws_more ts os r i.numbers t.0 c.in-Some.part c.args.pass.now.view c.loop-part.pass.view c.draw_part.new.pass.view a i.drawn part;
+      room = rest_room order c.loop-part.next c.in-Some.part (r.w * r.h) c.loop-part.pass.view.credit c.draw_part.new.pass.view.credit (omega arith) i.room few;
+      drawn = draws_more ts os r order i.numbers t.0 c.in-Some.part c.args.pass.now.view c.loop-part.pass.view c.draw_part.new.pass.view a i.drawn part;
     }
 
 pub returns-then-next-eq0-2 : goal.returns-then-next-eq0-2
@@ -58,7 +58,7 @@ returns-then-next-eq0-2 g c = record {
     same_frame = c.loop-part.invariant.same;
     same_desk = c.take.ensures.table ∙ c.loop-part.invariant.seat;
     served = let i = c.loop-part.invariant in let t = c.in_default.ensures.number in let b = t.3 in let p = c.args.work.now.parts in let low = i.low in let turns = i.turns in
-        served_ends c.args.work.now.tris.now (offsets_of c.args.work.now.pattern) c.args.work.now.region c.args.turn.now.hand c.loop-part.turn.hand c.take.new.turn.hand i.numbers t.0 i.drawn_are i.spent (omega arith) t.1 c.args.pass.now.view c.loop-part.pass.view (omega arith) c.take.ensures.each_once i.drawn;
+        served_ends c.args.work.now.tris.now (offsets_of c.args.work.now.pattern) c.args.work.now.region c.args.work.now.order.now c.args.turn.now.hand c.loop-part.turn.hand c.take.new.turn.hand i.numbers t.0 i.drawn_are i.spent (omega arith) t.1 c.args.pass.now.view c.loop-part.pass.view (omega arith) c.take.ensures.each_once i.drawn;
   };
 }
 
@@ -68,6 +68,6 @@ returns-else-next-eq0-2 g c = record {
     same_frame = c.loop-part.invariant.same;
     same_desk = c.take.ensures.table ∙ c.loop-part.invariant.seat;
     served = let i = c.loop-part.invariant in let t = c.in_default.ensures.number in let b = t.3 in let p = c.args.work.now.parts in let low = i.low in let turns = i.turns in
-        served_ends c.args.work.now.tris.now (offsets_of c.args.work.now.pattern) c.args.work.now.region c.args.turn.now.hand c.loop-part.turn.hand c.take.new.turn.hand i.numbers t.0 i.drawn_are i.spent (omega arith) t.1 c.args.pass.now.view c.loop-part.pass.view (omega arith) c.take.ensures.each_once i.drawn;
+        served_ends c.args.work.now.tris.now (offsets_of c.args.work.now.pattern) c.args.work.now.region c.args.work.now.order.now c.args.turn.now.hand c.loop-part.turn.hand c.take.new.turn.hand i.numbers t.0 i.drawn_are i.spent (omega arith) t.1 c.args.pass.now.view c.loop-part.pass.view (omega arith) c.take.ensures.each_once i.drawn;
   };
 }

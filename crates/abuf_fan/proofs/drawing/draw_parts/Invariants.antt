@@ -13,11 +13,11 @@ invariant-loop-part g l = record {
   drawn_are : l.turn.hand.drawn ≡ l.fn.turn.hand.drawn ++ numbers;
   spent : l.turn.hand.credit + length numbers ≡ l.fn.turn.hand.credit;
   above : (m : ℕ) → All (λ n. n < m) l.turn.hand.drawn → l.next ≤ m;
-  low : l.next ≤ parts_of (length l.work.tris.now);
-  turns : parts_of (length l.work.tris.now) + 1 ≤ l.turn.hand.credit + l.next;
-  room : length (drop (64 * l.next) l.work.tris.now) * (l.work.region.w * l.work.region.h) ≤ l.pass.view.credit;
-  drawn : Draws (flat_map (part_fragments l.work.tris.now (offsets_of l.work.pattern) l.work.region) numbers) l.fn.pass.view l.pass.view;
+  low : l.next ≤ parts_of (length l.work.order.now);
+  turns : parts_of (length l.work.order.now) + 1 ≤ l.turn.hand.credit + l.next;
+  room : length (drop (64 * l.next) l.work.order.now) * (l.work.region.w * l.work.region.h) ≤ l.pass.view.credit;
+  drawn : Draws (flat_map (part_fragments l.work.tris.now (offsets_of l.work.pattern) l.work.region l.work.order.now) numbers) l.fn.pass.view l.pass.view;
 }
 
 abbrev pub decreases-loop-part : goal.decreases-loop-part
-decreases-loop-part g l = parts_of (length l.work.tris.now) - l.next
+decreases-loop-part g l = parts_of (length l.work.order.now) - l.next

@@ -1,36 +1,66 @@
-use Rattle.std.proofs.Common.{arith, ℕ, ◌+◌, ◌*◌, ◌≤◌, ◌∙◌, List, ◌++◌, length, drop, append_assoc, sym, subst}
-use Rattle.abuf_raster.specs.declared.pattern.Pattern.{Pattern}
-use Rattle.abuf_raster.specs.Region.{Region}
-use Rattle.abuf_raster.specs.Triangle.{Triangle}
-use Rattle.abuf_frame.specs.Draws.{Draws}
+use Rattle.std.proofs.Common.{arith, ◌+◌, ◌*◌, ◌≡◌, ◌≤◌, ◌∙◌, ℕ, suc, List, [], ◌∷◌, ◌++◌, length, take, drop, refl, sym, subst, ap, append-nil, slice_index_or}
+use Rattle.std.specs.List.{flat_map}
+use Rattle.std.proofs.lemmas.List.{length-drop, take_all, take_more}
+use Rattle.std.proofs.lemmas.Grind.{flat_map-append}
 use Rattle.abuf_raster.specs.Samples.{offsets_of}
-use Rattle.abuf_raster.specs.Hits.{fragments}
-use Rattle.abuf_frame.proofs.Draws.{draws_then}
-use Rattle.abuf_raster.specs.Hits.{all_fragments}
-use Rattle.abuf_fan.proofs.Parts.{next_of, one_more, one_less, still_few}
+use Rattle.abuf_frame.specs.Draws.{Draws}
+use Rattle.abuf_frame.proofs.Draws.{draws_credit}
+use Rattle.abuf_draw.specs.Waiting.{Passes}
+use Rattle.abuf_draw.proofs.Drawing.{passes_none, passes_then, passes_end}
+use Rattle.abuf_fan.specs.Parts.{fragments_of}
+use Rattle.abuf_fan.proofs.Parts.{one_more_waits, still_room, still_few}
 use Rattle.abuf_fan.proofs.part.draw_part.Goals as goal
+use Rattle.abuf_fan.proofs.part.draw_part.Goals.{After-flush}
 
-pub draw-requires-clause-credit : goal.draw-requires-clause-credit
-draw-requires-clause-credit c = let n = next_of c.args.tris.now c.loop-t.t-index c.t-item.result c.loop-t-test.true c.t-item.is in
-    subst (λ (r : Region). r.w * r.h ≤ c.loop-t.pass.view.credit) (sym c.loop-t.invariant.brush.0)
-    (one_more (length (drop (c.loop-t.t-index + 1) c.args.tris.now)) (c.args.region.w * c.args.region.h) c.loop-t.pass.view.credit (rw n at c.loop-t.invariant.room))
-
-pub draw-requires-clause-pixels : goal.draw-requires-clause-pixels
-draw-requires-clause-pixels c = subst (λ (r : Region). r.w * r.h ≤ c.args.frame.now.pixels) (sym c.loop-t.invariant.brush.0) c.requires.pixels
-
-pub loop-t-preserved : goal.loop-t-preserved
-loop-t-preserved c = let i = c.loop-t.invariant in let rest : List Triangle = drop (c.loop-t.t-index + 1) c.args.tris.now in let os = offsets_of c.args.pattern in
-    let n = next_of c.args.tris.now c.loop-t.t-index c.t-item.result c.loop-t-test.true c.t-item.is in let items : List (ℕ × ℕ) = fragments c.t-item.result c.loop-t.prim os c.args.region in
-    let few = subst (λ (r : Region). c.loop-t.pass.view.credit ≤ c.draw.new.pass.view.credit + r.w * r.h) i.brush.0 c.draw.ensures.few in
-    let draws = subst (λ (p : Pattern). Draws (fragments c.t-item.result c.loop-t.prim (offsets_of p) c.args.region) c.loop-t.pass.view c.draw.new.pass.view) i.brush.1
-    (subst (λ (r : Region). Draws (fragments c.t-item.result c.loop-t.prim (offsets_of c.loop-t.brush.pattern) r) c.loop-t.pass.view c.draw.new.pass.view) i.brush.0 c.draw.ensures.draws) in
+pub loop-number-init : goal.loop-number-init
+loop-number-init c =
+    let none = c.new-brush.ensures.none in
+    let count : length c.new-brush.result.batch ≡ 0 = ap (λ (l : List (ℕ × ℕ)). length l) none in
     record {
-      brush = (c.draw.ensures.brush.0 ∙ i.brush.0, c.draw.ensures.brush.1 ∙ i.brush.1);
-      same = c.draw.ensures.frame ∙ i.same;
-      number = omega (arith, i.number);
-      room = one_less (length rest) (c.args.region.w * c.args.region.h) c.loop-t.pass.view.credit c.draw.new.pass.view.credit (rw n at i.room) few;
-      few = still_few (length rest) (c.args.region.w * c.args.region.h) c.args.pass.now.view.credit c.loop-t.pass.view.credit c.draw.new.pass.view.credit (length c.args.tris.now * (c.args.region.w * c.args.region.h)) (rw n at i.few) few;
-      out = i.out ++ items;
-      drawn = draws_then i.out items _ _ _ i.drawn draws;
-      left = append_assoc i.out items (all_fragments rest (c.loop-t.prim + 1) os c.args.region) ∙ (rw n at i.left);
+      brush = c.new-brush.ensures.brush;
+      same = refl;
+      room = omega (arith, count, c.requires.credit);
+      few = omega (arith, count);
+      passes = subst (λ (l : List (ℕ × ℕ)). Passes [] [] l c.args.pass.now.view c.args.pass.now.view) (sym none) (passes_none [] c.args.pass.now.view);
     }
+
+pub draw_one-requires-clause-credit : goal.draw_one-requires-clause-credit
+draw_one-requires-clause-credit c =
+    let numbers = c.args.numbers.now in let at = c.loop-number.number-index in let inside = c.loop-number-test.true in
+    let left = length-drop at numbers in let later = length-drop (at + 1) numbers in
+    let one : length (drop at numbers) ≡ suc (length (drop (at + 1) numbers)) = omega arith in
+    one_more_waits (length c.loop-number.brush.batch) (length (drop (at + 1) numbers)) (c.args.work.now.region.w * c.args.work.now.region.h) c.loop-number.pass.view.credit (rw one at c.loop-number.invariant.room)
+
+pub loop-number-preserved : goal.loop-number-preserved
+loop-number-preserved c =
+    let i = c.loop-number.invariant in
+    let numbers = c.args.numbers.now in let at = c.loop-number.number-index in let r = c.args.work.now.region in
+    let f : ℕ → List (ℕ × ℕ) = fragments_of c.args.work.now.tris.now (offsets_of c.args.work.now.pattern) r in
+    let inside = c.loop-number-test.true in
+    let n : ℕ = slice_index_or numbers at 0 in
+    let left = length-drop at numbers in let later = length-drop (at + 1) numbers in
+    let one : length (drop at numbers) ≡ suc (length (drop (at + 1) numbers)) = omega arith in
+    let more : flat_map f (take (at + 1) numbers) ≡ flat_map f (take at numbers) ++ f n =
+    ap (flat_map f) (take_more numbers at 0 inside) ∙ (flat_map-append f (take at numbers) (n ∷ []) ∙ ap (λ (l : List (ℕ × ℕ)). flat_map f (take at numbers) ++ l) (append-nil (f n))) in
+    let area : ℕ = r.w * r.h in let rest = length (drop (at + 1) numbers) in
+    let old = length c.loop-number.brush.batch in let new = length c.draw_one.new.brush.batch in
+    record {
+      brush = c.draw_one.ensures.brush;
+      same = c.draw_one.ensures.frame ∙ i.same;
+      room = still_room old new rest area c.loop-number.pass.view.credit c.draw_one.new.pass.view.credit (rw one at i.room) c.draw_one.ensures.few;
+      few = still_few old new rest area c.args.pass.now.view.credit c.loop-number.pass.view.credit c.draw_one.new.pass.view.credit (length numbers * area) (rw one at i.few) c.draw_one.ensures.few;
+      passes = subst (λ (l : List (ℕ × ℕ)). Passes [] l c.draw_one.new.brush.batch c.args.pass.now.view c.draw_one.new.pass.view) (sym more) (passes_then [] (flat_map f (take at numbers)) c.loop-number.brush.batch (f n) c.draw_one.new.brush.batch _ _ _ i.passes c.draw_one.ensures.passes);
+    }
+
+all_drawn : (c : After-flush) → Draws (flat_map (fragments_of c.args.work.now.tris.now (offsets_of c.args.work.now.pattern) c.args.work.now.region) c.args.numbers.now) c.args.pass.now.view c.flush.new.pass.view
+all_drawn c =
+    let f : ℕ → List (ℕ × ℕ) = fragments_of c.args.work.now.tris.now (offsets_of c.args.work.now.pattern) c.args.work.now.region in
+    let all = ap (flat_map f) (take_all c.loop-number.number-index c.args.numbers.now (omega arith)) in
+    subst (λ (l : List (ℕ × ℕ)). Draws l c.args.pass.now.view c.flush.new.pass.view) all
+    (passes_end (flat_map f (take c.loop-number.number-index c.args.numbers.now)) c.loop-number.brush.batch _ _ _ c.loop-number.invariant.passes c.flush.ensures.draws)
+
+pub returns-clause-draws : goal.returns-clause-draws
+returns-clause-draws c = all_drawn c
+
+pub returns-clause-few : goal.returns-clause-few
+returns-clause-few c = let i = c.loop-number.invariant in let d = draws_credit _ _ _ c.flush.ensures.draws in omega (arith, i.few, d)

@@ -1,6 +1,6 @@
-use Rattle.std.proofs.Common.{[]}
-use Rattle.abuf_frame.proofs.Eight.{HaveLists}
+use Rattle.std.proofs.Common.{vec_items}
+use Rattle.abuf_frame.proofs.Eight.{Emptied}
 use Rattle.abuf_frame.proofs.lanes.clear_all.Given as goal
 
 abbrev pub invariant-loop-k : goal.invariant-loop-k
-invariant-loop-k l = HaveLists (λ _. []) l.lists l.k
+invariant-loop-k l = Emptied vec_items l.lists l.k

@@ -6,17 +6,18 @@ use Rattle.abuf_sequence.proofs.image.sums_of.Goals as goal
 pub returns : goal.returns
 returns g c =
     let plan = c.args.plan.now in
+    let pool = c.target_of-pool.ensures in
     let t = c.target_of-target.ensures in
     let k = c.camera_of-camera in
     let shown = c.in_ok-shown in
     let p = c.of-primitives in
-    let frame = rw (t.pattern, t.region, t.nodes) at c.in_ok-closed.ensures in
-    let all : total_of plan c.args.scene.now.triangles c.args.shot ≡ c.in_ok-closed.closed.fragments =
-    sym (frame.count ∙ count plan c.args.scene.now.triangles c.args.shot k.result k.ensures p.result.triangles.now shown.shown.tris p.ensures.triangles shown.ensures.tris) in
+    let drawn = rw (pool.pattern, pool.region, pool.nodes) at c.in_ok-closed.ensures in
+    let all : total_of plan c.args.scene.now.triangles c.args.job.shot ≡ c.in_ok-closed.closed.fragments =
+    sym (drawn.frame.count ∙ count plan c.args.scene.now.triangles c.args.job.shot k.result k.ensures p.result.triangles.now shown.shown.tris p.ensures.triangles shown.ensures.tris) in
     record {
-      fit = omega (arith, all, frame.nodes_are, c.in_default.ensures.none);
+      fit = omega (arith, all, drawn.pool.few, c.in_default.ensures.none);
       are = rw (t.pattern, t.region, t.background) at c.in_ok-resolved.ensures.sums
-          ∙ sums_are plan c.args.scene.now.triangles c.args.shot k.result k.ensures p.result.triangles.now shown.shown.tris p.ensures.triangles shown.ensures.tris
+          ∙ sums_are plan c.args.scene.now.triangles c.args.job.shot k.result k.ensures p.result.triangles.now shown.shown.tris p.ensures.triangles shown.ensures.tris
           p.result.paints.now shown.shown.paints p.ensures.paints shown.ensures.paints;
       small = rw t.pattern at c.in_ok-resolved.ensures.small;
     }

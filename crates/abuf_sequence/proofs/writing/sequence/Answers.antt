@@ -1,6 +1,6 @@
-use Rattle.std.proofs.Common.{ℕ, ◌≡◌, ◌+◌, ◌-◌, ◌≤◌, List, length, Result, subst, ap, ◌∙◌, arith}
+use Rattle.std.proofs.Common.{ℕ, ◌≡◌, ◌+◌, ◌-◌, ◌≤◌, List, length, subst, ap, ◌∙◌, arith}
 use Rattle.std.proofs.lemmas.Result.{err_from_is_err_and}
-use Rattle.abuf_sequence.specs.declared.fault.ImageFault.{ImageFault}
+use Rattle.abuf_sequence.specs.declared.job.Drawn.{Drawn}
 use Rattle.abuf_sequence.specs.Batches.{AreDrawnFrom, HaveWritten}
 use Rattle.abuf_sequence.proofs.Continuing.{drawn_count, drawn_from}
 use Rattle.abuf_sequence.proofs.writing.sequence.Goals as goal
@@ -27,7 +27,7 @@ loop-images-preserved g c =
     let within : k + n ≤ length shots = omega (arith, c.min-end.ensures, c.loop-images-test.true) in
     let are : AreDrawnFrom plan triangles shots k c.in-Ok.drawn.items = drawn_from plan triangles shots k n within c.in-Ok.drawn.items c.in-Ok.ensures in
     let drawn = c.deref.result.now in
-    let count : length drawn ≡ n = ap (λ (ds : List (Result (List ℕ) ImageFault)). length ds) c.deref.ensures.value ∙ drawn_count plan triangles shots k n within c.in-Ok.drawn.items c.in-Ok.ensures in
+    let count : length drawn ≡ n = ap (λ (ds : List Drawn). length ds) c.deref.ensures.value ∙ drawn_count plan triangles shots k n within c.in-Ok.drawn.items c.in-Ok.ensures in
     let all : k + length drawn ≡ c.min-end.result = omega (arith, count, c.min-end.ensures, c.loop-images-test.true) in
     record {
       within = omega (arith, c.min-end.ensures);

@@ -1,4 +1,4 @@
-use Rattle.std.proofs.Common.{◌≡◌, length, map, All}
+use Rattle.std.proofs.Common.{◌≡◌, ◌++◌, length, map, All}
 use Rattle.abuf_raster.specs.Samples.{offsets_of}
 use Rattle.abuf_raster.specs.Hits.{IsHitIn, fragments, placed}
 use Rattle.abuf_draw.proofs.Drawing.{Midway}
@@ -9,7 +9,7 @@ invariant-loop-count l = record {
   same : l.pass.frame ≡ l.fn.pass.frame;
   brush : (l.self.region ≡ l.fn.self.region) × (l.self.pattern ≡ l.fn.self.pattern);
   within : All (IsHitIn l.fn.self.region) l.tiles;
-  midway : Midway (fragments l.t l.prim (offsets_of l.fn.self.pattern) l.fn.self.region) (map (placed l.fn.self.region) l.tiles) l.fn.pass.view l.pass.view;
+  midway : Midway (l.fn.self.batch ++ fragments l.t l.prim (offsets_of l.fn.self.pattern) l.fn.self.region) (l.self.batch ++ map (placed l.fn.self.region) l.tiles) l.fn.pass.view l.pass.view;
 }
 
 abbrev pub decreases-loop-count : goal.decreases-loop-count

@@ -12,48 +12,37 @@ use Rattle.abuf_frame.specs.Pass.{AllInRange}
 use Rattle.abuf_frame.specs.Views.{IsSettled, IsWhole, lost}
 use Rattle.abuf_frame.proofs.Closes.{Good, closes, lists_length}
 use Rattle.abuf_frame.proofs.frame.Frame.close.Goals as goal
-use Rattle.abuf_frame.proofs.frame.Frame.close.Goals.{After-new-words}
 
 -- what the words of the closed table are good for
-good : (c : goal.After-new-words) → Good (record { pixels = c.self.inside.pixels; nodes = c.self.inside.nodes }) c.pass.inside.seat.me.0 c.new-words.result
+good : (c : goal.After-new) → Good (record { pixels = c.self.inside.pixels; nodes = c.self.inside.nodes }) c.pass.inside.seat.me.0 c.new.result
 good c = let k : Size = record { pixels = c.self.inside.pixels; nodes = c.self.inside.nodes } in let id = c.pass.inside.seat.id in let v = c.pass.inside.seat.me.0 in
     let whole : IsWhole v = search rules in let settled : IsSettled v = search rules in let sound : AllInRange c.self.inside.pixels c.self.inside.nodes v.entries = search rules in
     let table = c.close_with.result in let words : List ℕ = slots_items table.words in let slots : List (Unit {0}) = slots_items table.slots in
     let final = subst (λ (z : Size). Final (Seen (Lawful z) id v) words slots) c.self.invariant.key_is c.close_with.ensures.values.2 in
-    subst (Good k v) (sym c.new-words.ensures) (closes k id v whole settled c.self.invariant.sized sound words slots final)
-
-pub new-requires : goal.new-requires
-new-requires c = (good c).0
-
--- there is a list for each pixel
-count : (c : goal.After-new) → length c.new.result ≡ c.self.inside.pixels
-count c = ap (λ (ls : List (List ℕ)). length ls) c.new.ensures ∙ lists_length c.new-words.result c.self.inside.pixels c.self.inside.nodes 0 c.self.inside.pixels
+    subst (Good k v) (sym c.new.ensures) (closes k id v whole settled c.self.invariant.sized sound words slots final)
 
 pub invariant_of-result : goal.invariant_of-result
-invariant_of-result c = (count c, c.self.invariant.sized)
+invariant_of-result c = ((good c).0, c.self.invariant.sized)
 
 pub returns-clause-sizes : goal.returns-clause-sizes
-returns-clause-sizes c = let n = ap (λ h. h.pixels) c.self.view_is in (search rules, search rules, count c ∙ n)
+returns-clause-sizes c = let n = ap (λ h. h.pixels) c.self.view_is in
+    (search rules, search rules, lists_length c.new.result c.self.inside.pixels c.self.inside.nodes 0 c.self.inside.pixels ∙ n)
 
 pub returns-clause-lists : goal.returns-clause-lists
-returns-clause-lists c = let d = (goal.at.returns-clause-lists c).After-new-words in let e = ap (λ h. h.view.entries) c.pass.view_is in let n = ap (λ h. h.pixels) c.self.view_is in
-    λ p on. subst (λ (ls : List (List ℕ)). IsPermutation (slice_index_or ls p []) (payloads_at p (pairs c.args.pass.view.entries))) (sym c.new.ensures)
-    (subst (λ (es : List Entry). IsPermutation (slice_index_or (lists_from c.new-words.result c.self.inside.pixels c.self.inside.nodes 0 c.self.inside.pixels) p []) (payloads_at p (pairs es))) e ((good d).1 p (omega arith)))
+returns-clause-lists c = let e = ap (λ h. h.view.entries) c.pass.view_is in let n = ap (λ h. h.pixels) c.self.view_is in
+    λ p on. subst (λ (es : List Entry). IsPermutation (slice_index_or (lists_from c.new.result c.self.inside.pixels c.self.inside.nodes 0 c.self.inside.pixels) p []) (payloads_at p (pairs es))) e ((good c).1 p (omega arith))
 
 pub returns-clause-kept : goal.returns-clause-kept
-returns-clause-kept c = let d = (goal.at.returns-clause-kept c).After-new-words in let e = ap (λ h. h.view.entries) c.pass.view_is in let n = ap (λ h. h.nodes) c.self.view_is in
-    λ few. subst (λ (es : List Entry). lost es ≡ 0) e ((good d).2 (let l = ap (λ (es : List Entry). length es) e in omega arith))
+returns-clause-kept c = let e = ap (λ h. h.view.entries) c.pass.view_is in let n = ap (λ h. h.nodes) c.self.view_is in
+    λ few. subst (λ (es : List Entry). lost es ≡ 0) e ((good c).2 (let l = ap (λ (es : List Entry). length es) e in omega arith))
 
 pub returns-clause-walks : goal.returns-clause-walks
-returns-clause-walks c = let d = (goal.at.returns-clause-walks c).After-new-words in let e = ap (λ h. h.view.walks) c.pass.view_is in
-    subst (λ (ls : List (List ℕ)). AllSeen ls c.args.pass.view.walks) (sym c.new.ensures)
-    (subst (λ (walks : List Walk). AllSeen (lists_from c.new-words.result c.self.inside.pixels c.self.inside.nodes 0 c.self.inside.pixels) walks) e (good d).3)
+returns-clause-walks c = let e = ap (λ h. h.view.walks) c.pass.view_is in subst (λ (walks : List Walk). AllSeen (lists_from c.new.result c.self.inside.pixels c.self.inside.nodes 0 c.self.inside.pixels) walks) e (good c).3
 
 pub returns-clause-chains : goal.returns-clause-chains
-returns-clause-chains c = let d = (goal.at.returns-clause-chains c).After-new-words in let e = ap (λ h. h.view.entries) c.pass.view_is in let n = ap (λ h. h.pixels) c.self.view_is in
-    λ p on. subst (λ (ls : List (List ℕ)). IsListAt p c.args.pass.view.entries (slice_index_or ls p [])) (sym c.new.ensures)
-    (subst (λ (es : List Entry). IsListAt p es (slice_index_or (lists_from c.new-words.result c.self.inside.pixels c.self.inside.nodes 0 c.self.inside.pixels) p [])) e ((good d).4 p (omega arith)))
+returns-clause-chains c = let e = ap (λ h. h.view.entries) c.pass.view_is in let n = ap (λ h. h.pixels) c.self.view_is in
+    λ p on. subst (λ (es : List Entry). IsListAt p es (slice_index_or (lists_from c.new.result c.self.inside.pixels c.self.inside.nodes 0 c.self.inside.pixels) p [])) e ((good c).4 p (omega arith))
 
 pub returns-clause-only : goal.returns-clause-only
-returns-clause-only c = let d = (goal.at.returns-clause-only c).After-new-words in let e = ap (λ h. h.view.entries) c.pass.view_is in let n = ap (λ h. h.pixels) c.self.view_is in
-    λ p on l is. subst (λ (ls : List (List ℕ)). l ≡ slice_index_or ls p []) (sym c.new.ensures) ((good d).5 p (omega arith) l (subst (λ (es : List Entry). IsListAt p es l) (sym e) is))
+returns-clause-only c = let e = ap (λ h. h.view.entries) c.pass.view_is in let n = ap (λ h. h.pixels) c.self.view_is in
+    λ p on l is. (good c).5 p (omega arith) l (subst (λ (es : List Entry). IsListAt p es l) (sym e) is)

@@ -1,9 +1,0 @@
-use Rattle.std.proofs.Common.{◌≡◌, ◌<◌, ◌*◌, take, map, All}
-use Rattle.abuf_raster.specs.Hits.{placed}
-use Rattle.abuf_draw.proofs.batch.Batch.fill.Given as goal
-
-abbrev pub invariant-loop-hit : goal.invariant-loop-hit
-invariant-loop-hit l = record {
-  items : l.self ≡ map (placed l.region) (take l.hit-index l.hits);
-  places : All (λ x. x.0 < l.region.w * l.region.h) l.self;
-}

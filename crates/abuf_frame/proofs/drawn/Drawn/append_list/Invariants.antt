@@ -1,8 +1,0 @@
-use Rattle.std.proofs.Common.{◌≡◌, ℕ, ◌-◌, List, ◌++◌, slice_index}
-use Rattle.abuf_frame.specs.Closing.{Threaded, payloads_from}
-use Rattle.abuf_frame.specs.Words.{head_word}
-use Rattle.abuf_frame.proofs.drawn.Drawn.append_list.Given as goal
-
-abbrev pub invariant-loop : goal.invariant-loop
-invariant-loop l = (rest : List ℕ) × Threaded l.self-inside.words l.self-inside.pixels l.self-inside.nodes l.at rest
-    × (l.items.items ++ payloads_from l.self-inside.words l.self-inside.pixels (l.self-inside.nodes - l.counter) l.at ≡ l.fn.items.items ++ payloads_from l.self-inside.words l.self-inside.pixels l.self-inside.nodes (slice_index l.self-inside.words (head_word l.pixel)))
