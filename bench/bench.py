@@ -9,9 +9,12 @@
 The scenes are written into a new folder, and of several rounds the best counts. Beside another program, which is given the same
 words and the same scene on standard input, both run in turn, and the ratio of their times is printed. README.md here tells what
 the scenes are and how the figures are read.
+
+    bench.py --only full,deep --rounds 9        two scenes, the best of nine rounds
+
+The status is 0, or 1 where a run failed or an output isn't the same in every round.
 """
 
-import argparse
 import datetime
 import hashlib
 import math
@@ -26,9 +29,8 @@ from typing import NamedTuple
 
 import scenes
 import shares
-
-TOP = os.path.dirname(os.path.dirname(os.path.abspath(__file__)))
-PROGRAM = os.path.join(TOP, "crates", "abuf", "out", "abuf")
+from abuflib import program, report
+from abuflib.program import launcher_tunables
 
 
 class Failed(Exception):
@@ -47,22 +49,8 @@ class Run(NamedTuple):
 # ---- running
 
 
-def launched():
-    """The tunables of the C library with which ./abuf starts the program."""
-    with open(os.path.join(TOP, "abuf")) as file:
-        return re.search(r'GLIBC_TUNABLES=([^}"]*)', file.read()).group(1)
-
-
 def words_of(task, threads, nodes=None):
     return [*shlex.split(task.words), "--nodes", str(nodes or task.nodes), "--threads", str(threads)]
-
-
-def environment(given):
-    """The variables of the programs, in which only the option tells how the C library takes memory."""
-    found = {name: value for name, value in os.environ.items() if name != "GLIBC_TUNABLES"}
-    if given.pages == "large":
-        found["GLIBC_TUNABLES"] = launched()
-    return found
 
 
 class Bench:
@@ -71,18 +59,18 @@ class Bench:
     def __init__(self, folder, given):
         self.folder = folder
         self.rounds = given.rounds
-        self.programs = [os.path.abspath(name) for name in (given.program, given.beside) if name]
-        self.variables = environment(given)
+        self.programs = given.programs
+        self.variables = program.environment(given.tunables)
 
     def path(self, name):
         return os.path.join(self.folder, name)
 
-    def run(self, program, task, threads, nodes=None):
+    def run(self, path, task, threads, nodes=None):
         """One run of one program, its output written to a file."""
         with open(self.path(task.scene), "rb") as scene, open(self.path("output"), "w+b") as output, \
                 open(self.path("error"), "w+b") as error:
             before = time.perf_counter()
-            child = subprocess.Popen([program, *words_of(task, threads, nodes)], stdin=scene, stdout=output, stderr=error,
+            child = subprocess.Popen([path, *words_of(task, threads, nodes)], stdin=scene, stdout=output, stderr=error,
                                      cwd=self.folder, env=self.variables)
             _, status, usage = os.wait4(child.pid, 0)
             seconds = time.perf_counter() - before
@@ -96,10 +84,10 @@ class Bench:
         """The best run of each program, all of them in turn."""
         runs = [[] for _ in self.programs]
         for _ in range(self.rounds):
-            for program, done in zip(self.programs, runs):
-                done.append(self.run(program, task, threads))
+            for path, done in zip(self.programs, runs):
+                done.append(self.run(path, task, threads))
                 if done[-1].status != status:
-                    raise Failed(f"{os.path.basename(program)} {task.words}: status {done[-1].status}, "
+                    raise Failed(f"{os.path.basename(path)} {task.words}: status {done[-1].status}, "
                                  f"{done[-1].error.decode(errors='replace').strip()}")
         if len({run.output for run in runs[0]}) > 1:
             raise Failed("the output isn't the same in every round")
@@ -167,7 +155,7 @@ def processor():
 
 def told(given):
     """The machine and the conditions, and in Markdown the command."""
-    pages = f"GLIBC_TUNABLES={launched()}" if given.pages == "large" else "pages of the usual size"
+    pages = f"GLIBC_TUNABLES={given.tunables}" if given.tunables else "pages of the usual size"
     command = f"`bench/bench.py {shlex.join(sys.argv[1:])}`: " if given.table else ""
     return (f"{command}{datetime.date.today()}, {processor()}, {os.cpu_count()} processors, "
             f"load {os.getloadavg()[0]:.1f} at the start; {pages}; best of {given.rounds}")
@@ -288,29 +276,28 @@ KINDS = {"scenes": (measure_scenes, scenes.SCENES), "growth": (measure_growth, s
 
 
 def read_words():
-    ask = argparse.ArgumentParser(description=__doc__, formatter_class=argparse.RawDescriptionHelpFormatter)
+    ask = report.words(__doc__)
     kind = ask.add_mutually_exclusive_group()
     for name in ("growth", "reading", "stored"):
         kind.add_argument("--" + name, dest="kind", action="store_const", const=name, default="scenes")
     ask.add_argument("--shares", action="store_true", help="print besides how the time of the scenes is shared; perf is needed")
     ask.add_argument("--functions", metavar="N", type=int, default=0, help="with --shares: and the N greatest functions of each")
-    ask.add_argument("--program", default=PROGRAM, help="the program (that of this checkout, which ./abuf builds)")
+    program.add_option(ask)
     ask.add_argument("--beside", metavar="OTHER", help="another program, which runs in turn with the first")
     ask.add_argument("--only", metavar="NAMES", type=lambda text: text.split(","), help="these scenes, series or texts alone")
     ask.add_argument("--threads", metavar="N,N", type=lambda text: [int(part) for part in text.split(",")], default=[1, 4],
                      help="numbers of threads for the scenes (1,4); a series and a text take the first, and shares are of 1")
     ask.add_argument("--rounds", type=int, default=5, help="rounds, of which the best counts (5)")
     ask.add_argument("--pages", choices=["large", "usual"], default="large",
-                     help=f"large: the programs are started with GLIBC_TUNABLES={launched()}, as ./abuf starts abuf (large)")
+                     help=f"large: the programs are started with GLIBC_TUNABLES={launcher_tunables()}, as ./abuf starts abuf (large)")
     ask.add_argument("--bytes", type=int, default=8388608, help="the size of a text for --reading (8388608)")
     ask.add_argument("--table", action="store_true", help="print Markdown")
     given = ask.parse_args()
     for name in given.only or []:
         if name not in KINDS[given.kind][1]:
             ask.error(f"no {name}; there are {', '.join(KINDS[given.kind][1])}")
-    for program in (given.program, given.beside):
-        if program and not os.access(program, os.X_OK):
-            ask.error(f"{program} can't be run")
+    given.tunables = launcher_tunables() if given.pages == "large" else ""
+    given.programs = [program.path_of(given.abuf)] + [program.path_of(name) for name in [given.beside] if name]
     return given
 
 
@@ -323,8 +310,8 @@ def main():
         failed = KINDS[given.kind][0](bench, given)
         if given.shares and given.kind == "scenes":
             failed |= measure_shares(bench, given)
-    sys.exit(1 if failed else 0)
+    return report.WRONG if failed else report.WELL
 
 
 if __name__ == "__main__":
-    main()
+    report.end(main)

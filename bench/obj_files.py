@@ -3,6 +3,8 @@
 
     obj_files.py KIND BYTES [SEED] > scene.obj
 
+    obj_files.py mixed 8388608 > mixed.obj
+
 KIND is one of
 
     decimals   points with six decimals and triangles with indices from 1, as exporters write them
@@ -19,10 +21,12 @@ The file has at most BYTES bytes (at most 67108864 are read), at most 1048576 po
 with lines that aren't read. The same arguments give the same bytes on every machine.
 """
 
+import os
 import sys
 
-MOST_POINTS = 1048576
-MOST_TRIANGLES = 1048576
+sys.path.insert(0, os.path.join(os.path.dirname(os.path.dirname(os.path.abspath(__file__))), "tools"))
+from abuflib import report  # noqa: E402
+from abuflib.scene import MOST_POINTS, MOST_TRIANGLES  # noqa: E402
 
 
 class Numbers:
@@ -140,11 +144,15 @@ def write(kind, size, out, seed=1):
         pass
 
 
-def main(words):
-    if len(words) not in (2, 3) or words[0] not in KINDS:
-        sys.exit(__doc__)
-    write(words[0], int(words[1]), sys.stdout.buffer, int(words[2]) if len(words) == 3 else 1)
+def main():
+    ask = report.words(__doc__)
+    ask.add_argument("kind", metavar="KIND", choices=KINDS)
+    ask.add_argument("bytes", metavar="BYTES", type=int)
+    ask.add_argument("seed", metavar="SEED", type=int, nargs="?", default=1)
+    given = ask.parse_args()
+    write(given.kind, given.bytes, sys.stdout.buffer, given.seed)
+    sys.stdout.buffer.flush()
 
 
 if __name__ == "__main__":
-    main(sys.argv[1:])
+    report.end(main)

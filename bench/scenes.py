@@ -7,18 +7,19 @@ that starts it.
 import math
 import os
 import random
-import re
 import shutil
 import sys
 from typing import NamedTuple
 
 import obj_files
 
-TOP = os.path.dirname(os.path.dirname(os.path.abspath(__file__)))
-EXAMPLES = os.path.join(TOP, "examples")
+sys.path.insert(0, os.path.join(os.path.dirname(os.path.dirname(os.path.abspath(__file__))), "tools"))
+import reference  # noqa: E402
+from abuflib.program import EXAMPLES  # noqa: E402
+from abuflib.scene import MOST_NODES, commands_of  # noqa: E402
+
 EMPTY = "empty.obj"
 LIBRARY = "four.mtl"
-MOST_NODES = 8388608
 AWAY = "--move=4000,0,-400"  # the camera looks past the scene: it is read and projected, and nothing of it is drawn
 
 
@@ -111,7 +112,7 @@ def example(folder, name):
 def words_of(name):
     """The words in the head of an example, such as '# abuf render --size 320x240'."""
     with open(os.path.join(EXAMPLES, name + ".obj"), encoding="utf-8") as file:
-        return re.search(r"(?m)^# abuf (.*)$", file.read()).group(1).strip()
+        return commands_of(file.read())[0].removeprefix("abuf ")
 
 
 # ---- scenes
@@ -133,9 +134,6 @@ SCENES = {
 
 def demonstration(folder, number):
     """Writes the demonstration scene of so many triangles, with its library, and gives its name."""
-    sys.path.insert(0, os.path.join(TOP, "tools"))
-    import reference
-
     scene, library = reference.demonstration(number)
     for name, data in ((f"demo{number}.obj", scene), ("demo.mtl", library)):
         with open(os.path.join(folder, name), "wb") as file:

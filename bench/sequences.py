@@ -8,9 +8,12 @@ then `abuf render` is run once for each image, one after another, into a file ea
 the first process to the end of the last, and the processor time is that of all threads of all runs, in the program and in the
 kernel; of several rounds the best counts, the two in turn. The images have to be the same bytes. With --pieces N the path is cut
 into N pieces besides, drawn by N processes at a time, each on one thread. README.md here has figures.
+
+    sequences.py --only lantern --pieces 4
+
+The status is 0, or 1 where a run failed or the images aren't the same.
 """
 
-import argparse
 import datetime
 import os
 import shlex
@@ -22,9 +25,8 @@ from typing import NamedTuple
 
 import bench
 import scenes
-
-sys.path.insert(0, os.path.join(bench.TOP, "tools"))
-import turntable  # noqa: E402
+import turntable
+from abuflib import program, report
 
 
 class Sequence(NamedTuple):
@@ -61,21 +63,13 @@ class Cost(NamedTuple):
     peak: int
 
 
-def environment(tunables):
-    """The variables of the programs, which have these tunables and no others."""
-    found = {name: value for name, value in os.environ.items() if name != "GLIBC_TUNABLES"}
-    if tunables:
-        found["GLIBC_TUNABLES"] = tunables
-    return found
-
-
 class Clock:
     """Runs programs in a folder, over the scene that is there, and adds up their processor time and finds their memory's peak."""
 
     def __init__(self, folder, given):
         self.folder = folder
-        self.program = os.path.abspath(given.program)
-        self.variables = environment(given.tunables)
+        self.program = given.program
+        self.variables = program.environment(given.tunables)
         self.processor = 0.0
         self.peak = 0
 
@@ -178,23 +172,22 @@ def told(given):
 
 
 def read_words():
-    ask = argparse.ArgumentParser(description=__doc__, formatter_class=argparse.RawDescriptionHelpFormatter)
-    ask.add_argument("--program", default=bench.PROGRAM, help="the program (that of this checkout, which ./abuf builds)")
+    ask = report.words(__doc__)
+    program.add_option(ask)
     ask.add_argument("--only", metavar="NAMES", type=lambda text: text.split(","), default=list(SEQUENCES),
                      help="these sequences alone: " + ", ".join(SEQUENCES))
     ask.add_argument("--threads", metavar="N,N", type=lambda text: [int(part) for part in text.split(",")], default=[1, 4],
                      help="numbers of threads (1,4)")
     ask.add_argument("--pieces", metavar="N", type=int, default=0, help="and the path in N pieces at once")
     ask.add_argument("--rounds", type=int, default=3, help="rounds, of which the best counts (3)")
-    ask.add_argument("--tunables", metavar="TEXT", default=bench.launched(),
+    ask.add_argument("--tunables", metavar="TEXT", default=program.launcher_tunables(),
                      help="all programs are started with GLIBC_TUNABLES=TEXT (that of ./abuf)")
     ask.add_argument("--table", action="store_true", help="print Markdown")
     given = ask.parse_args()
     for name in given.only:
         if name not in SEQUENCES:
             ask.error(f"no {name}; there are {', '.join(SEQUENCES)}")
-    if not os.access(given.program, os.X_OK):
-        ask.error(f"{given.program} can't be run")
+    given.program = program.path_of(given.abuf)
     return given
 
 
@@ -207,8 +200,8 @@ def main():
         head = ["scene", "images", "way", "threads", "time", "an image", "of render", "processor", "of render", "peak"]
         table = bench.Table(head, given.table)
         failed = bench.each(given.only, lambda name: measure(clock, name, given, table))
-    sys.exit(1 if failed else 0)
+    return report.WRONG if failed else report.WELL
 
 
 if __name__ == "__main__":
-    main()
+    report.end(main)

@@ -7,8 +7,7 @@
     agree.py answer.pam capture.png --picture where.png --worst 5 \\
              --scene crossing.obj --words "--size 40x30 --samples 4 --move=0,0,-3.3"
 
-A and B are PAM, PPM or PNG; netpbm's pngtopam and pamtopam read what isn't PAM or binary PPM.
-Grey counts as three equal channels, and alpha isn't compared.
+A and B are PAM, PPM, PGM or PNG. Grey counts as three equal channels, and alpha isn't compared.
 
 It prints how many pixels differ and how many of their values (red, green, blue), the greatest
 difference, and the mean one over all values. Then come the pixels of the greatest differences,
@@ -33,30 +32,14 @@ The status is 0 where the images agree, 1 where they differ, and 2 where somethi
 or run, or the sizes differ.
 """
 
-import argparse
 import os
-import re
 import shlex
-import struct
-import subprocess
-import sys
 from dataclasses import dataclass
 
 import reference
-
-TOP = os.path.dirname(os.path.dirname(os.path.abspath(__file__)))
-
-
-class Fault(Exception):
-    """Why two images can't be compared."""
-
-
-@dataclass
-class Image:
-    width: int
-    height: int
-    maxval: int
-    values: list  # red, green and blue of each pixel, in rows from the top
+from abuflib import pam, program, report
+from abuflib.report import Fault
+from abuflib.scene import round_div
 
 
 # ---- images
@@ -64,82 +47,36 @@ class Image:
 
 def run(command, data=b"", folder=None):
     """What a program writes, or a Fault where it can't be run or ends in another status than 0."""
-    try:
-        done = subprocess.run(command, input=data, cwd=folder, capture_output=True)
-    except OSError as why:
-        raise Fault(f"{command[0]}: {why.strerror}")
-    if done.returncode != 0:
-        raise Fault(f"{command[0]}: {done.stderr.decode(errors='replace').strip()}")
-    return done.stdout
-
-
-def header_of(data):
-    """Width, height, depth and MAXVAL, and where the values begin; None if neither PAM nor PPM."""
-    pam = re.match(rb"P7\n(.*?)^ENDHDR\n", data, re.S | re.M)
-    if pam:
-        lines = dict(re.findall(rb"(?m)^(WIDTH|HEIGHT|DEPTH|MAXVAL)\s+(\d+)", pam.group(1)))
-        if len(lines) == 4:
-            names = (b"WIDTH", b"HEIGHT", b"DEPTH", b"MAXVAL")
-            return [int(lines[name]) for name in names], pam.end()
-    space = rb"(?:\s|#[^\n]*\n)+"
-    ppm = re.match(space.join([rb"P6", rb"(\d+)", rb"(\d+)", rb"(\d+)"]) + rb"\s", data)
-    if ppm:
-        width, height, maxval = map(int, ppm.groups())
-        return [width, height, 3, maxval], ppm.end()
-    return None
+    return program.run_tool(command, data, folder=folder)
 
 
 def image_of(data, name):
     """The image of these bytes; the name is told in a Fault."""
-    if header_of(data) is None:
-        if data.startswith(b"\x89PNG"):
-            data = run(["pngtopam"], data)
-        data = run(["pamtopam"], data)
-    (width, height, depth, maxval), start = header_of(data)
-    count = width * height * depth
-    size = count if maxval < 256 else 2 * count
-    if len(data) < start + size:
-        raise Fault(f"{name}: ends before its last value")
-    values = list(struct.unpack(f">{count}{'B' if maxval < 256 else 'H'}", data[start:start + size]))
-    channels = [0, 0, 0] if depth < 3 else [0, 1, 2]
-    if depth != 3:
-        values = [values[i + k] for i in range(0, count, depth) for k in channels]
-    return Image(width, height, maxval, values)
-
-
-def read_image(path):
-    try:
-        with open(path, "rb") as file:
-            return image_of(file.read(), path)
-    except OSError as why:
-        raise Fault(f"{path}: {why.strerror}")
+    return pam.read(data, name)
 
 
 def scaled(image, maxval):
     """The image with another MAXVAL, its values rounded to nearest."""
     if image.maxval == maxval:
         return image
-    table = [reference.round_div(v * maxval, image.maxval) for v in range(image.maxval + 1)]
-    return Image(image.width, image.height, maxval, [table[v] for v in image.values])
+    table = [round_div(v * maxval, image.maxval) for v in range(image.maxval + 1)]
+    values = (table[v] for v in pam.numbers(image.values, image.maxval))
+    return pam.from_numbers(image.width, image.height, maxval, values)
 
 
-def write_picture(path, a, differences):
+def picture_of(a, differences):
     """Red to yellow where the images differ, and the first one, grey and dim, elsewhere."""
-    pixels = bytearray()
+    pixels, values = bytearray(), pam.numbers(a.values, a.maxval)
     for place, difference in enumerate(differences):
         if difference:
             pixels += bytes((255, 255 * difference // a.maxval, 0))
         else:
-            pixels += bytes([sum(a.values[3 * place:3 * place + 3]) * 85 // (3 * a.maxval)] * 3)
-    header = f"P7\nWIDTH {a.width}\nHEIGHT {a.height}\nDEPTH 3\nMAXVAL 255\nTUPLTYPE RGB\nENDHDR\n"
-    data = header.encode() + pixels
-    if path.endswith(".png"):
-        data = run(["pamtopng"], data)
-    try:
-        with open(path, "wb") as file:
-            file.write(data)
-    except OSError as why:
-        raise Fault(f"{path}: {why.strerror}")
+            pixels += bytes([sum(values[3 * place:3 * place + 3]) * 85 // (3 * a.maxval)] * 3)
+    return pam.Image(a.width, a.height, 255, bytes(pixels))
+
+
+def write_picture(path, a, differences):
+    pam.save(path, picture_of(a, differences))
 
 
 # ---- the comparison
@@ -147,8 +84,8 @@ def write_picture(path, a, differences):
 
 @dataclass
 class Comparison:
-    a: Image
-    b: Image  # of the same size and MAXVAL
+    a: pam.Image
+    b: pam.Image  # of the same size and MAXVAL
     scaling: str  # what was done to reach one MAXVAL, or empty
     pixels: list  # the difference of each pixel: that of its worst value, 0 if it is allowed
     values: int  # how many values differ by more than is allowed
@@ -172,7 +109,7 @@ def compare(a, b, allow=0):
         maxval = max(255, min(a.maxval, b.maxval))
         scaling = f"MAXVAL {a.maxval} and {b.maxval}, compared after scaling to {maxval}"
         a, b = scaled(a, maxval), scaled(b, maxval)
-    values = [abs(p - q) for p, q in zip(a.values, b.values)]
+    values = [abs(p - q) for p, q in zip(*(pam.numbers(i.values, i.maxval) for i in (a, b)))]
     pixels = [max(values[i:i + 3]) for i in range(0, len(values), 3)]
     pixels = [difference if difference > allow else 0 for difference in pixels]
     return Comparison(a, b, scaling, pixels, sum(1 for value in values if value > allow),
@@ -224,7 +161,7 @@ def close_calls(job, primitives, x, y):
 class Scene:
     path: str
     words: list
-    abuf: str
+    program: program.Program
 
     def __post_init__(self):
         try:
@@ -236,11 +173,11 @@ class Scene:
     def report(self, x, y):
         """The fragments of a pixel by abuf pick, and the close calls there."""
         with open(self.path, "rb") as file:
-            report = run([self.abuf, "pick", f"{x},{y}"] + self.words, file.read(),
-                         os.path.dirname(self.path) or None)
+            told = self.program.output(["pick", f"{x},{y}", *self.words], file.read(),
+                                       os.path.dirname(self.path) or None)
         calls = list(close_calls(self.job, self.primitives, x, y))
         calls = calls or ["no sample lies on an edge, and no two depth keys are within one"]
-        return "".join(f"    {line}\n" for line in report.decode().splitlines() + calls)
+        return "".join(f"    {line}\n" for line in told.decode().splitlines() + calls)
 
 
 # ---- the program
@@ -248,21 +185,19 @@ class Scene:
 
 def tell(found, most, scene):
     a, b = found.a, found.b
-    print(found.scaling or f"{a.width}x{a.height}, MAXVAL {a.maxval}")
+    print(found.scaling or a.shape())
     print(f"pixels that differ: {found.differing()} of {len(found.pixels)}")
-    print(f"values that differ: {found.values} of {len(a.values)}")
+    print(f"values that differ: {found.values} of {3 * len(found.pixels)}")
     print(f"greatest difference: {found.greatest}, mean {found.mean:.6f}")
     for place in found.worst(most):
         x, y = place % a.width, place // a.width
-        here = slice(3 * place, 3 * place + 3)
-        print(f"({x},{y}): {a.values[here]} and {b.values[here]}, difference {found.pixels[place]}")
+        print(f"({x},{y}): {list(a.at(x, y))} and {list(b.at(x, y))}, difference {found.pixels[place]}")
         if scene:
             print(scene.report(x, y), end="")
 
 
 def main():
-    parser = argparse.ArgumentParser(description=__doc__,
-                                     formatter_class=argparse.RawDescriptionHelpFormatter)
+    parser = report.words(__doc__)
     parser.add_argument("a", metavar="A")
     parser.add_argument("b", metavar="B")
     parser.add_argument("--allow", type=int, default=0, metavar="D")
@@ -270,24 +205,19 @@ def main():
     parser.add_argument("--worst", type=int, default=3, metavar="N")
     parser.add_argument("--scene", metavar="FILE")
     parser.add_argument("--words", default="", metavar="WORDS")
-    parser.add_argument("--abuf", metavar="PATH", default=os.path.join(TOP, "abuf"),
-                        help="the program (./abuf at the top)")
+    program.add_option(parser)
     given = parser.parse_args()
-    try:
-        found = compare(read_image(given.a), read_image(given.b), given.allow)
-        scene = None
-        if given.scene:
-            scene = Scene(given.scene, shlex.split(given.words), os.path.abspath(given.abuf))
-            if (scene.job.width, scene.job.height) != (found.a.width, found.a.height):
-                raise Fault("--words: the size isn't that of the images")
-        tell(found, given.worst, scene)
-        if given.picture:
-            write_picture(given.picture, found.a, found.pixels)
-    except Fault as fault:
-        print(f"agree.py: {fault}", file=sys.stderr)
-        sys.exit(2)
-    sys.exit(1 if found.differing() else 0)
+    found = compare(pam.load(given.a), pam.load(given.b), given.allow)
+    scene = None
+    if given.scene:
+        scene = Scene(given.scene, shlex.split(given.words), program.find(given.abuf))
+        if (scene.job.width, scene.job.height) != (found.a.width, found.a.height):
+            raise Fault("--words: the size isn't that of the images")
+    tell(found, given.worst, scene)
+    if given.picture:
+        write_picture(given.picture, found.a, found.pixels)
+    return report.WRONG if found.differing() else report.WELL
 
 
 if __name__ == "__main__":
-    main()
+    report.end(main)

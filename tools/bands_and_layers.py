@@ -1,7 +1,9 @@
 #!/usr/bin/env python3
 """Shows that bands and layers give the bytes that one frame gives, and that bands draw what no pool holds.
 
-    bands_and_layers.py [--program PATH] [--large]
+    bands_and_layers.py [--large] [--abuf PATH]
+
+    bands_and_layers.py --large
 
 The demonstration scene of 500 triangles is drawn at 160x120 with 1 and with 8 samples, on 1, 7 and 64 threads: in one frame,
 in 1, 7 and 120 bands, and layer by layer. With --large, that of 20,000 triangles is drawn at 640x480, whose 39 million
@@ -9,29 +11,24 @@ fragments fill the largest pool many times over: one frame must refuse it, and b
 with the same bytes. Each image is told by its hash. The status is 0 where all are as they must be, and 1 otherwise.
 """
 
-import argparse
 import hashlib
 import os
-import subprocess
-import sys
 import tempfile
 
-HERE = os.path.dirname(os.path.abspath(__file__))
-sys.path.insert(0, HERE)
-import reference  # noqa: E402
+import reference
+from abuflib import program, report
 
-PROGRAM = os.path.join(os.path.dirname(HERE), "crates", "abuf", "out", "abuf")
 SMALL = "render --size 160x120 --nodes 4194304"
 LARGE = "render --size 640x480 --nodes 8388608"
 
 
 class Shower:
-    """The folder with the scene's library, the program, and whether everything was as it must be."""
+    """The folder with the scene's library, the program, and what was as it must be."""
 
-    def __init__(self, program, folder):
-        self.program = program
+    def __init__(self, found, folder):
+        self.program = found
         self.folder = folder
-        self.is_right = True
+        self.report = report.Report(is_quiet=False)
 
     def take(self, number):
         """Puts the demonstration scene of so many triangles in its place."""
@@ -40,25 +37,22 @@ class Shower:
             file.write(library)
 
     def run(self, words):
-        done = subprocess.run([self.program, *words.split()], input=self.scene, capture_output=True, cwd=self.folder)
-        return done.returncode, done.stdout, done.stderr
-
-    def tell(self, words, told, is_right):
-        self.is_right &= is_right
-        print(f"{'' if is_right else 'WRONG '}{words}: {told}", flush=True)
+        return self.program.run(words.split(), self.scene, self.folder)
 
     def image(self, words, wanted=None):
         """The hash of the image that the words draw, which must be the one that is wanted."""
-        status, out, err = self.run(words)
-        found = hashlib.sha256(out).hexdigest()
-        told = found[:16] if status == 0 else f"status {status}, {err.decode(errors='replace').strip()}"
-        self.tell(words, told, status == 0 and wanted in (None, found))
+        answer = self.run(words)
+        found = hashlib.sha256(answer.out).hexdigest()
+        fault = f"status {answer.status}, {answer.text()}" if answer.status != 0 else \
+            "another image" if wanted not in (None, found) else None
+        self.report.add(words, fault, found[:16])
         return found
 
     def refused(self, words, text):
         """The words must be refused by a full pool with a text that begins so."""
-        status, out, err = self.run(words)
-        self.tell(words, err.decode(errors="replace").strip(), (status, out) == (5, b"") and err.startswith(text))
+        status, out, err = answer = self.run(words)
+        is_right = (status, out) == (5, b"") and err.startswith(text)
+        self.report.add(words, None if is_right else f"status {status}, {answer.text()}", answer.text())
 
 
 def show_small(shower):
@@ -80,18 +74,17 @@ def show_large(shower):
 
 
 def main():
-    ask = argparse.ArgumentParser(description=__doc__, formatter_class=argparse.RawDescriptionHelpFormatter)
-    ask.add_argument("--program", default=PROGRAM, help="the program (that of this checkout, which ./abuf builds)")
-    ask.add_argument("--large", action="store_true", help="draw the scene of 39 million fragments too")
-    given = ask.parse_args()
+    parser = report.words(__doc__)
+    parser.add_argument("--large", action="store_true", help="draw the scene of 39 million fragments too")
+    program.add_option(parser)
+    given = parser.parse_args()
     with tempfile.TemporaryDirectory() as folder:
-        shower = Shower(os.path.abspath(given.program), folder)
+        shower = Shower(program.find(given.abuf), folder)
         show_small(shower)
         if given.large:
             show_large(shower)
-    print("all as it must be" if shower.is_right else "NOT all as it must be")
-    sys.exit(0 if shower.is_right else 1)
+    return shower.report.conclude()
 
 
 if __name__ == "__main__":
-    main()
+    report.end(main)

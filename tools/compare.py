@@ -1,44 +1,28 @@
 #!/usr/bin/env python3
-"""Compares an abuf program with the worked rows and with the reference.
+"""Compares abuf with the worked rows and with the reference.
 
-    compare.py PATH/TO/abuf             the rows, then random scenes against reference.py
+    compare.py [--only rows | --only random] [--cases N] [--seed S] [--abuf PATH]
     compare.py --self                   the rows against reference.py itself
+
+    compare.py --only random --cases 300 --seed 7
 
 Each case runs in a folder of its own with its libraries. Status, standard output and standard
 error are compared. Rows that fail are all told; random scenes end at the first that differs, which
 is printed and, with --keep, written out. The seed decides the random scenes, so that a run can be
-repeated.
-
-A program that doesn't have all features yet can be compared in those that it has:
-
-    --only rows | random
-    --words-subset LIST     commands with these options alone: size, samples, threads, nodes, turn,
-                            move, focal, near, background, maxval, bands, peel; the commands pick,
-                            demo and sequence; and order, for words in any other form than 'render --size WxH'
-    --without LIST          leave out scenes with: grammar (anything but 'v' and 'f' lines of three
-                            plain whole numbers), libraries ('mtllib' lines), clip (a corner behind
-                            the near plane)
+repeated. The status is 0 where all agree, and 1 otherwise.
 """
 
-import argparse
 import contextlib
-import dataclasses
 import os
 import random
-import re
-import subprocess
 import sys
 import tempfile
 
-sys.path.insert(0, os.path.dirname(os.path.abspath(__file__)))
-import reference  # noqa: E402
-import rows as worked  # noqa: E402
+import reference
+import rows as worked
+from abuflib import program, report
 
-REFERENCE = [sys.executable, reference.__file__]
-STORED = reference.RENDER_OPTIONS + reference.RENDER_FLAGS
-COMMANDS = ["pick", "demo", "sequence"]  # beside render
-ALL_WORDS = reference.OPTIONS + STORED + COMMANDS + ["order"]
-ALL_SCENES = ["grammar", "libraries", "clip"]
+REFERENCE = program.Program((sys.executable, reference.__file__))
 
 
 # ---- running
@@ -54,23 +38,15 @@ def folder_of(row):
         yield folder
 
 
-def run(program, row, seconds=600):
+def run(found, row):
     """The status, output and message of a program on a row."""
-    with folder_of(row) as folder:
-        given = {"input": row.scene}
+    with folder_of(row) as folder, contextlib.ExitStack() as files:
+        given = {"scene": row.scene}
         if row.stdin == "fault":
-            given = {"stdin": os.open("/proc/self/mem", os.O_RDONLY)}
-        out = subprocess.PIPE
+            given["scene"] = files.enter_context(open("/proc/self/mem", "rb"))
         if row.stdout == "full":
-            out = os.open("/dev/full", os.O_WRONLY)
-        try:
-            done = subprocess.run(program + row.words, cwd=folder, stdout=out,
-                                  stderr=subprocess.PIPE, timeout=seconds, **given)
-        finally:
-            for descriptor in (given.get("stdin"), out):
-                if descriptor is not None and descriptor >= 0:
-                    os.close(descriptor)
-        return done.returncode, done.stdout or b"", done.stderr
+            given["out"] = files.enter_context(open("/dev/full", "wb", buffering=0))
+        return found.run(row.words, folder=folder, **given)
 
 
 def run_reference(row):
@@ -90,75 +66,13 @@ def short(data):
 
 
 def differences(wanted, got):
-    """What differs between two answers, as lines of text."""
+    """What differs between two answers, as lines of text; None where nothing does."""
     told = []
     for name, a, b in zip(("status", "standard output", "standard error"), wanted, got):
         if a != b:
             a, b = (short(a), short(b)) if isinstance(a, bytes) else (a, b)
             told.append(f"  {name}: wanted {a}\n  {name}: got    {b}")
-    return told
-
-
-# ---- what a case needs
-
-
-def word_features(row):
-    """The options and commands that the words use, and whether their form is any other than the
-    plainest."""
-    words = [word if isinstance(word, str) else word.decode(errors="replace") for word in row.words]
-    if row.err == b"words not understood\n":
-        return set()
-    used = {word[2:].partition("=")[0] for word in words if word.startswith("--")} - {""}
-    used |= {word for word in words[:1] if word in COMMANDS}
-    plain = len(words) == 3 and words[:2] == ["render", "--size"] and not row.err.startswith(b"bad")
-    return used | (set() if plain else {"order"})
-
-
-PLAIN_LINE = re.compile(rb"[ \t\r]*(#.*|v([ \t\r]+-?[0-9]{1,4}){3}[ \t\r]*(#.*)?|"
-                        rb"f([ \t\r]+[0-9]{1,7}){3}[ \t\r]*(#.*)?)?")
-
-
-def scene_features(row):
-    """What the scene needs of a program beyond plain triangles in front of the camera."""
-    used = set()
-    if len(row.scene) > reference.MOST_BYTES or row.stdin == "fault":
-        return used
-    if not all(PLAIN_LINE.fullmatch(line) for line in row.scene.split(b"\n")):
-        used.add("grammar")
-    if re.search(rb"(?m)^[ \t\r]*mtllib", row.scene):
-        used |= {"libraries", "grammar"}
-    try:
-        obj = reference.read_obj(row.scene)
-        words = [word for word in row.words if isinstance(word, str)]
-        has_job = words and words[0] in reference.POSITIONALS
-        job = reference.job_of(words) if has_job else reference.Job()
-    except reference.Refusal:
-        return used | {"grammar"}
-    corners = {corner for face in obj.faces for corner in face.corners}
-    for one in jobs_of(row, job):
-        m = sum(part * part for part in one.turn) * one.near
-        if any(reference.seen(one, obj.points[corner])[2] < m for corner in corners):
-            used.add("clip")
-    return used
-
-
-def jobs_of(row, job):
-    """The job of each image that the row draws."""
-    if job.path is None:
-        return [job]
-    try:
-        shots = reference.shots_of(job.path, lambda name, most: row.libraries.get(name.decode()))
-    except reference.Refusal:
-        return []
-    return [dataclasses.replace(job, turn=shot.turn, shift=shot.shift) for shot in shots]
-
-
-def is_wanted(row, words, left_out):
-    if not word_features(row) <= words:
-        return False
-    if row.err.startswith((b"words", b"bad value")):
-        return True
-    return not scene_features(row) & left_out
+    return "\n".join(told) or None
 
 
 # ---- random cases
@@ -167,10 +81,8 @@ def is_wanted(row, words, left_out):
 class Maker:
     """Random small scenes and words, many of them with edges through samples."""
 
-    def __init__(self, rng, words, left_out):
+    def __init__(self, rng):
         self.rng = rng
-        self.words = words
-        self.has = {name: name not in left_out for name in ALL_SCENES}
 
     def chance(self, percent):
         return self.rng.randrange(100) < percent
@@ -178,14 +90,12 @@ class Maker:
     def case(self, number):
         rng = self.rng
         self.resize(rng.randint(1, 9), rng.choice([1, 2, 4, 4, 4, 8, 8, 3, 5, 7]))
-        self.samples = "1"
-        if "samples" in self.words:
-            self.samples = str(rng.choice(sorted(reference.OFFSETS)))
+        self.samples = str(rng.choice(sorted(reference.OFFSETS)))
         self.forced = {}
         libraries = {}
-        lines = self.plain_scene() if not self.has["grammar"] else self.scene(libraries)
+        lines = self.scene(libraries)
         scene = b"\n".join(lines) + (b"" if self.chance(5) else b"\n")
-        if self.has["grammar"] and self.chance(12):
+        if self.chance(12):
             scene = self.damaged(scene)
         if libraries and self.chance(8):
             name = rng.choice(sorted(libraries))
@@ -204,45 +114,43 @@ class Maker:
     def command(self, libraries):
         """The words; the path of a sequence is put among the libraries."""
         rng = self.rng
-        if self.words == {"size"} or not self.chance(95) and "order" not in self.words:
-            return ["render", "--size", f"{self.width}x{self.height}"]
+        self.chance(95)  # drawn once more than is needed, so that a seed's scenes stay what they were
         texts = {"size": f"{self.width}x{self.height}"}
         if self.samples != "1":
             texts["samples"] = self.samples
-        for name in sorted(self.words & set(reference.OPTIONS) - {"size", "samples"}):
+        for name in sorted(set(reference.OPTIONS) - {"size", "samples"}):
             if self.chance(35):
                 texts[name] = self.value(name)
         texts.update(self.forced)
-        is_sequence = "sequence" in self.words and self.chance(15)
+        is_sequence = self.chance(15)
         if is_sequence and not self.chance(2):
             texts.pop("turn", None)
             texts.pop("move", None)
-        if "order" in self.words and self.chance(4):
+        if self.chance(4):
             name = rng.choice(sorted(texts))
             texts[name] = self.damaged(texts[name].encode()).decode(errors="ignore")
             texts[name] = texts[name].replace("\0", "0")
         groups = []
         for name, value in texts.items():
-            joined = value.startswith("-") or "order" in self.words and self.chance(40)
+            joined = value.startswith("-") or self.chance(40)
             groups.append([f"--{name}={value}"] if joined else [f"--{name}", value])
         command = "render"
         if is_sequence:
             command = "sequence"
             libraries["a path"] = self.path()
             groups.insert(0, self.positional("a path"))
-        elif "pick" in self.words and self.chance(35):
+        elif self.chance(35):
             command = "pick"
             groups.insert(0, self.positional("{},{}".format(*self.place)))
-        elif "demo" in self.words and self.chance(3):
+        elif self.chance(3):
             command = "demo"
             groups.insert(0, self.positional(str(rng.randint(1, 30))))
         if command == "render" or self.chance(1):
             groups += self.storage()
-        if "order" in self.words:
-            rng.shuffle(groups)
-            groups.sort(key=lambda group: group[0] == "--")
+        rng.shuffle(groups)
+        groups.sort(key=lambda group: group[0] == "--")
         words = [word for group in groups for word in group]
-        if "order" in self.words and self.chance(2):
+        if self.chance(2):
             words.insert(rng.randrange(len(words) + 1), rng.choice(["--", "-", "x", "--size=1x1"]))
         return [command] + words
 
@@ -263,18 +171,15 @@ class Maker:
     def storage(self):
         """The words that say how the fragments are stored; now and then both, or bands of no row."""
         groups = []
-        if "bands" in self.words and self.chance(25):
+        if self.chance(25):
             bands = self.rng.randint(1, self.height) if self.chance(95) else self.height + 1
             groups.append(["--bands", str(bands)])
-        if "peel" in self.words and self.chance(1 if groups else 20):
+        if self.chance(1 if groups else 20):
             groups.append(["--peel"])
         return groups
 
     def positional(self, text):
         """The words of a value without a name."""
-        rng = self.rng
-        if "order" not in self.words:
-            return [text]
         if self.chance(5):
             text = self.damaged(text.encode()).decode(errors="ignore").replace("\0", "0")
         return ["--", text] if self.chance(10) else [text]
@@ -290,16 +195,14 @@ class Maker:
             while not any(parts):
                 parts = [rng.choice([0, 0, 1, -1, 2, 5, rng.randint(-1024, 1024)])
                          for _ in range(4)]
-            if not self.has["clip"]:
-                parts = [rng.randint(1, 1024), 0, 0, rng.randint(-1024, 1024)]
             return ",".join(str(part) for part in parts)
         if name == "move":
-            near = "-4" if not self.has["clip"] else rng.choice(["-4", "-4", "-2.5", "-1", "0"])
+            near = rng.choice(["-4", "-4", "-2.5", "-1", "0"])
             return f"{rng.choice(['0', '0.3', '-1'])},{rng.choice(['0', '1e-1'])},{near}"
         if name == "focal":
             return rng.choice(["1", "0.5", "2", "16", "1e-4", "0.999"])
         if name == "near":
-            return rng.choice(["0.125", "0.0625", "0.5", "1"] + ["3"] * self.has["clip"])
+            return rng.choice(["0.125", "0.0625", "0.5", "1", "3"])
         if name == "background":
             return rng.choice(["1,1,1", "0.5,0.25,0", "9,-9,1e-3"])
         return rng.choice(["255", "65535", "65535"])
@@ -327,7 +230,7 @@ class Maker:
         rng = self.rng
         x, y = (rng.choice(grid)[0], rng.choice(grid)[1]) if grid else self.places()
         away = plane if plane is not None else rng.choice([4, 4, 4, 2, 1, 6, 5.5])
-        if self.has["clip"] and plane is None and self.chance(12):
+        if plane is None and self.chance(12):
             return self.vertex(rng.randint(-400000, 400000), rng.randint(-400000, 400000),
                                int(65536 * rng.choice([3.875, 3.9, 4, 4.1, 5, 9])))
         return self.shown(x, y, away)
@@ -354,30 +257,16 @@ class Maker:
 
     # scenes
 
-    def plain_scene(self):
-        rng = self.rng
-        points = [
-            [rng.randint(-5, 5), rng.randint(-5, 5), rng.choice([0, 0, 0, 2, 3, -4])]
-            for _ in range(rng.randint(3, 9))
-        ]
-        if self.has["clip"] and self.chance(30):
-            rng.choice(points)[2] = rng.choice([4, 5])
-        lines = [f"v {x} {y} {z}".encode() for x, y, z in points]
-        for _ in range(rng.randint(1, 6)):
-            corners = [rng.randint(1, len(points)) for _ in range(3)]
-            lines.append("f {} {} {}".format(*corners).encode())
-        return lines
-
     def scene(self, libraries):
         rng = self.rng
         lines, materials = [], []
         if self.chance(8):
             return self.steep_scene()
-        if self.chance(10) and self.has["clip"] and {"focal", "near"} <= self.words:
+        if self.chance(10):
             return self.near_scene()
-        if self.has["libraries"] and self.chance(80):
+        if self.chance(80):
             materials = self.make_paints(lines, libraries)
-        if self.chance(20) and {"focal", "near"} <= self.words:
+        if self.chance(20):
             return lines + self.huge_scene(materials)
         if self.chance(30):
             return lines + rng.choice([self.crossing_scene, self.long_scene])(materials)
@@ -385,7 +274,7 @@ class Maker:
             return lines + self.thin_scene(materials)
         lines, materials = [], []
         libraries.clear()
-        if self.has["libraries"] and self.chance(60):
+        if self.chance(60):
             materials = self.make_libraries(lines, libraries)
         count = 0
         for _ in range(rng.randint(1, 4)):
@@ -515,8 +404,7 @@ class Maker:
         """Large triangles cut by a near plane so close that a single unit of a cut shows."""
         rng = self.rng
         self.forced = {"focal": "16", "near": "0.0625"}
-        if "samples" in self.words:
-            self.samples = self.forced["samples"] = rng.choice(["8", "16"])
+        self.samples = self.forced["samples"] = rng.choice(["8", "16"])
         points = []
         for _ in range(rng.randint(3, 9)):
             points.append(self.vertex(rng.randint(-400, 400), rng.randint(-400, 400),
@@ -592,93 +480,71 @@ class Maker:
 # ---- the two parts
 
 
-def compare_rows(program, is_self, words, left_out, slow):
-    count = failed = 0
+def compare_rows(found, is_self, slow):
+    told = report.Report("rows")
     for row in worked.rows():
-        if row.is_slow and not slow or not is_wanted(row, words, left_out):
-            continue
-        count += 1
-        told = differences((row.status, row.out, row.err), run(program, row))
-        if told:
-            failed += 1
-            print(f"row: {row.title}\n  words: {row.words}", *told, sep="\n")
+        if slow or not row.is_slow:
+            told.add(f"row: {row.title}\n  words: {row.words}\n", differences((row.status, row.out, row.err), run(found, row)))
+            told.progress(told.passed + told.failed)
     for agreement in worked.agreements():
-        needed = {"demo", "threads", "nodes", "order"}
-        if agreement.is_slow and (is_self or not slow) or not needed <= words:
+        if agreement.is_slow and (is_self or not slow):
             continue
-        count += 1
-        answers = [run(program, worked.Row("", agreement.words + further, b""))
+        answers = [run(found, worked.Row("", agreement.words + further, b""))
                    for further in agreement.further]
-        if not answers[0][1].startswith(agreement.out) or len(set(answers)) > 1:
-            failed += 1
-            print(f"row: {agreement.title}\n  words: {agreement.words}", *answers, sep="\n  ")
-    print(f"rows: {count} compared, {failed} failed")
-    return failed == 0
+        is_right = answers[0].out.startswith(agreement.out) and len(set(answers)) == 1
+        told.add(f"row: {agreement.title}\n  words: {agreement.words}",
+                 None if is_right else "\n  ".join(map(str, answers)))
+    told.line(f"rows: {told.passed + told.failed} compared, {told.failed} failed")
+    return told.failed == 0
 
 
-def compare_random(program, count, seed, words, left_out, keep):
-    maker = Maker(random.Random(seed), words, left_out)
+def compare_random(found, count, seed, keep):
+    maker, told = Maker(random.Random(seed)), report.Report("scenes")
     statuses = {}
-    made = 0
     for number in range(count):
         row = maker.case(number)
-        if left_out and scene_features(row) & left_out:
-            continue
-        made += 1
         wanted = run_reference(row)
         statuses[wanted[0]] = statuses.get(wanted[0], 0) + 1
-        told = differences(wanted, run(program, row))
-        if told:
-            print(f"{row.title} of seed {seed}\n  words: {row.words}", *told, sep="\n")
+        fault = differences(wanted, run(found, row))
+        if not told.add(f"{row.title} of seed {seed}\n  words: {row.words}\n", fault):
             print(f"  scene: {row.scene!r}")
             for name, data in row.libraries.items():
                 print(f"  {name}: {data!r}")
             if keep:
-                os.makedirs(keep, exist_ok=True)
-                for name, data in [("scene.obj", row.scene), *row.libraries.items()]:
-                    with open(os.path.join(keep, name), "wb") as file:
-                        file.write(data)
+                write_row(row, keep)
             return False
+        told.progress(number + 1, count)
     shares = ", ".join(f"{statuses[status]} of status {status}" for status in sorted(statuses))
-    print(f"random: {made} scenes agree, {shares}")
+    told.line(f"random: {count} scenes agree, {shares}")
     return True
 
 
-def names_in(text, known):
-    names = {name for name in text.split(",") if name}
-    unknown = names - set(known)
-    if unknown:
-        raise argparse.ArgumentTypeError(f"unknown: {', '.join(sorted(unknown))}")
-    return names
+def write_row(row, folder):
+    os.makedirs(folder, exist_ok=True)
+    for name, data in [("scene.obj", row.scene), *row.libraries.items()]:
+        with open(os.path.join(folder, name), "wb") as file:
+            file.write(data)
 
 
 def main():
-    parser = argparse.ArgumentParser(description=__doc__,
-                                     formatter_class=argparse.RawDescriptionHelpFormatter)
-    parser.add_argument("program", nargs="?", help="the abuf program")
+    parser = report.words(__doc__)
     parser.add_argument("--self", action="store_true", dest="is_self",
                         help="compare the rows with the reference itself")
     parser.add_argument("--only", choices=["rows", "random"])
-    parser.add_argument("--words-subset", default=set(ALL_WORDS), metavar="LIST",
-                        type=lambda text: names_in(text, ALL_WORDS))
-    parser.add_argument("--without", default=set(), metavar="LIST",
-                        type=lambda text: names_in(text, ALL_SCENES))
-    parser.add_argument("--count", type=int, default=2000, help="random scenes (2000)")
-    parser.add_argument("--seed", type=int, default=1)
+    parser.add_argument("--cases", type=int, default=2000, metavar="N", help="random scenes (2000)")
+    parser.add_argument("--seed", type=int, default=1, metavar="S", help="decides the random scenes (1)")
     parser.add_argument("--slow", action="store_true", help="rows of long files and large scenes")
     parser.add_argument("--keep", metavar="FOLDER", help="write a scene that differs there")
+    program.add_option(parser)
     given = parser.parse_args()
-    if given.is_self == (given.program is not None):
-        parser.error("name a program, or say --self")
-    program = REFERENCE if given.is_self else [os.path.abspath(given.program)]
-    good = True
+    found = REFERENCE if given.is_self else program.find(given.abuf)
+    is_good = True
     if given.only != "random":
-        good = compare_rows(program, given.is_self, given.words_subset, given.without, given.slow)
+        is_good = compare_rows(found, given.is_self, given.slow)
     if given.only != "rows" and not given.is_self:
-        good &= compare_random(program, given.count, given.seed, given.words_subset,
-                               given.without, given.keep)
-    sys.exit(0 if good else 1)
+        is_good &= compare_random(found, given.cases, given.seed, given.keep)
+    return report.WELL if is_good else report.WRONG
 
 
 if __name__ == "__main__":
-    main()
+    report.end(main)

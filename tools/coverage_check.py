@@ -2,7 +2,9 @@
 """Checks the coverage of an abuf program on random triangles, many of whose edges run exactly
 through samples.
 
-    coverage_check.py PATH/TO/abuf [--edges 1000000] [--samples 1,2,4,8,16] [--seed 1] [--jobs 4]
+    coverage_check.py [--edges N] [--samples S,S] [--seed S] [--jobs J] [--abuf PATH]
+
+    coverage_check.py --edges 20000 --samples 4,8 --jobs 2
 
 What the program covers is compared with the rule in its other form, reckoned here: of a triangle in
 positive order, an edge from a to b accepts a sample where (E, ay - by, bx - ax) is
@@ -17,27 +19,17 @@ more from the image in 1/256 pixel, and it is looked at in one of two ways.
 - The report of one pixel, which tells the mask of each triangle there.
 
 The check goes on until the wanted number of samples, an equal share of each pattern, lay exactly on
-an outline, and says how many they were.
+an outline, and says how many they were. The status is 0, or 1 where a scene differs.
 """
 
-import argparse
 import multiprocessing
 import os
 import random
-import subprocess
-import sys
 import tempfile
 from dataclasses import dataclass
 
-# Offsets of the samples in 1/16 pixel from the pixel's centre, x to the right and y downwards.
-SAMPLES = {
-    1: [(0, 0)],
-    2: [(4, 4), (-4, -4)],
-    4: [(-2, -6), (6, -2), (-6, 2), (2, 6)],
-    8: [(1, -3), (-1, 3), (5, 1), (-3, -5), (-5, 5), (-7, -1), (3, 7), (7, -7)],
-    16: [(1, 1), (-1, -3), (-3, 2), (4, -1), (-5, -2), (2, 5), (5, 3), (3, -5),
-         (-2, 6), (0, -7), (-4, -6), (-6, 4), (-8, 0), (7, -4), (6, 7), (-7, -8)],
-}
+from abuflib import pam, program, report
+from reference import OFFSETS
 
 # The films of a channel add up without rounding as long as their sum is below 2048.
 FILM = 16
@@ -86,7 +78,7 @@ class Maker:
     width: int
     height: int
     offsets: list
-    pixel: tuple = None  # the pixel near which they lie, or None for the whole image
+    pixel: tuple | None = None  # the pixel near which they lie, or None for the whole image
 
     def sample(self):
         """A sample in the image or a little beside it, often at its sides."""
@@ -219,13 +211,12 @@ class Disagreement(Exception):
     pass
 
 
-def run(program, folder, words, scene):
-    done = subprocess.run([program] + words, input=scene, capture_output=True, cwd=folder,
-                          timeout=600)
-    if done.returncode != 0:
-        raise Disagreement(f"status {done.returncode} {done.stderr!r}\n  words: {words}\n"
+def run(found, folder, words, scene):
+    answer = found.run(words, scene, folder)
+    if answer.status != 0:
+        raise Disagreement(f"status {answer.status} {answer.err!r}\n  words: {words}\n"
                            f"  scene: {scene!r}")
-    return done.stdout
+    return answer.out
 
 
 def masks_of_report(report):
@@ -246,7 +237,7 @@ def count_outline(found, corners, on_outline):
         found.far_on_outline += on_outline
 
 
-def blame(program, folder, triangles, maker, samples, i, j):
+def blame(abuf, folder, triangles, maker, samples, i, j):
     """A text on the first of the triangles whose mask differs in this pixel when drawn alone."""
     words = words_of(["pick", f"{i},{j}"], maker.width, maker.height, samples, 8388608)
     for corners in triangles:
@@ -254,7 +245,7 @@ def blame(program, folder, triangles, maker, samples, i, j):
         edges = directed_edges(corners)
         places = places_of(maker.width, maker.height, maker.offsets, i, j)
         wanted = mask_at(edges, places)[0] if edges else 0
-        got = masks_of_report(run(program, folder, words, scene)).get(0, 0)
+        got = masks_of_report(run(abuf, folder, words, scene)).get(0, 0)
         if got != wanted:
             return (f"a triangle of its own differs: mask {got}, wanted {wanted}\n"
                     f"  words: {words}\n  scene: {scene!r}\n"
@@ -262,10 +253,10 @@ def blame(program, folder, triangles, maker, samples, i, j):
     return f"no triangle of its own differs\n  triangles: {triangles}"
 
 
-def check_image(program, folder, rng, samples):
+def check_image(abuf, folder, rng, samples):
     """Films over an image, compared by the number of covered samples in each pixel and channel."""
     width, height = rng.randint(1, 24), rng.choice([1, 2, 3, 4, 5, 7, 8, 9, 11, 12, 13, 16, 16, 17])
-    maker = Maker(rng, width, height, SAMPLES[samples])
+    maker = Maker(rng, width, height, OFFSETS[samples])
     triangles = [maker.triangle() for _ in range(3 * MOST_FILMS)]
     counts = [0] * (3 * width * height)
     found = Found(len(triangles) * samples * width * height, triangles=len(triangles))
@@ -283,25 +274,24 @@ def check_image(program, folder, rng, samples):
         count_outline(found, corners, total)
     words = words_of(["render"], width, height, samples, len(triangles) * width * height)
     scene = scene_of(triangles, height)
-    image = run(program, folder, words, scene)
-    header = f"P7\nWIDTH {width}\nHEIGHT {height}\nDEPTH 3\nMAXVAL 65535\nTUPLTYPE RGB\nENDHDR\n"
+    image = run(abuf, folder, words, scene)
     wanted = b"".join((count * FILM // samples).to_bytes(2, "big") for count in counts)
-    if image != header.encode() + wanted:
+    if image != pam.header(width, height, 65535) + wanted:
         values = image[-len(wanted):]
         at = next((n for n in range(len(wanted)) if values[n] != wanted[n]), 0) // 6
         found.fault = (f"pixel ({at % width}, {at // width}): "
-                       + blame(program, folder, triangles, maker, samples, at % width, at // width)
+                       + blame(abuf, folder, triangles, maker, samples, at % width, at // width)
                        + f"\n  words of all: {words}")
     return found
 
 
-def check_pixel(program, folder, rng, samples):
+def check_pixel(abuf, folder, rng, samples):
     """Triangles near one pixel, compared by their masks."""
     width, height = rng.choice([1, 2, 3, 9, 12]), rng.choice([1, 2, 3, 5, 8, 10])
     if rng.randrange(8) == 0:
         width, height = rng.choice([(4096, 1), (1, 4095), (333, 16)])
     pixel = tuple(rng.choice([0, rng.randrange(side), side - 1]) for side in (width, height))
-    maker = Maker(rng, width, height, SAMPLES[samples], pixel)
+    maker = Maker(rng, width, height, OFFSETS[samples], pixel)
     triangles = [maker.triangle() for _ in range(3000 if width * height < 1000 else 500)]
     found = Found(len(triangles) * samples, triangles=len(triangles))
     places = places_of(width, height, maker.offsets, *pixel)
@@ -314,22 +304,22 @@ def check_pixel(program, folder, rng, samples):
         count_outline(found, corners, on_outline)
     words = words_of(["pick", "{},{}".format(*pixel)], width, height, samples,
                      len(triangles) * width * height)
-    got = masks_of_report(run(program, folder, words, scene_of(triangles, height)))
+    got = masks_of_report(run(abuf, folder, words, scene_of(triangles, height)))
     if got != wanted:
         differing = [corners for number, corners in enumerate(triangles)
                      if got.get(number, 0) != wanted.get(number, 0)]
         found.fault = (f"pixel {pixel}, {len(differing)} triangles differ: "
-                       + blame(program, folder, differing, maker, samples, *pixel)
+                       + blame(abuf, folder, differing, maker, samples, *pixel)
                        + f"\n  words of all: {words}")
     return found
 
 
 def check_scene(task):
-    program, folder, samples, seed, number = task
+    abuf, folder, samples, seed, number = task
     rng = random.Random(f"{seed} {samples} {number}")
     check = check_image if number % 2 else check_pixel
     try:
-        found = check(program, folder, rng, samples)
+        found = check(abuf, folder, rng, samples)
     except Disagreement as disagreement:
         found = Found(fault=str(disagreement))
     if found.fault:
@@ -340,49 +330,63 @@ def check_scene(task):
 # ---- all scenes
 
 
-def check_pattern(pool, program, folder, samples, seed, wanted):
+def check_pattern(pool, abuf, folder, samples, seed, wanted):
     """Scenes of this pattern until so many samples lay on an outline, all told together."""
-    total = Found()
+    total, told = Found(), report.Report("scenes")
     number = 0
     while total.on_outline < wanted:
-        tasks = [(program, folder, samples, seed, number + i) for i in range(16)]
+        tasks = [(abuf, folder, samples, seed, number + i) for i in range(16)]
         number += len(tasks)
         for found in pool.imap(check_scene, tasks):
             if found.fault:
-                sys.exit(found.fault)
+                total.fault = found.fault
+                return total
             total.samples += found.samples
             total.triangles += found.triangles
             total.on_outline += found.on_outline
             total.far_on_outline += found.far_on_outline
-    print(f"{samples} samples a pixel: {number} scenes, {total.triangles} triangles and "
-          f"{total.samples} samples agree; {total.on_outline} samples lay exactly on an outline, "
-          f"{total.far_on_outline} of them on one that reaches 2^29", flush=True)
+        told.progress(number)
+    told.line(f"{samples} samples a pixel: {number} scenes, {total.triangles} triangles and "
+              f"{total.samples} samples agree; {total.on_outline} samples lay exactly on an outline, "
+              f"{total.far_on_outline} of them on one that reaches 2^29")
     return total
 
 
+def patterns_of(text):
+    patterns = [int(number) for number in text.split(",")]
+    if not set(patterns) <= set(OFFSETS):
+        raise ValueError
+    return patterns
+
+
 def main():
-    parser = argparse.ArgumentParser(description=__doc__,
-                                     formatter_class=argparse.RawDescriptionHelpFormatter)
-    parser.add_argument("program", help="the abuf program")
-    parser.add_argument("--edges", type=int, default=1000000,
+    parser = report.words(__doc__)
+    parser.add_argument("--edges", type=int, default=1000000, metavar="N",
                         help="samples on outlines to reach (1000000)")
-    parser.add_argument("--samples", default="1,2,4,8,16", help="samples a pixel (1,2,4,8,16)")
-    parser.add_argument("--seed", type=int, default=1)
-    parser.add_argument("--jobs", type=int, default=os.cpu_count(), help="processes at one time")
+    parser.add_argument("--samples", type=patterns_of, default=list(OFFSETS), metavar="S,S",
+                        help="samples a pixel (1,2,4,8,16)")
+    parser.add_argument("--seed", type=int, default=1, metavar="S", help="decides the scenes (1)")
+    parser.add_argument("--jobs", type=int, default=os.cpu_count(), metavar="J",
+                        help="processes at one time (one a processor)")
+    program.add_option(parser)
     given = parser.parse_args()
-    program = os.path.abspath(given.program)
-    patterns = [int(number) for number in given.samples.split(",")]
+    abuf = program.find(given.abuf)
+    totals = []
     with tempfile.TemporaryDirectory() as folder, multiprocessing.Pool(given.jobs) as pool:
         with open(os.path.join(folder, "films.mtl"), "w") as file:
             file.write(LIBRARY)
-        share = -(-given.edges // len(patterns))
-        totals = [check_pattern(pool, program, folder, samples, given.seed, share)
-                  for samples in patterns]
+        share = -(-given.edges // len(given.samples))
+        for samples in given.samples:
+            totals.append(check_pattern(pool, abuf, folder, samples, given.seed, share))
+            if totals[-1].fault:
+                print(totals[-1].fault)
+                return report.WRONG
     print(f"in all {sum(total.triangles for total in totals)} triangles and "
           f"{sum(total.samples for total in totals)} samples agree; "
           f"{sum(total.on_outline for total in totals)} samples lay exactly on an outline, "
           f"{sum(total.far_on_outline for total in totals)} of them on one that reaches 2^29")
+    return report.WELL
 
 
 if __name__ == "__main__":
-    main()
+    report.end(main)

@@ -1,7 +1,9 @@
 #!/usr/bin/env python3
 """Runs abuf on random and broken words, scenes, libraries and paths, and looks at what it answers.
 
-    fuzz.py [--cases N] [--seed S] [--seconds T] [--jobs J] [--program PATH]
+    fuzz.py [--cases N] [--seed S] [--seconds T] [--jobs J] [--abuf PATH]
+
+    fuzz.py --cases 500 --seed 3 --jobs 2
 
 Each case is run with 1, 3 and 64 threads, and some once more with little memory. It fails where
 
@@ -21,25 +23,21 @@ and the number of a case decide it: --seed S --first N --cases 1 makes and runs 
 is 1 where a case failed.
 """
 
-import argparse
 import collections
 import multiprocessing
 import os
 import random
 import re
-import resource
-import subprocess
 import sys
 import tempfile
 import time
 from typing import NamedTuple
 
-sys.path.insert(0, os.path.dirname(os.path.abspath(__file__)))
-import fuzz_cases  # noqa: E402
-import reference  # noqa: E402
+import fuzz_cases
+import reference
+from abuflib import pam, program, report
+from abuflib.report import Fault
 
-TOP = os.path.dirname(os.path.dirname(os.path.abspath(__file__)))
-PROGRAM = os.path.join(TOP, "crates", "abuf", "out", "abuf")
 THREADS = (1, 3, 64)
 USUAL_CASES = 2000
 MOST_FAILED = 20  # of one job, which then ends
@@ -69,13 +67,6 @@ class Run(NamedTuple):
     memory: object  # at most so many KiB; None for all that there is
 
 
-class Answer(NamedTuple):
-    status: object  # None where the run didn't end in time
-    out: bytes
-    err: bytes
-
-
-
 
 # ---- running
 
@@ -90,28 +81,17 @@ def runs_of(case, given):
 
 def answer_of(run, given):
     """The answer of a run in the working folder, with the scene that is there."""
-    def limit():
-        resource.setrlimit(resource.RLIMIT_AS, (1024 * run.memory, 1024 * run.memory))
-
     with open("scene.obj", "rb") as scene:
-        try:
-            done = subprocess.run([given.program, *run.words], stdin=scene, stdout=subprocess.PIPE,
-                                  stderr=subprocess.PIPE, timeout=given.limit,
-                                  preexec_fn=limit if run.memory is not None else None)
-        except subprocess.TimeoutExpired:
-            return Answer(None, b"", b"")
-    return Answer(done.returncode, done.stdout, done.stderr)
+        return given.program.run(run.words, scene, limit=given.limit, memory=run.memory)
 
 
-def least_memory(program):
+def least_memory(abuf):
     """The fewest KiB, nearly, with which the program gets as far as to refuse that it has no words.
     With fewer the system may not even start it."""
     for memory in range(1024, 1048576, 32):
-        done = subprocess.run(["sh", "-c", f'ulimit -v {memory}; exec "$0"', program],
-                              stdout=subprocess.DEVNULL, stderr=subprocess.DEVNULL)
-        if done.returncode == 2:
+        if program.Program(("sh", "-c", f'ulimit -v {memory}; exec "$0"', abuf.path)).run([]).status == 2:
             return memory
-    sys.exit(f"fuzz: {program} without words doesn't end in status 2")
+    raise Fault(f"{abuf.path} without words doesn't end in status 2")
 
 
 def write_case(case):
@@ -209,13 +189,13 @@ def fault_of_output(out, job, images):
 
 def length_of_image(job):
     """The bytes of an image."""
-    header, _ = reference.image_of(job, [])
+    header = pam.header(job.width, job.height, job.maxval)
     return len(header) + job.width * job.height * 3 * (1 if job.maxval == 255 else 2)
 
 
 def fault_of_images(out, job, images):
     """What isn't whole in so many images, joined, or None."""
-    header, _ = reference.image_of(job, [])
+    header = pam.header(job.width, job.height, job.maxval)
     length = length_of_image(job)
     if len(out) != images * length:
         return f"{len(out)} bytes, and not {images} images of {length}"
@@ -308,9 +288,9 @@ def keep(case, number, given):
     os.chdir(folder)
     write_case(case)
     with open("again", "wb") as file:
-        file.write(b'cd "$(dirname "$0")"\n')
+        file.write(b'cd "$(dirname "$0")"\nexport GLIBC_TUNABLES=\n')
         for place, run in enumerate(runs_of(case, given)):
-            words = b" ".join(map(quoted, [os.fsencode(given.program), *run.words]))
+            words = b" ".join(map(quoted, [os.fsencode(given.program.path), *run.words]))
             limit = b"ulimit -v %d; " % run.memory if run.memory is not None else b""
             file.write(b"(%b%b < scene.obj > out.%d)\n" % (limit, words, place))
             file.write(b'echo "status $?"; cksum < out.%d\n' % place)
@@ -341,10 +321,7 @@ def work(given, first, deadline):
 
 
 def main():
-    parser = argparse.ArgumentParser(description=__doc__,
-                                     formatter_class=argparse.RawDescriptionHelpFormatter)
-    parser.add_argument("--program", default=PROGRAM, metavar="PATH",
-                        help="the program (crates/abuf/out/abuf below the top)")
+    parser = report.words(__doc__)
     parser.add_argument("--cases", type=int, metavar="N",
                         help=f"how many cases ({USUAL_CASES}, or as --seconds says)")
     parser.add_argument("--seconds", type=float, metavar="T", help="no case begins after this time")
@@ -356,10 +333,9 @@ def main():
                         help="the most seconds that a run may take (60)")
     parser.add_argument("--keep", default=os.path.join(tempfile.gettempdir(), "abuf-fuzz"),
                         metavar="FOLDER", help="where cases that fail are kept")
+    program.add_option(parser)
     given = parser.parse_args()
-    given.program, given.keep = os.path.abspath(given.program), os.path.abspath(given.keep)
-    if not os.access(given.program, os.X_OK):
-        parser.error(f"there is no program {given.program}; ./abuf builds it")
+    given.program, given.keep = program.find(given.abuf), os.path.abspath(given.keep)
     if given.cases is None and given.seconds is None:
         given.cases = USUAL_CASES
     given.least_memory = least_memory(given.program)
@@ -374,8 +350,8 @@ def main():
     shares = "".join(f", {statuses[key]} of status {key}" for key in sorted(statuses, key=str))
     seconds = time.monotonic() - start
     print(f"fuzz: {sum(statuses.values())} cases in {seconds:.0f} s{shares}; {failed} failed")
-    sys.exit(1 if failed else 0)
+    return report.WRONG if failed else report.WELL
 
 
 if __name__ == "__main__":
-    main()
+    report.end(main)

@@ -7,8 +7,9 @@ import os
 import random
 from dataclasses import dataclass
 
-EXAMPLES = os.path.join(os.path.dirname(os.path.dirname(os.path.abspath(__file__))), "examples")
-MOST_BYTES = 67108864
+from abuflib.program import EXAMPLES
+from abuflib.scene import MOST_BYTES
+
 FARTHEST = 32767.9999
 
 

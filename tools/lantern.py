@@ -3,6 +3,8 @@
 
     lantern.py FOLDER       writes lantern.obj and lantern.mtl there, the same bytes each time
 
+    lantern.py examples
+
 An image has no lighting, so what looks like light is glass too. The glow of the flame and the pool
 of light on the table are stacks of discs that are nearly clear. The light that falls through a pane
 is a film of the pane's colour on the table, where the rays from the flame through the pane end. The
@@ -11,9 +13,10 @@ iron and the wax have a few shades each, by the way that their faces look.
 The model is kept small: bars have no inner faces, and the flame is flat and looks to the camera.
 """
 
-import argparse
 import math
 import os
+
+from abuflib import report
 
 WORDS = ("abuf render --size 320x240 --samples 8 --background 0.04,0.045,0.09"
          " --turn=8,1,0,0 --move=0,0.36,-8.6 --focal 2.7")
@@ -310,9 +313,8 @@ def library():
 
 
 def main():
-    parser = argparse.ArgumentParser(description=__doc__,
-                                     formatter_class=argparse.RawDescriptionHelpFormatter)
-    parser.add_argument("folder", help="where the two files go")
+    parser = report.words(__doc__)
+    parser.add_argument("folder", metavar="FOLDER", help="where the two files go")
     folder = parser.parse_args().folder
     text, triangles = lantern()
     for name, data in (("lantern.obj", text), ("lantern.mtl", library())):
@@ -322,4 +324,4 @@ def main():
 
 
 if __name__ == "__main__":
-    main()
+    report.end(main)

@@ -1,7 +1,9 @@
 #!/usr/bin/env python3
 """Runs abuf where the outside is odd, and checks its status, its output and its text.
 
-    outside.py [--program PATH]
+    outside.py [--abuf PATH]
+
+    outside.py --abuf /usr/local/libexec/abuf
 
 Standard input, output or error is closed, full or a folder; a reader goes away; a library is a
 device, a pipe, a folder or no name at all; memory, stacks, files or time are limited. Each check is
@@ -18,7 +20,6 @@ name; 'unblock N' lets no read or write of a descriptor wait. A line that doesn'
 The status is 1 where a check failed.
 """
 
-import argparse
 import functools
 import os
 import signal
@@ -27,11 +28,9 @@ import sys
 import tempfile
 from dataclasses import dataclass
 
-sys.path.insert(0, os.path.dirname(os.path.abspath(__file__)))
-import reference  # noqa: E402
+import reference
+from abuflib import program, report
 
-TOP = os.path.dirname(os.path.dirname(os.path.abspath(__file__)))
-PROGRAM = os.path.join(TOP, "crates", "abuf", "out", "abuf")
 SECONDS = 60
 
 SHELL = """
@@ -55,10 +54,10 @@ class Check:
     status: int
     text: str = ""  # on standard error, where the line leaves it
     out: str = NOTHING
-    library: bytes = None  # its name in the scene
+    library: bytes | None = None  # its name in the scene
     is_short: bool = False  # of memory: status 8 is well too
     size: str = "4x4"  # of the images of a sequence
-    part: int = None  # how many bytes of the images of the sequence come, in place of the output
+    part: int | None = None  # how many bytes of the images of the sequence come, in place of the output
 
 
 # ---- the checks
@@ -309,14 +308,14 @@ def prepare(check, folder):
             file.write(data)
 
 
-def run(check, program, folder):
+def run(check, path, folder):
     """The status, output and text of a line; the status is None where it didn't end."""
     out_path, err_path, status_path = (os.path.join(folder, n) for n in ("out", "err", "status"))
     with open(out_path, "wb") as out, open(err_path, "wb") as err:
         shell = subprocess.Popen(["sh", "-c", SHELL + check.line], cwd=folder,
                                  stdin=subprocess.DEVNULL, stdout=out, stderr=err,
                                  start_new_session=True,
-                                 env={**os.environ, "program": program, "python": sys.executable})
+                                 env=program.environment(program=path, python=sys.executable))
         try:
             shell.wait(SECONDS)
         except subprocess.TimeoutExpired:
@@ -353,26 +352,18 @@ def short(found):
 
 
 def main():
-    parser = argparse.ArgumentParser(description=__doc__,
-                                     formatter_class=argparse.RawDescriptionHelpFormatter)
-    parser.add_argument("--program", default=PROGRAM, metavar="PATH",
-                        help="the program (crates/abuf/out/abuf below the top)")
-    program = os.path.abspath(parser.parse_args().program)
-    if not os.access(program, os.X_OK):
-        parser.error(f"there is no program {program}; ./abuf builds it")
-    count = failed = 0
+    parser = report.words(__doc__)
+    program.add_option(parser)
+    path = program.find(parser.parse_args().abuf).path
+    told = report.Report()
     for check in checks():
-        count += 1
         with tempfile.TemporaryDirectory() as folder:
             folder = os.path.realpath(folder)
             prepare(check, folder)
-            fault = fault_of(check, run(check, program, folder))
-        if fault is not None:
-            failed += 1
-            print(f"{check.title}: {check.line}\n    {fault}", flush=True)
-    print(f"outside: {count} checks, {failed} failed")
-    sys.exit(1 if failed else 0)
+            told.add(f"{check.title}: {check.line}\n   ", fault_of(check, run(check, path, folder)))
+        told.progress(told.passed + told.failed)
+    return told.conclude()
 
 
 if __name__ == "__main__":
-    main()
+    report.end(main)

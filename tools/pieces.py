@@ -1,7 +1,9 @@
 #!/usr/bin/env python3
 """Shows that a path in pieces gives the bytes of the whole, also where pieces fail.
 
-    pieces.py [--program PATH]
+    pieces.py [--abuf PATH]
+
+    pieces.py --abuf crates/abuf/out/abuf
 
 The lantern's path is drawn whole, and in pieces of 1, 5 and 36 images by the scripts of examples/many,
 four pieces at a time on several numbers of threads. Then it is drawn in pieces of 5 images with a
@@ -14,17 +16,15 @@ The status is 0 where all is as it must be, and 1 otherwise. tools/reference.py 
 compared is the program's own.
 """
 
-import argparse
 import os
 import shutil
 import subprocess
-import sys
 import tempfile
 from concurrent.futures import ThreadPoolExecutor
 
-TOP = os.path.dirname(os.path.dirname(os.path.abspath(__file__)))
-PROGRAM = os.path.join(TOP, "crates", "abuf", "out", "abuf")
-EXAMPLES = os.path.join(TOP, "examples")
+from abuflib import program, report
+from abuflib.program import EXAMPLES
+
 MANY = os.path.join(EXAMPLES, "many")
 WORDS = ["--size", "80x60", "--samples", "4", "--focal", "2.7"]
 
@@ -51,24 +51,23 @@ exec "$PROGRAM" "$@"
 class Shower:
     """The folder with the scene, the program, and whether everything was as it must be."""
 
-    def __init__(self, program, folder):
+    def __init__(self, path, folder):
         self.folder = folder
-        self.program = program
-        self.is_right = True
+        self.program = path
+        self.report = report.Report(is_quiet=False)
         for name in ("lantern.obj", "lantern.mtl", "lantern.path"):
             shutil.copy(os.path.join(EXAMPLES, name), folder)
         self.failing = os.path.join(folder, "failing")
         with open(self.failing, "w") as file:
             file.write(FAILING)
         os.chmod(self.failing, 0o755)
-        self.whole = self.run(program, "sequence", "lantern.path", *WORDS, scene=True).stdout
+        self.whole = self.run(path, "sequence", "lantern.path", *WORDS, scene=True).stdout
 
     def tell(self, title, is_right, more=""):
-        self.is_right &= is_right
-        print(f"{'' if is_right else 'WRONG '}{title}{more}", flush=True)
+        self.report.add(title, None if is_right else more or "not as it must be", more)
 
     def run(self, *words, scene=False, **variables):
-        variables = {**os.environ, "PROGRAM": self.program, "ABUF": self.program, **variables}
+        variables = program.environment(**{"PROGRAM": self.program, "ABUF": self.program, **variables})
         with open(os.path.join(self.folder, "lantern.obj") if scene else os.devnull, "rb") as given:
             return subprocess.run(words, stdin=given, capture_output=True, cwd=self.folder,
                                   env=variables)
@@ -101,7 +100,7 @@ class Shower:
 
 
 def show(shower):
-    shower.tell("the whole", len(shower.whole) > 0, f": {len(shower.whole)} bytes")
+    shower.tell("the whole", len(shower.whole) > 0, f"{len(shower.whole)} bytes")
     for images in (1, 5, 36):
         shower.cut(images)
         shower.tell(f"pieces of {images}", set(shower.draw()) == {0} and shower.is_whole())
@@ -110,7 +109,7 @@ def show(shower):
     shower.tell("three tries", set(statuses) == {0} and shower.is_whole())
     shower.cut(5)
     statuses = shower.draw(ABUF=shower.failing, TRIES="1")
-    shower.tell("one try", statuses == [0, 137, 0, 0, 137, 0, 8, 0], f": {statuses}")
+    shower.tell("one try", statuses == [0, 137, 0, 0, 137, 0, 8, 0], f"{statuses}")
     missing = shower.script("join.py", "--missing", "pieces")
     shower.tell("what is missing", (missing.returncode, missing.stdout) == (1, b"2,5,7\n"))
     left = [name for name in os.listdir(os.path.join(shower.folder, "pieces")) if ".pam." in name]
@@ -129,19 +128,14 @@ def show(shower):
 
 
 def main():
-    ask = argparse.ArgumentParser(description=__doc__,
-                                  formatter_class=argparse.RawDescriptionHelpFormatter)
-    ask.add_argument("--program", default=PROGRAM,
-                     help="the program (that of this checkout, which ./abuf builds)")
-    program = os.path.abspath(ask.parse_args().program)
-    if not os.access(program, os.X_OK):
-        ask.error(f"there is no program {program}; ./abuf builds it")
+    parser = report.words(__doc__)
+    program.add_option(parser)
+    path = program.find(parser.parse_args().abuf).path
     with tempfile.TemporaryDirectory() as folder:
-        shower = Shower(program, folder)
+        shower = Shower(path, folder)
         show(shower)
-    print("all as it must be" if shower.is_right else "NOT all as it must be")
-    sys.exit(0 if shower.is_right else 1)
+    return shower.report.conclude()
 
 
 if __name__ == "__main__":
-    main()
+    report.end(main)

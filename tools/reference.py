@@ -3,33 +3,28 @@
 
     reference.py WORDS.. < scene.obj > image.pam
 
-This program is an outside check of abuf. It takes the same words, reads the
-same files from the working folder, and ends with the same status, output and
-message. It shares no code with abuf and has none of its machinery: no lists of
-fragments, no pool of nodes, no threads and no tiles. Each sample of each pixel
-asks every primitive by itself whether it covers the sample; those that do are
-put in order by their depth there and folded over the background. It is slow,
-and made to be read.
+    reference.py render --size 40x30 --samples 4 < crossing.obj > crossing.pam
 
-Words that read are taken and --threads has no effect; --nodes, --bands and --peel only decide
-whether the scene is refused. Whole numbers are exact throughout.
+This program is an outside check of abuf. It takes the same words, reads the same files from the
+working folder, and ends with the same status, output and message. So it has no --help, as abuf has
+none. It shares no code with abuf and has none of its machinery: no lists of fragments, no pool of
+nodes, no threads and no tiles. Each sample of each pixel asks every primitive by itself whether it
+covers the sample; those that do are put in order by their depth there and folded over the
+background. It is slow, and made to be read. Numbers and lines are those of abuflib/scene.py.
+
+--threads has no effect; --nodes, --bands and --peel only decide whether the scene is refused. Whole
+numbers are exact throughout.
 """
 
-import io
 import os
 import re
 import sys
 from dataclasses import dataclass, field, replace
 
-MOST_BYTES = 67108864
-MOST_POINTS = 1048576
-MOST_TRIANGLES = 1048576
-MOST_ELEMENTS = 1024
-MOST_LIBRARIES = 16
-MOST_MATERIALS = 4096
-MOST_PATH_BYTES = 1048576
-MOST_SHOTS = 4096
-FARTHEST = 2147483647
+from abuflib.scene import (ELEMENT, FARTHEST, MOST_BYTES, MOST_ELEMENTS, MOST_IMAGES, MOST_LIBRARIES, MOST_MATERIALS,
+                           MOST_NODES, MOST_PATH_BYTES, MOST_PIXELS, MOST_POINTS, MOST_SIDE, MOST_TRIANGLES, MOST_TURN,
+                           is_keyword, lines, round_div, scaled)
+
 NEAREST_KEY = 16777215
 
 
@@ -55,76 +50,18 @@ def floor_div(n, m):
     return n // m
 
 
-def round_div(n, m):
-    """n / m rounded to the nearest whole number, halves away from zero, for m above 0."""
-    return (2 * n + m) // (2 * m) if n >= 0 else -((-2 * n + m) // (2 * m))
-
-
 def held(n, low, high):
     return max(low, min(high, n))
 
 
-NUMBER = re.compile(rb"([+-]?)([0-9]+\.?[0-9]*|\.[0-9]+)(?:[eE]([+-]?)([0-9]+))?")
-
-
-def scaled(text, k):
-    """The whole number nearest to k times the decimal number, or None where there is none."""
-    match = NUMBER.fullmatch(text)
-    if match is None:
-        return None
-    sign, digits, exponent_sign, exponent = match.groups()
-    before, _, after = digits.partition(b".")
-    if len(before + after) > 30 or len(exponent or b"") > 3:
-        return None
-    places = int(exponent or b"0") * (-1 if exponent_sign == b"-" else 1) - len(after)
-    value = int(before + after) * (-1 if sign == b"-" else 1)
-    result = round_div(value * k * 10 ** max(places, 0), 10 ** max(-places, 0))
-    return result if -FARTHEST <= result <= FARTHEST else None
-
-
-# ---- lines and tokens, of scenes, libraries and paths
-
-
-@dataclass
-class Line:
-    number: int
-    keyword: bytes
-    arguments: list  # the tokens after the keyword, up to one that begins with '#'
-    rest: bytes  # all after the keyword, without blanks at both ends
-
-
-BLANKS = b" \t\r"
-
-
-def lines(data):
-    """The lines that aren't blank. LF ends a line; a token is a run of other bytes than blanks."""
-    for number, line in enumerate(io.BytesIO(data), 1):
-        text = line.rstrip(b"\n").strip(BLANKS)
-        if not text or text.startswith(b"#"):
-            continue
-        tokens = [token for token in re.split(rb"[ \t\r]+", text) if token]
-        arguments = []
-        for token in tokens[1:]:
-            if token.startswith(b"#"):
-                break
-            arguments.append(token)
-        yield Line(number, tokens[0], arguments, text[len(tokens[0]):].strip(BLANKS))
-
-
 # ---- the scene
-
-
-REFUSED_KEYWORDS = set(
-    b"cstype deg bmat step curv curv2 surf parm trim hole scrv sp end con call".split()
-)
-ELEMENT = re.compile(rb"(-?[0-9]{1,10})(?:/(?:-?[0-9]{1,10})?(?:/(?:-?[0-9]{1,10})?)?)?")
 
 
 @dataclass
 class Face:
     line: int
     corners: list  # places in the list of points
-    name: object  # the name that the nearest usemtl line above gives, or None
+    name: bytes | None  # the name that the nearest usemtl line above gives, or None
 
 
 @dataclass
@@ -184,7 +121,7 @@ def read_obj(data):
                 if len(libraries) == MOST_LIBRARIES:
                     refuse(line.number, "too many libraries")
                 libraries.append(line.rest)
-        elif line.keyword in REFUSED_KEYWORDS or not all(33 <= b <= 126 for b in line.keyword):
+        elif not is_keyword(line.keyword):
             refuse(line.number, "unknown keyword")
     for face in beyond:
         if max(face.corners) >= len(points):
@@ -295,7 +232,7 @@ def read_path(data):
         shift = tuple(scaled(token, 65536) for token in tokens[4:])
         if None in shift:
             refuse(line.number, "bad number")
-        if len(shots) == MOST_SHOTS:
+        if len(shots) == MOST_IMAGES:
             refuse(line.number, "too many images")
         shots.append(Shot(turn, shift))
     return shots
@@ -326,11 +263,11 @@ class Job:
     near: int = 8192
     background: tuple = (0, 0, 0)
     maxval: int = 255
-    bands: int = None
+    bands: int | None = None
     peel: bool = False
-    path: bytes = None
-    at: tuple = None
-    number: int = None
+    path: bytes | None = None
+    at: tuple | None = None
+    number: int | None = None
 
 
 OPTIONS = ["size", "samples", "threads", "nodes", "turn", "move", "focal", "near",
@@ -401,7 +338,7 @@ def several(text, divider, count, read):
 
 
 def turn_part(text):
-    if not re.fullmatch(r"-?[0-9]{1,4}", text) or not -1024 <= int(text) <= 1024:
+    if not re.fullmatch(r"-?[0-9]{1,4}", text) or not -MOST_TURN <= int(text) <= MOST_TURN:
         return None
     return int(text)
 
@@ -443,8 +380,8 @@ def job_of(words):
         return value
 
     def size(text):
-        sides = several(text, "x", 2, lambda side: whole(side, 4, 1, 4096))
-        return sides if sides and sides[0] * sides[1] <= 4194304 else None
+        sides = several(text, "x", 2, lambda side: whole(side, 4, 1, MOST_SIDE))
+        return sides if sides and sides[0] * sides[1] <= MOST_PIXELS else None
 
     def turn(text):
         parts = several(text, ",", 4, turn_part)
@@ -459,7 +396,7 @@ def job_of(words):
     job.width, job.height = take("size", size) or (job.width, job.height)
     job.samples = take("samples", number_of_samples) or job.samples
     take("threads", lambda text: whole(text, 2, 1, 64))
-    job.nodes = take("nodes", lambda text: whole(text, 7, 1, 8388608)) or job.nodes
+    job.nodes = take("nodes", lambda text: whole(text, 7, 1, MOST_NODES)) or job.nodes
     job.turn = take("turn", turn) or job.turn
     job.shift = take("move", lambda text: several(text, ",", 3, number_by(65536))) or job.shift
     job.focal = take("focal", number_by(65536, 1, 1048576)) or job.focal
@@ -700,7 +637,7 @@ class Drawn:
     values: list = field(default_factory=list)
     totals: list = field(default_factory=list)  # the fragments of each row
     longest: int = 0
-    report: bytes = None  # of the pixel that is picked
+    report: bytes | None = None  # of the pixel that is picked
 
     @property
     def total(self):

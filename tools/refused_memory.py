@@ -1,7 +1,9 @@
 #!/usr/bin/env python3
 """Refuses each allocation of abuf in turn, and lets each of its reads and writes fail or be short.
 
-    refused_memory.py [--program PATH] [CRATE..]
+    refused_memory.py [--abuf PATH] [CRATE..]
+
+    refused_memory.py abuf_mtl abuf_cli
 
 A run refuses one call, the first, the second and so on, until a run has no such call any more. A
 run of the program ends well where it writes nothing and ends in status 8, or where it gives the
@@ -19,7 +21,6 @@ which refuses the calls, is built with the compiler CC, or cc. The status is 1 w
 end well, and 2 where something is missing.
 """
 
-import argparse
 import collections
 import os
 import re
@@ -27,19 +28,16 @@ import shlex
 import shutil
 import struct
 import subprocess
-import sys
 import tempfile
 from dataclasses import dataclass, field
 
-HERE = os.path.dirname(os.path.abspath(__file__))
-TOP = os.path.dirname(HERE)
-sys.path.insert(0, HERE)
-import reference  # noqa: E402
+import reference
+from abuflib import program, report
+from abuflib.program import EXAMPLES, TOOLS, TOP
+from abuflib.report import Fault
 
 NO_MEMORY = re.compile(rb"error: (NoMemory|Memory|Alloc[A-Za-z]*)\b")  # a test's failure
 CRATES = os.path.join(TOP, "crates")
-PROGRAM = os.path.join(CRATES, "abuf", "out", "abuf")
-EXAMPLES = os.path.join(TOP, "examples")
 IN_TESTS = "memory refused to a test"
 SECONDS = 60
 MOST_CALLS = 5000
@@ -59,12 +57,7 @@ class Case:
     shows: str
     scene: bytes = b""
     libraries: dict = field(default_factory=dict)
-    image: int = None  # the bytes of each image of a sequence
-
-
-def missing(text):
-    print(f"refused_memory: {text}", file=sys.stderr)
-    sys.exit(2)
+    image: int | None = None  # the bytes of each image of a sequence
 
 
 def example(name):
@@ -105,26 +98,23 @@ class Refuser:
         self.count = os.path.join(folder, "count")
         compiler = shlex.split(os.environ.get("CC", "cc"))
         if shutil.which(compiler[0]) is None:
-            missing(f"there is no compiler {compiler[0]}")
-        subprocess.run([*compiler, "-shared", "-fPIC", "-O1", "-o", self.library,
-                        os.path.join(HERE, "refusals.c")], check=True)
+            raise Fault(f"there is no compiler {compiler[0]}: install Debian's package gcc, or set CC")
+        program.run_tool([*compiler, "-shared", "-fPIC", "-O1", "-o", self.library, os.path.join(TOOLS, "refusals.c")])
 
     def run(self, words, kind, call, folder):
         """The status, output and text in the folder, where the scene is, and how many calls of the
         kind there were."""
         with open(self.count, "wb") as file:
             file.write(bytes(8))
-        environment = {**os.environ, "LD_PRELOAD": self.library, "REFUSED_KIND": kind,
-                       "REFUSED_CALL": str(call), "REFUSED_COUNT": self.count}
+        preloaded = program.Program((words[0],), variables={
+            "LD_PRELOAD": self.library, "REFUSED_KIND": kind, "REFUSED_CALL": str(call), "REFUSED_COUNT": self.count})
         with open(os.path.join(folder, "scene.obj"), "rb") as scene:
-            try:
-                done = subprocess.run(words, env=environment, cwd=folder, stdin=scene,
-                                      capture_output=True, timeout=SECONDS)
-            except subprocess.TimeoutExpired:
-                return (None, b"", b""), call
+            answer = preloaded.run(words[1:], scene, folder, SECONDS)
+        if answer.status is None:
+            return answer, call
         with open(self.count, "rb") as file:
             count, = struct.unpack("=Q", file.read())
-        return (done.returncode, done.stdout, done.stderr), count
+        return answer, count
 
     def each(self, words, kind, folder):
         """The answers with the first, the second and so on of the calls refused."""
@@ -133,7 +123,7 @@ class Refuser:
             if count < call:
                 return
             yield call, answer
-        sys.exit(f"refused_memory: {words} has more than {MOST_CALLS} calls")
+        raise Fault(f"{words} has more than {MOST_CALLS} calls")
 
 
 def may_be_written(out, own, image):
@@ -177,7 +167,7 @@ def write_case(case, folder):
             file.write(data)
 
 
-def run_case(refuser, program, case):
+def run_case(refuser, path, case):
     """For each kind of call how the runs ended."""
     words = case.words.split()
     own = reference.answer(words, lambda most: case.scene[:most],
@@ -186,7 +176,7 @@ def run_case(refuser, program, case):
         write_case(case, folder)
         for kind, title in KINDS.items():
             ends = collections.Counter()
-            for call, answer in refuser.each([program, *words], kind, folder):
+            for call, answer in refuser.each([path, *words], kind, folder):
                 end = ended(answer, own, kind, case.image)
                 ends[end] += 1
                 if end is None:
@@ -198,7 +188,7 @@ def run_tests(refuser, crate):
     """For each test of the crate how its runs ended."""
     tests = os.path.join(CRATES, crate, "out", f"{crate}_tests")
     if not os.access(tests, os.X_OK):
-        missing(f"there is no {tests}; 'rt test' in crates/{crate} builds it")
+        raise Fault(f"there is no {tests}; 'rt test' in crates/{crate} builds it")
     listed = subprocess.run([tests, "--list"], capture_output=True, text=True, check=True).stdout
     for name in re.findall(r"(?m)^(\S*refused_memory\S*): test$", listed):
         ends = collections.Counter()
@@ -219,22 +209,18 @@ def tell(title, ends):
 
 
 def main():
-    parser = argparse.ArgumentParser(description=__doc__,
-                                     formatter_class=argparse.RawDescriptionHelpFormatter)
-    parser.add_argument("--program", default=PROGRAM, metavar="PATH",
-                        help="the program (crates/abuf/out/abuf below the top)")
+    parser = report.words(__doc__)
+    program.add_option(parser)
     parser.add_argument("crates", nargs="*", metavar="CRATE", help="crates with tests of this")
     given = parser.parse_args()
-    program = os.path.abspath(given.program)
-    if not os.access(program, os.X_OK):
-        parser.error(f"there is no program {program}; ./abuf builds it")
+    path = program.find(given.abuf).path
     totals = collections.defaultdict(collections.Counter)
     print(f"{'':<27}{'runs':>6}" + "".join(f"{end or 'WRONG':>10}" for end in ENDS))
     with tempfile.TemporaryDirectory() as folder:
         refuser = Refuser(folder)
         for case in cases():
             print(", ".join(filter(None, (case.words, case.shows))))
-            for title, ends in run_case(refuser, program, case):
+            for title, ends in run_case(refuser, path, case):
                 tell(title, ends)
                 totals[title] += ends
         for crate in given.crates:
@@ -245,8 +231,8 @@ def main():
     print("all")
     for title, ends in totals.items():
         tell(title, ends)
-    sys.exit(1 if any(ends[None] for ends in totals.values()) else 0)
+    return report.WRONG if any(ends[None] for ends in totals.values()) else report.WELL
 
 
 if __name__ == "__main__":
-    main()
+    report.end(main)

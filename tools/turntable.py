@@ -1,7 +1,7 @@
 #!/usr/bin/env python3
 """Writes the path of a camera that goes once round a scene, for abuf sequence.
 
-    turntable.py [OPTIONS] > scene.path
+    turntable.py [--images N] [--tilt A,B] [--move X,Y,Z] [--note TEXT] > scene.path
 
 The scene turns about its vertical axis, y, by equal steps. --tilt A,B tilts it besides as the turn
 A,B,0,0 does, so that the camera looks down on it, and --move is the shift of every shot, as in abuf.
@@ -17,8 +17,8 @@ import argparse
 import math
 import sys
 
-LARGEST = 1024  # part of a turn
-MOST_IMAGES = 4096
+from abuflib import report
+from abuflib.scene import MOST_IMAGES, MOST_TURN as LARGEST
 
 
 def nearest(angle, largest):
@@ -51,8 +51,8 @@ def path(images, tilt, shift, note):
 
 
 def tilt_of(text):
-    parts = [int(part) for part in text.split(",")]
-    if len(parts) != 2 or not any(parts) or max(map(abs, parts)) > LARGEST:
+    parts = [int(part) for part in text.split(",") if part.lstrip("-").isdecimal()]
+    if text.count(",") != 1 or len(parts) != 2 or not any(parts) or max(map(abs, parts)) > LARGEST:
         raise argparse.ArgumentTypeError(f"two whole numbers up to {LARGEST}, not {text}")
     return parts
 
@@ -65,8 +65,7 @@ def shift_of(text):
 
 
 def main():
-    parser = argparse.ArgumentParser(description=__doc__,
-                                     formatter_class=argparse.RawDescriptionHelpFormatter)
+    parser = report.words(__doc__)
     parser.add_argument("--images", type=int, default=36, metavar="N",
                         help="images of the turn (36)")
     parser.add_argument("--tilt", type=tilt_of, default=[1, 0], metavar="A,B",
@@ -81,4 +80,4 @@ def main():
 
 
 if __name__ == "__main__":
-    main()
+    report.end(main)

@@ -3,16 +3,20 @@
 
     wrong_bodies.py LOG [LOG..]     the logs of `rt ci` or of `rt must-fail`, in which each edit was tried
 
+    rt ci > /tmp/ci.log 2>&1; wrong_bodies.py /tmp/ci.log
+
 An edit is told by its name, the line that it changes, and the contract that refuses it: the function, and the clause or the
-goal of its proof that the edited body leaves open. An edit that no log has ends the script in status 1.
+goal of its proof that the edited body leaves open. Where no log has an edit, nothing is written and the status is 2.
 """
 
 import glob
 import os
 import re
-import sys
 
-TOP = os.path.dirname(os.path.dirname(os.path.abspath(__file__)))
+from abuflib import report
+from abuflib.program import TOP
+from abuflib.report import Fault
+
 PAGE = os.path.join(TOP, "docs", "WRONG-BODIES.md")
 REFUSED = re.compile(r"rt: must-fail (\w+)/(\w+)\.edit: refused, as it must be(?:: (.*))?$")
 HEAD = """# Wrong bodies
@@ -63,14 +67,12 @@ def refusals_of(logs):
 
 
 def function_at(crate, file, line):
-    """The name of the function that begins at or above the line of a source."""
+    """The name of the function to which the line of a source belongs, or which follows it: so for its attributes and comments."""
     lines = text_of(os.path.join(TOP, "crates", crate, file)).splitlines()
-    for above in reversed(lines[:line]):
-        match = re.match(r"\s*(?:pub(?:\([a-z]+\))? )?fn (\w+)", above)
-        if match:
-            return match.group(1)
-    for below in lines[line:line + 5]:
-        match = re.match(r"\s*(?:pub(?:\([a-z]+\))? )?fn (\w+)", below)
+    above, below = lines[line - 1::-1], lines[line:line + 20]
+    begins = lines[line - 1].lstrip().startswith(("#", "//"))
+    for text in below + above if begins else above + below:
+        match = re.match(r"\s*(?:pub(?:\([a-z]+\))? )?fn (\w+)", text)
         if match:
             return match.group(1)
     return file
@@ -109,9 +111,9 @@ def crates():
 
 
 def main():
-    if len(sys.argv) < 2:
-        sys.exit(__doc__)
-    refusals = refusals_of(sys.argv[1:])
+    parser = report.words(__doc__)
+    parser.add_argument("logs", nargs="+", metavar="LOG")
+    refusals = refusals_of(parser.parse_args().logs)
     missing, page, count = [], [HEAD], 0
     for crate in crates():
         rows = []
@@ -127,11 +129,11 @@ def main():
             page.append(f"\n## {crate}\n\n{len(rows)} edits.\n\n| The wrong | Before → after | Refused at |\n|---|---|---|\n"
                         + "\n".join(rows) + "\n")
     if missing:
-        sys.exit("no log has " + ", ".join(missing))
+        raise Fault("no log has " + ", ".join(missing))
     with open(PAGE, "w", encoding="utf-8") as file:
         file.write("".join(page))
     print(f"{count} edits")
 
 
 if __name__ == "__main__":
-    main()
+    report.end(main)

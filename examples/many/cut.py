@@ -3,10 +3,13 @@
 
     cut.py PATH FOLDER [--images N]     N images a piece, the last one may have fewer (8)
 
+    cut.py lantern.path pieces --images 5
+
 The pieces are FOLDER/0001.path, FOLDER/0002.path and so on; the folder is made, and must be new. A
 piece has the lines of its images as they are. Blank lines stand for the lines before them, so that
 a line has the same number in its piece as in the path, and 'path line N' tells it. How many pieces
-there are is printed. A path may be longer than the 4096 images that abuf takes at once.
+there are is printed. A path may be longer than the 4096 images that abuf takes at once. The status is
+2 where something can't be read or written. The script stands alone, so that it can be copied.
 """
 
 import argparse
@@ -47,13 +50,14 @@ def main():
         with open(given.path, "rb") as file:
             pieces = list(pieces_of(file.read(), given.images))
         if len(pieces) > MOST_PIECES:
-            sys.exit(f"cut.py: {len(pieces)} pieces are too many; let --images be greater")
+            parser.error(f"{len(pieces)} pieces are too many; let --images be greater")
         os.mkdir(given.folder)
         for number, piece in enumerate(pieces, 1):
             with open(os.path.join(given.folder, f"{number:04}.path"), "wb") as file:
                 file.write(piece)
     except OSError as why:
-        sys.exit(f"cut.py: {why}")
+        print(f"cut.py: {why}", file=sys.stderr)
+        sys.exit(2)
     print(len(pieces))
 
 

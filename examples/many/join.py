@@ -4,9 +4,13 @@
     join.py FOLDER > images.pam     the stream that abuf sequence writes of the whole path
     join.py --missing FOLDER        prints the numbers of the pieces that aren't whole, as 2,5,6
 
+    join.py pieces > lantern-turning.pam
+
 A piece is whole where its PIECE.pam has as many images as PIECE.path has lines of them, each with the
 header of the first image of all. Where a piece isn't, its name is told, nothing is written, and the
-status is 1. With --missing a PIECE.pam that isn't whole is removed, so that the piece is drawn again.
+status is 1; it is 2 where something can't be read. With --missing a PIECE.pam that isn't whole is
+removed, so that the piece is drawn again. The script stands alone beside cut.py, so that both can be
+copied.
 """
 
 import argparse
@@ -82,7 +86,8 @@ def main():
                 with open(piece, "rb") as file:
                     shutil.copyfileobj(file, sys.stdout.buffer)
     except OSError as why:
-        sys.exit(f"join.py: {why}")
+        print(f"join.py: {why}", file=sys.stderr)
+        sys.exit(2)
     sys.exit(1 if missing else 0)
 
 

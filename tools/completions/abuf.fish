@@ -1,0 +1,20 @@
+# Completion of abuf for fish. Written by tools/completions.py.
+
+complete -c abuf -f
+complete -c abuf -n __fish_use_subcommand -a render -d 'write the image of a scene'
+complete -c abuf -n __fish_use_subcommand -a pick -d 'write the fragments of one pixel'
+complete -c abuf -n __fish_use_subcommand -a demo -d 'draw a demonstration scene of N triangles'
+complete -c abuf -n __fish_use_subcommand -a sequence -d 'write an image for each line of a path'
+complete -c abuf -n '__fish_seen_subcommand_from render pick demo sequence' -l size -d 'width and height of the image, WxH' -x -a '320x240 640x480 1280x960 1920x1080'
+complete -c abuf -n '__fish_seen_subcommand_from render pick demo sequence' -l samples -d 'samples per pixel' -x -a '1 2 4 8 16'
+complete -c abuf -n '__fish_seen_subcommand_from render pick demo sequence' -l threads -d 'number of threads, 1 to 64' -x -a '1 2 4 8 16 32 64'
+complete -c abuf -n '__fish_seen_subcommand_from render pick demo sequence' -l nodes -d 'most fragments of the pool' -x -a '4194304 8388608'
+complete -c abuf -n '__fish_seen_subcommand_from render pick demo' -l turn -d 'the camera'\''s quaternion, a,b,c,d' -x -a '1,0,0,0 0,0,1,0 1,0,-1,0 1,0,1,0 1,1,0,0 1,-1,0,0 8,2,-3,0 8,2,3,0'
+complete -c abuf -n '__fish_seen_subcommand_from render pick demo' -l move -d 'shift of the turned scene, x,y,z' -x -a '0,0,-4'
+complete -c abuf -n '__fish_seen_subcommand_from render pick demo sequence' -l focal -d 'focal length, at most 16' -x -a '1 2'
+complete -c abuf -n '__fish_seen_subcommand_from render pick demo sequence' -l near -d 'distance of the near plane' -x -a '0.125 0.0625'
+complete -c abuf -n '__fish_seen_subcommand_from render pick demo sequence' -l background -d 'colour behind all faces, r,g,b' -x -a '0,0,0 1,1,1'
+complete -c abuf -n '__fish_seen_subcommand_from render pick demo sequence' -l maxval -d 'greatest value in the image' -x -a '255 65535'
+complete -c abuf -n '__fish_seen_subcommand_from render' -l bands -d 'draw in so many bands of rows' -x -a '2 4 8 16 32'
+complete -c abuf -n '__fish_seen_subcommand_from render' -l peel -d 'draw layer by layer, without a pool'
+complete -c abuf -n '__fish_seen_subcommand_from sequence' -a '(__fish_complete_suffix .path)'
