@@ -1,5 +1,8 @@
 """Triangles past the sides of the image, with corners up to the farthest that can be."""
 
+import math
+import random
+
 from scenes.drawing import DIRECTIONS, NODES, Case, Drawing, lines
 
 FARTHEST = 2147483647  # in units of 1/65536
@@ -64,6 +67,57 @@ def long_sides():
                        "its left and its top side.")
 
 
+def far_corners():
+    """Triangles that a driver was seen to draw wrongly, each as small as it can be."""
+    drawing = Drawing("far-corner", 2, 2)
+    drawing.paint("green_film")
+    drawing.face((-2888, -2888), (2, -2888), (2, 2))
+    yield drawing.case("A triangle that ends in the image, with a corner 2,888 pixels above it and to its left.")
+
+    drawing = Drawing("far-corners", 100, 100)
+    drawing.paint("green_film")
+    drawing.face((69, 77), (4847, -19033), (16497, -16351))
+    yield drawing.case("A triangle that begins in the image and whose other corners lie some thousand pixels to "
+                       "the right and above.")
+
+
+def rim_point(centre, reach, k, count, chance):
+    """A corner of a fan's rim, nearly so many pixels from its centre. Most spokes run through pixel centres."""
+    angle = 2 * math.pi * (k + 0.8 * chance.random()) / count
+    if chance.random() < 0.7:
+        length = chance.randint(1, 9)
+        dx, dy = round(length * math.cos(angle)) or 1, round(length * math.sin(angle))
+        steps = int(reach / math.hypot(dx, dy))
+        return centre[0] + steps * dx, centre[1] + steps * dy
+    return tuple(round(16 * (at + reach * turn)) / 16
+                 for at, turn in zip(centre, (math.cos(angle), math.sin(angle))))
+
+
+def fan_about(centre, reach, chance):
+    """The corners of a closed fan's rim, in their order round the centre, less than half a turn apart."""
+    count = 12
+    while True:
+        rim = [rim_point(centre, reach, k, count, chance) for k in range(count)]
+        rim.sort(key=lambda p: math.atan2(p[1] - centre[1], p[0] - centre[0]))
+        if all((p[0] - centre[0]) * (q[1] - centre[1]) > (p[1] - centre[1]) * (q[0] - centre[0])
+               for p, q in zip(rim[-1:] + rim, rim)):
+            return rim
+
+
+def fans():
+    for reach in (500, 2500, 4000, 8000, 30000):
+        chance = random.Random(reach)
+        drawing = Drawing(f"fans-{reach}", 32, 32)
+        for film, centre in (("red_film", (5.5, 7.5)), ("green_film", (16.5, 15.5)), ("blue_film", (27.5, 24.5))):
+            rim = fan_about(centre, reach, chance)
+            drawing.note(f"a closed fan about {centre[0]} {centre[1]}")
+            drawing.paint(film)
+            for p, q in zip(rim[-1:] + rim, rim):
+                drawing.face(centre, p, q)
+        yield drawing.case(f"Three closed fans whose rims lie some {reach} pixels away: each of them covers every "
+                           "sample once, so the image has one colour.")
+
+
 def limits():
     """At distance 1/16 with focal length 16, a unit of 1/65536 is 1/32 pixel of a height of 16."""
 
@@ -122,4 +176,6 @@ def cases():
     yield from long_edges(
         "longer-edges", 2 ** 16, "The same with slivers some hundred thousand pixels long.")
     yield from long_sides()
+    yield from far_corners()
+    yield from fans()
     yield from limits()

@@ -1,0 +1,1 @@
+"""What conformance/runner.py is made of: scenes, verdicts, runs and reports."""
