@@ -73,8 +73,8 @@ fn draw_at_once<R: Threads>(
     );
 }
 
-/// Each half is drawn on a thread of its own, into one frame: the 10 pixels above the diagonal and on it have a fragment of the
-/// upper half, and the 6 others one of the lower.
+/// Each half is drawn on a thread of its own, into one frame: the 6 pixels above the diagonal have a fragment of the upper half, and
+/// the 10 others one of the lower, of which the diagonal is a left edge.
 #[test]
 fn two_drawers(rt: HostRuntime) -> Result<(), Fail> {
     let alloc = rt.alloc();
@@ -88,7 +88,7 @@ fn two_drawers(rt: HostRuntime) -> Result<(), Fail> {
     let closed = frame.close(pass);
     assert!(rt; closed.fragments() == 16 && closed.full().is_none());
     for pixel in 0..16 {
-        let prim = if pixel / 4 + pixel % 4 < 4 { 0 } else { 1 };
+        let prim = if pixel / 4 + pixel % 4 < 3 { 0 } else { 1 };
         let word = pack(Fragment { prim, mask: 1 });
         let list = closed.list(alloc, pixel)?;
         assert!(rt; list.as_slice() == [word].as_slice(), "pixel {pixel}");
