@@ -11,5 +11,6 @@ pub mod Look
 pub mod Chains
 pub mod Closing
 pub mod Lanes
+pub mod Reading
 pub mod Frame
 pub mod Pass

@@ -148,7 +148,7 @@ impl Closed {
     }
 
     /// The payloads of the pixel's fragments, in the order of the walk from its head: the entry that was swapped in last
-    /// stands first, whatever the order of the links. The cost grows with the list.
+    /// stands first, whatever the order of the links. The cost grows with the list. Whoever reads many lists takes a `Reader`.
     pub fn list(&self, alloc: Global, pixel: u32) -> Result<List<u64>, NoMemory>
         requires { pixel < self.now.pixels }
         ensures { IfOk result (λ l. l ≡ list_at self.now pixel) }
@@ -158,9 +158,8 @@ impl Closed {
         Ok(List::from_vec(items))
     }
 
-    /// The same in a buffer of the caller's, whose memory serves for one pixel after another. After want of memory it holds
-    /// some of the payloads.
-    pub fn copy_list(&self, pixel: u32, items: &mut Vec<u64>) -> Result<(), NoMemory>
+    // Makes a buffer hold the payloads of the pixel's list. When memory runs out it holds some of them.
+    fn copy_list(&self, pixel: u32, items: &mut Vec<u64>) -> Result<(), NoMemory>
         requires { pixel < self.now.pixels }
         ensures { IfOk result (λ _. items.new.items ≡ list_at self.now pixel) }
     {

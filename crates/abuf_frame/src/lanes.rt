@@ -1,7 +1,7 @@
 // The lists of eight neighbouring pixels, copied side by side.
 ghost use Rattle.std.specs.Prelude.{◌≡◌, ℕ, ◌+◌, ◌<◌, [], IfOk, IsTrue, length, map, slice_index, slice_index_or, vec_items};
-ghost use Rattle.abuf_frame.specs.Closing.{list_at};
 ghost use Rattle.abuf_frame.specs.Lanes.{Advances, AllAdvance, Refers, head_or_end};
+ghost use Rattle.abuf_frame.specs.Reading.{HoldsEight};
 
 use crate::closed::Closed;
 use crate::still::Still;
@@ -74,14 +74,14 @@ fn advance_all(
 }
 
 impl Closed {
-    /// The lists of the eight pixels from this one on, each as `copy_list` gives it, and an empty one for each pixel past the
-    /// last. A walk along one list waits for memory at each node. Eight are walked here side by side, so that their waits
+    /// The lists of the eight pixels from this one on, each in the order of its walk, and an empty one for each pixel past
+    /// the last. A walk along one list waits for memory at each node. Eight are walked here side by side, so that their waits
     /// overlap, and neighbouring nodes are read while they are in the cache. The cost grows with the longest list and with the
     /// sum of the eight. After want of memory the buffers hold some of the payloads.
-    pub fn copy_eight(&self, pixel: u32, lists: &mut [Vec<u64>; 8]) -> Result<(), NoMemory>
+    pub(crate) fn copy_eight(&self, pixel: u32, lists: &mut [Vec<u64>; 8]) -> Result<(), NoMemory>
         requires { pixel < self.now.pixels }
         ensures length { length lists.new ≡ 8 }
-        ensures lists { IfOk result (λ _. (k : ℕ) → k < 8 → slice_index_or (map vec_items lists.new) k [] ≡ list_at self.now (pixel + k)) }
+        ensures lists { IfOk result (λ _. HoldsEight self.now pixel (map vec_items lists.new)) }
     {
         let words = &self.words;
         let mut at = heads(words, self.pixels, pixel);

@@ -6,8 +6,8 @@
 //! takes an entry through its stages by one step each: it stores the payload, exchanges the pixel's head, and stores the next.
 //! A number that has no node is lost, and the counter runs on, so that it tells how many nodes would have been enough. Threads
 //! draw at the same time by passes that are split off and joined again; others may `count` and `look` while they draw. A whole,
-//! settled pass closes the frame, which takes constant time, and a `Closed` frame has the lists. Threads share it, and read the
-//! lists one by one or eight side by side from the words that were drawn.
+//! settled pass closes the frame, which takes constant time, and a `Closed` frame has the lists. Threads share it, and each reads
+//! them from the words that were drawn, by a `Reader` of its own.
 //!
 //! `specs/Lawful.antt` says what holds between any two steps of any number of threads, and each call here is proved to keep
 //! it. What the crates above need of it is in the contracts alone: of a pass its frame, its credit, its entries as pairs of
@@ -25,6 +25,7 @@ mod frame;
 mod lanes;
 mod look;
 mod pass;
+mod reader;
 mod rule;
 mod steps;
 mod still;
@@ -37,3 +38,4 @@ pub use closed::{Closed, Full};
 pub use frame::Frame;
 pub use look::Look;
 pub use pass::Pass;
+pub use reader::Reader;

@@ -2,7 +2,6 @@
 ghost use Rattle.std.specs.Prelude.{◌≡◌};
 
 use crate::{Frame, Full, Look};
-use std::array;
 use std::test::Fail;
 use std::thread::{join_mut, map_indices};
 
@@ -155,11 +154,8 @@ fn one_insert_and_two_at_once(rt: HostRuntime) -> Result<(), Fail> {
     pass.insert_all(&frame, &[(1, 6), (0, 7)]);
     let closed = frame.close(pass);
     assert!(rt; closed.pixels() == 2 && closed.fragments() == 3 && closed.full().is_none());
-    let mut list = Vec::new(alloc);
-    closed.copy_list(0, &mut list)?;
-    assert!(rt; list.as_slice() == [7, 5].as_slice());
-    closed.copy_list(1, &mut list)?;
-    assert!(rt; list.as_slice() == [6].as_slice());
+    assert!(rt; closed.list(alloc, 0)?.as_slice() == [7, 5].as_slice());
+    assert!(rt; closed.list(alloc, 1)?.as_slice() == [6].as_slice());
     Ok(())
 }
 
@@ -248,7 +244,7 @@ fn two_threads_insert_at_once(rt: HostRuntime) -> Result<(), Fail> {
 }
 
 #[test]
-fn eight_lists_at_once(rt: HostRuntime) -> Result<(), Fail> {
+fn one_list_after_another(rt: HostRuntime) -> Result<(), Fail> {
     let alloc = rt.alloc();
     let (frame, mut pass) = Frame::start(alloc, 11, 16)?;
     // The payload's tens are the pixel.
@@ -279,18 +275,24 @@ fn eight_lists_at_once(rt: HostRuntime) -> Result<(), Fail> {
         ],
     );
     let closed = frame.close(pass);
-    let mut lists = array::from_fn(|_| Vec::new(alloc));
-    closed.copy_eight(0, &mut lists)?;
-    assert!(rt; lists[0].as_slice() == [3, 2, 1].as_slice());
-    assert!(rt; lists[1].as_slice().is_empty());
-    assert!(rt; lists[2].as_slice() == [25, 24, 23, 22, 21].as_slice());
-    assert!(rt; lists[3].as_slice() == [31].as_slice());
-    assert!(rt; lists[7].as_slice() == [72, 71].as_slice());
-    closed.copy_eight(8, &mut lists)?;
-    assert!(rt; lists[0].as_slice() == [81].as_slice());
-    assert!(rt; lists[1].as_slice() == [94, 93, 92, 91].as_slice());
-    assert!(rt; lists[2].as_slice().is_empty() && lists[3].as_slice().is_empty());
-    assert!(rt; lists[7].as_slice().is_empty());
+    let mut reader = closed.reader(alloc);
+    assert!(rt; reader.list().is_empty());
+    reader.read(0)?;
+    assert!(rt; reader.list() == [3, 2, 1].as_slice());
+    reader.read(1)?;
+    assert!(rt; reader.list().is_empty());
+    reader.read(2)?;
+    assert!(rt; reader.list() == [25, 24, 23, 22, 21].as_slice());
+    reader.read(7)?;
+    assert!(rt; reader.list() == [72, 71].as_slice());
+    reader.read(8)?;
+    assert!(rt; reader.list() == [81].as_slice());
+    reader.read(10)?;
+    assert!(rt; reader.list().is_empty());
+    reader.read(9)?;
+    assert!(rt; reader.list() == [94, 93, 92, 91].as_slice());
+    reader.read(3)?;
+    assert!(rt; reader.list() == [31].as_slice());
     Ok(())
 }
 

@@ -49,10 +49,6 @@ run_next pixels size k = go (cases_lt (size * k) pixels) where
       ap (λ (n : ℕ). range_with_len 0 front ++ range_with_len (size * k) n) none
       ∙ (ap (λ (n : ℕ). range_with_len 0 front ++ range_with_len (0 + front) n) (sym none) ∙ whole)
 
--- Eight pixels in turn lie side by side.
-pub eight_beside : (from i : ℕ) → 0 < (i + 1) % 8 → from + (i + 1) - (i + 1) % 8 ≡ from + i - i % 8
-eight_beside from i h = omega (arith, h)
-
 -- The row and the column of a place.
 pub row_column : (q w r p : ℕ) → p ≡ q * w + r → r < w → (p / w ≡ q) × (p % w ≡ r)
 row_column q w r p e l = rw e (div-mul-add q w r l, mod-mul-add q w r l)

@@ -1,7 +1,6 @@
 -- What was summed of some pixels.
-use Rattle.std.specs.Prelude.{◌≡◌, ℕ, ◌+◌, ◌-◌, ◌*◌, ◌/◌, ◌%◌, ◌<◌, min, List, [], length, map, slice_index_or}
+use Rattle.std.specs.Prelude.{◌≡◌, ℕ, ◌+◌, ◌-◌, ◌*◌, ◌/◌, ◌%◌, min, List, length, map}
 use Rattle.std.specs.List.{range_with_len, All}
-use Rattle.abuf_frame.specs.Closing.{Ended, list_at}
 use Rattle.abuf_raster.specs.Region.{Region}
 use Rattle.abuf_raster.specs.Samples.{offsets_of}
 use Rattle.abuf_resolve.specs.declared.runs.Offset.{Offset}
@@ -11,10 +10,6 @@ use Rattle.abuf_resolve.specs.declared.scene.Scene.{Scene}
 use Rattle.abuf_resolve.specs.Scene.{sum_in}
 use Rattle.abuf_resolve.specs.Lengths.{greatest, lengths_at}
 use Rattle.abuf_resolve.specs.Sums.{IsSmall}
-
--- The lists are those of the eight pixels from this one on.
-abbrev pub HoldEight : Ended → ℕ → List (List ℕ) → Type 0
-HoldEight frame from lists = (k : ℕ) → k < 8 → slice_index_or lists k [] ≡ list_at frame (from + k)
 
 -- So far does the pixel at this place lie from the corner of a region of this width.
 pub record IsOffset (width place : ℕ) (offset : Offset) : Type 0 where

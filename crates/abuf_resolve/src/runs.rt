@@ -3,7 +3,7 @@ ghost use Rattle.std.specs.Prelude.{◌≡◌, ◌+◌, ◌-◌, ◌*◌, ◌%�
 ghost use Rattle.std.specs.List.{range_with_len, All};
 ghost use Rattle.abuf_raster.specs.Samples.{offsets_of};
 ghost use Rattle.abuf_resolve.specs.Laws.{x_at, y_at};
-ghost use Rattle.abuf_resolve.specs.Parts.{HoldEight, IsOffset, IsPart};
+ghost use Rattle.abuf_resolve.specs.Parts.{IsOffset, IsPart};
 ghost use Rattle.abuf_resolve.specs.Scene.{sum_of_list};
 ghost use Rattle.abuf_resolve.specs.Sums.{IsSmall};
 ghost use Rattle.abuf_resolve.specs.Words.{AreFragmentLists, IsFragmentAt};
@@ -34,25 +34,6 @@ impl Resolved {
         self.longest = self.longest.max(length);
         Ok(())
     }
-}
-
-/// Copies the lists of eight pixels from this place on where the pixel is the first of eight; else they are there.
-#[inline(always)]
-fn hold_eight(
-    closed: &Closed,
-    lists: &mut [Vec<u64>; 8],
-    place: u32,
-    i: u32,
-) -> Result<(), NoMemory>
-    requires place { place < closed.now.pixels }
-    requires held { 0 < i % 8 → HoldEight closed.now (place - i % 8) (map vec_items lists.old) }
-    ensures length { length lists.new ≡ 8 }
-    ensures held { IfOk result (λ _. HoldEight closed.now (place - i % 8) (map vec_items lists.new)) }
-{
-    if i % 8 == 0 {
-        closed.copy_eight(place, lists)?;
-    }
-    Ok(())
 }
 
 /// Pixels that follow each other: so many from this place on.
@@ -136,22 +117,13 @@ impl<'a, 'b> Scene<'a, 'b> {
             sums: List::from_vec(Vec::with_capacity(alloc, span.count as usize)?),
             longest: 0,
         };
-        let mut lists = [
-            Vec::new(alloc),
-            Vec::new(alloc),
-            Vec::new(alloc),
-            Vec::new(alloc),
-            Vec::new(alloc),
-            Vec::new(alloc),
-            Vec::new(alloc),
-            Vec::new(alloc),
-        ];
+        let mut reader = closed.reader(alloc);
         let mut buffers = Buffers::new(alloc);
         let mut offset = Offset { column: 0, row: 0 };
         for i in 0..span.count {
             let place = span.from + i;
-            hold_eight(closed, &mut lists, place, i)?;
-            let list = lists[(i % 8) as usize].as_slice();
+            reader.read(place)?;
+            let list = reader.list();
             let here = offset_at(region.w(), place, i, offset);
             offset = here;
             let sum = self.place_sum(&mut buffers, region, place, offset, list)?;

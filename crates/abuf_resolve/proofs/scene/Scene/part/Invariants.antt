@@ -1,12 +1,11 @@
 use Rattle.std.proofs.Common.{◌≡◌, ◌+◌, ◌-◌, ◌%◌, ◌<◌, map, length, vec_items}
 use Rattle.std.specs.List.{range_with_len}
-use Rattle.abuf_resolve.specs.Parts.{HoldEight, IsOffset, IsPart}
+use Rattle.abuf_resolve.specs.Parts.{IsOffset, IsPart}
 use Rattle.abuf_resolve.proofs.scene.Scene.part.Given as goal
 
 abbrev pub invariant-loop-i : goal.invariant-loop-i
 invariant-loop-i l = record {
   part : IsPart l.self l.region l.closed.lists (range_with_len l.span.from l.i) l.part;
-  held : 0 < l.i % 8 → HoldEight l.closed (l.span.from + l.i - l.i % 8) (map vec_items l.lists);
+  reads : l.reader.frame ≡ l.closed;
   last : 0 < l.i % 8 → (0 < l.span.from + l.i) × IsOffset l.region.w (l.span.from + l.i - 1) l.offset;
-  eight : length l.lists ≡ 8;
 }
