@@ -1,4 +1,7 @@
 // Workers of a command, which meet at a gate.
+ghost use Rattle.std.specs.Prelude.{◌≤◌};
+ghost use Rattle.abuf_num.specs.declared.limits.TheConstants.{MAX_THREADS};
+
 use crate::command::words_of;
 use abuf_fan::MeetingGate;
 use abuf_io::{SteadyShelf, SteadySource, WriteSink};
@@ -33,7 +36,9 @@ fn all_meet<R: Threads + Sync + Abort>(
     half: u32,
     pixels: u32,
     workers: u32,
-) -> Result<(), Fail> {
+) -> Result<(), Fail>
+    requires { workers ≤ MAX_THREADS }
+{
     let line = format!(in alloc; "render --size {size} --threads {workers}")?;
     let words = words_of(alloc, &line)?;
     let mut source = SteadySource::new(List::from_vec(parts(alloc, half, workers)?));
