@@ -12,7 +12,8 @@ The subjects:
     texts       its statuses, texts and causes, beside crates/abuf_top/specs, the manual page and tools/fuzz.py
     samples     its patterns of samples and refused keywords, beside the specs and the tools
     crates      the tables of crates, beside crates.txt and the folders
-    edits       docs/WRONG-BODIES.md, and edits that other documents show, beside the must-fail folders
+    edits       docs/WRONG-BODIES.md, edits that other documents show, and those that docs/DECISIONS.md never drops, beside the
+                must-fail folders
     links       each link between documents leads to a file and a heading
     names       each file that a document names is there, and each name in code stands in the sources
     scripts     tools/README.md has each script of tools and no others, and scripts that are named are there
@@ -335,6 +336,7 @@ def check_edits(told: Report) -> None:
         number = re.search(r"(?m)^(\d+) edits?\.$", part)
         told.add(f"docs/WRONG-BODIES.md: how many edits {crate} has", differ("the number", number.group(1) if number else "0", str(len(names))))
     check_shown_edits(told)
+    check_kept_edits(told)
 
 
 def check_shown_edits(told: Report) -> None:
@@ -343,6 +345,16 @@ def check_shown_edits(told: Report) -> None:
     for path in documents():
         for block in re.findall(r"(?ms)^```\n(file: .*?)^```$", text(path)):
             told.add(f"{path}: the edit of {block.split()[1]}", None if block in there else "no crate has it")
+
+
+def check_kept_edits(told: Report) -> None:
+    """The edits that are never dropped are there."""
+    heading = "Edits that are never dropped"
+    kept = [(codes(crate)[0], name) for _, crate, names in rows(section("docs/DECISIONS.md", heading)) for name in codes(names)]
+    told.add(f"docs/DECISIONS.md: {heading}", None if kept else "the table names none")
+    for crate, name in kept:
+        is_here = os.path.join("crates", crate, "must-fail", name + ".edit") in files()
+        told.add(f"docs/DECISIONS.md: the edit {name} of {crate}, which is never dropped", None if is_here else "isn't there")
 
 
 # ---- links and names

@@ -90,6 +90,21 @@ class Planted(unittest.TestCase):
         self.assert_found("edits", "docs/CONTRIBUTING.md", "band_sums(rt, alloc, &primitives, &target, band)?;",
                           "band_sums(rt, alloc, &primitives, &target, 0)?;")
 
+    def test_edits_that_are_never_dropped(self):
+        path = "docs/DECISIONS.md"
+        self.assert_found("edits", path, "`mean_of_the_masks`", "`mean_of_masks`", "mean_of_masks", "never dropped")
+        self.assert_found("edits", path, "| `abuf_scene` | `missing_material_white` |", "| `abuf_obj` | `missing_material_white` |",
+                          "never dropped")
+        self.changes = {}
+        self.forget()
+        own, edit = check_docs.files, "crates/abuf_frame/must-fail/count_of_zero.edit"
+        self.assertIn(edit, own())
+        self.addCleanup(setattr, check_docs, "files", own)
+        check_docs.files = lambda: [name for name in own() if name != edit]
+        told = [fault for fault in self.faults("edits") if "never dropped" in fault]
+        self.assertEqual(len(told), 1, told)
+        self.assertIn("count_of_zero", told[0])
+
     def test_links(self):
         self.assert_found("links", "README.md", "(docs/FORMATS.md)", "(docs/FORMAT.md)", "leads nowhere")
         self.assert_found("links", "docs/FORMATS.md", "(#how-a-command-line-is-read)", "(#how-a-command-is-read)", "no such heading")

@@ -33,6 +33,8 @@ impl Side {
 #[derive(Drop)]
 pub struct MeetingGate {
     part: u64,
+    /// How long a worker looks for another.
+    turns: u32,
     sides: Vec<Side>,
     /// A call came that none of the workers makes when it draws its part.
     fault: AtomicBool,
@@ -40,8 +42,8 @@ pub struct MeetingGate {
 
 /// Looks for a flag, for so many turns at most. On a machine with more to do, whoever is to raise it needs the processor too, so
 /// that it is let go now and then.
-fn look_for(flag: &AtomicBool) -> bool {
-    for turn in 0..1u32 << 28 {
+fn look_for(flag: &AtomicBool, turns: u32) -> bool {
+    for turn in 0..turns {
         if flag.load(Ordering::SeqCst) {
             return true;
         }
@@ -55,12 +57,23 @@ fn look_for(flag: &AtomicBool) -> bool {
 impl MeetingGate {
     /// A gate of so many workers, each of which is to draw so many fragments in its first part.
     pub fn new(alloc: Global, workers: u32, part: u64) -> Result<MeetingGate, NoMemory> {
+        MeetingGate::of_turns(alloc, workers, part, 1 << 28)
+    }
+
+    /// A gate whose workers look for each other during so many turns.
+    pub(crate) fn of_turns(
+        alloc: Global,
+        workers: u32,
+        part: u64,
+        turns: u32,
+    ) -> Result<MeetingGate, NoMemory> {
         let mut sides = Vec::new(alloc);
         for _ in 0..workers {
             sides.push(Side::new())?;
         }
         Ok(MeetingGate {
             part,
+            turns,
             sides,
             fault: AtomicBool::new(false),
         })
@@ -89,7 +102,10 @@ impl MeetingGate {
                     return false;
                 }
                 own.drew.store(true, Ordering::SeqCst);
-                let all = self.sides.iter().all(|side| look_for(&side.drew));
+                let all = self
+                    .sides
+                    .iter()
+                    .all(|side| look_for(&side.drew, self.turns));
                 own.met.store(all, Ordering::SeqCst);
             }
             _ => return false,

@@ -154,6 +154,23 @@ fn a_gate_tells_other_calls(rt: HostRuntime) -> Result<(), Fail> {
     Ok(())
 }
 
+/// Two workers that draw their parts one after the other haven't met: the first looks for the second in vain.
+#[test]
+fn workers_in_turn_have_not_met(rt: HostRuntime) -> Result<(), Fail> {
+    let alloc = rt.alloc();
+    let gate = MeetingGate::of_turns(alloc, 2, 1, 1000)?;
+    let (frame, mut pass) = Frame::start(alloc, 1, 2)?;
+    gate.pass_by(0, &pass);
+    pass.insert(&frame, 0, 7);
+    gate.pass_by(0, &pass);
+    gate.pass_by(1, &pass);
+    pass.insert(&frame, 0, 9);
+    gate.pass_by(1, &pass);
+    frame.close(pass);
+    assert!(rt; !gate.have_met());
+    Ok(())
+}
+
 // A gate that counts its calls.
 #[derive(Drop)]
 struct Calls {

@@ -239,7 +239,9 @@ fn two_threads_insert_at_once(rt: HostRuntime) -> Result<(), Fail> {
     );
     a.join(&frame, b);
     let closed = frame.close(a);
-    assert!(rt; closed.fragments() == 2 && closed.list(alloc, 0)?.as_slice().len() == 2);
+    let list = closed.list(alloc, 0)?;
+    let is_either = list.as_slice() == [9, 7].as_slice() || list.as_slice() == [7, 9].as_slice();
+    assert!(rt; closed.fragments() == 2 && is_either);
     Ok(())
 }
 
@@ -303,7 +305,11 @@ fn a_list_on_each_of_two_threads(rt: HostRuntime) -> Result<(), Fail> {
     pass.insert_all(&frame, &[(0, 5), (1, 6), (0, 7)]);
     let closed = frame.close(pass);
     let lists = map_indices(&rt, alloc, 2, &|pixel| closed.list(alloc, pixel as u32))?;
-    assert!(rt; lists.len() == 2);
+    let mut lists = lists.into_iter();
+    let first = lists.next().ok_or("no list")??;
+    let second = lists.next().ok_or("no list")??;
+    assert!(rt; first.as_slice() == [7, 5].as_slice() && second.as_slice() == [6].as_slice());
+    assert!(rt; lists.next().is_none());
     Ok(())
 }
 

@@ -4,4 +4,5 @@ pub mod Whole
 pub mod Plans
 pub mod Memory
 pub mod Adapters
+pub mod Appended
 pub mod Sinks

@@ -4,7 +4,8 @@
 //!
 //! Over memory (`MemSource`, `MemShelf`, `MemSink`, and the `Steady` types, which never fail) the
 //! meaning is told. The adapters over the real outside (`ReadSource`, `FolderShelf`, `WriteSink`)
-//! tell nothing of content, and keep a count of faults.
+//! tell nothing of content, and keep a count of faults. By clauses of their own `ReadSource` gives the
+//! bytes of its reader, and what `WriteSink` takes goes to its writer, where std tells what these hold.
 //!
 //! [`read_all`] gives all that a source has left, and [`write_all`] makes a sink take all of some
 //! bytes, or they answer a fault of which the count tells the cause.

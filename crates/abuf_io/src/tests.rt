@@ -8,6 +8,8 @@ use crate::{
 };
 use abuf_num::List;
 use std::alloc::Global;
+use std::io;
+use std::io::{BufWriter, ErrorKind, Read, Write};
 use std::test::Fail;
 
 fn bytes(alloc: Global, text: &[u8]) -> Result<List<u8>, Fail> {
@@ -147,14 +149,82 @@ fn the_folder_tells_a_missing_file_from_a_fault(rt: HostRuntime) {
 }
 
 #[test]
-fn adapters_pass_bytes_on(rt: HostRuntime) -> Result<(), Fail> {
+fn a_reader_s_bytes_come_as_they_stand(rt: HostRuntime) -> Result<(), Fail> {
     let alloc = rt.alloc();
-    let mut source = ReadSource::new(b"abc".as_slice());
-    assert!(rt; gave(read_all(alloc, &mut source, 3), b"abc"));
-    let mut sink = WriteSink::new(Vec::new(alloc));
-    assert!(rt; write_all(&mut sink, b"abc") == Ok(()));
-    let mut room = [0u8; 2];
-    let mut full = WriteSink::new(room.as_mut_slice());
-    assert!(rt; write_all(&mut full, b"abc") == Err(WriteFault));
+    let mut source = ReadSource::new(b"abcde".as_slice());
+    let mut buf = [0u8; 3];
+    assert!(rt; source.read(&mut buf) == Ok(3));
+    assert!(rt; buf.as_slice() == b"abc".as_slice());
+    assert!(rt; source.read(&mut buf) == Ok(2));
+    assert!(rt; buf.as_slice() == b"dec".as_slice());
+    assert!(rt; source.read(&mut buf) == Ok(0));
+    let mut whole = ReadSource::new(b"abc".as_slice());
+    assert!(rt; gave(read_all(alloc, &mut whole, 3), b"abc"));
+    let mut torn = ReadSource::new(Torn { rest: b"abc" });
+    assert!(rt; read_all(alloc, &mut torn, 3).err() == Some(ReadEnd::ReadFault));
     Ok(())
+}
+
+// A reader that fails behind its bytes.
+#[derive(Drop)]
+struct Torn<'a> {
+    rest: &'a [u8],
+}
+
+impl Read for Torn<'_> {
+    fn read(&mut self, buf: &mut [u8]) -> io::Result<usize> {
+        if self.rest.is_empty() {
+            return Err(ErrorKind::Other.into());
+        }
+        self.rest.read(buf)
+    }
+}
+
+#[test]
+fn a_writer_has_the_bytes(rt: HostRuntime) {
+    let mut room = [0u8; 5];
+    let mut sink = WriteSink::new(room.as_mut_slice());
+    assert!(rt; write_all(&mut sink, b"abc") == Ok(()));
+    assert!(rt; sink.write(b"def") == Ok(2));
+    assert!(rt; sink.write(b"") == Ok(0));
+    assert!(rt; sink.write(b"f") == Err(Failed));
+    assert!(rt; room.as_slice() == b"abcde".as_slice());
+}
+
+#[test]
+fn each_write_is_flushed(rt: HostRuntime) -> Result<(), Fail> {
+    let mut arrived = 0;
+    let mut sink = WriteSink::new(Held {
+        waiting: 0,
+        arrived: &mut arrived,
+    });
+    assert!(rt; sink.write(b"abc") == Ok(3));
+    drop(sink);
+    assert!(rt; arrived == 3);
+    let mut room = [0u8; 2];
+    let mut full = WriteSink::new(BufWriter::new(rt.alloc(), room.as_mut_slice())?);
+    assert!(rt; full.write(b"abc") == Err(Failed));
+    drop(full);
+    assert!(rt; room.as_slice() == b"ab".as_slice());
+    Ok(())
+}
+
+// A writer whose bytes arrive where it is flushed. It keeps their numbers alone.
+#[derive(Drop)]
+struct Held<'a> {
+    waiting: usize,
+    arrived: &'a mut usize,
+}
+
+impl Write for Held<'_> {
+    fn write(&mut self, buf: &[u8]) -> io::Result<usize> {
+        self.waiting = self.waiting.saturating_add(buf.len());
+        Ok(buf.len())
+    }
+
+    fn flush(&mut self) -> io::Result<()> {
+        *self.arrived = self.arrived.saturating_add(self.waiting);
+        self.waiting = 0;
+        Ok(())
+    }
 }

@@ -156,7 +156,7 @@ fn writing_that_fails_in_an_image(rt: HostRuntime) -> Result<(), Fail> {
     Ok(())
 }
 
-/// The first image goes to the sink whole, before the second is drawn.
+/// The first image goes to the sink whole, before anything is said of the second.
 #[test]
 fn first_image_before_the_second(rt: HostRuntime) -> Result<(), Fail> {
     let alloc = rt.alloc();
