@@ -1,7 +1,6 @@
 // The lists of a closed frame, read for one pixel after another.
-ghost use Rattle.std.specs.Prelude.{◌≡◌, ◌+◌, ◌<◌, IfOk, IsTrue, length, map, slice_index_or, vec_items, []};
+ghost use Rattle.std.specs.Prelude.{◌≡◌, ◌<◌, IfOk, length, map, slice_index_or, vec_items, []};
 ghost use Rattle.abuf_frame.specs.Closing.{list_at};
-ghost use Rattle.abuf_frame.specs.Reading.{HoldsEight};
 
 use crate::closed::Closed;
 use abuf_num::NoMemory;

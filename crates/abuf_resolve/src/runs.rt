@@ -1,5 +1,5 @@
 // The sums of pixels that follow each other.
-ghost use Rattle.std.specs.Prelude.{◌≡◌, ◌+◌, ◌-◌, ◌*◌, ◌%◌, ◌++◌, ◌∷◌, [], ◌<◌, ◌≤◌, max, length, map, vec_items, IfOk, OnOk};
+ghost use Rattle.std.specs.Prelude.{◌≡◌, ◌+◌, ◌-◌, ◌*◌, ◌%◌, ◌++◌, ◌∷◌, [], ◌<◌, ◌≤◌, max, length, IfOk, OnOk};
 ghost use Rattle.std.specs.List.{range_with_len, All};
 ghost use Rattle.abuf_raster.specs.Samples.{offsets_of};
 ghost use Rattle.abuf_resolve.specs.Laws.{x_at, y_at};

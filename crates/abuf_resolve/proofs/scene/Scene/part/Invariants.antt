@@ -1,4 +1,4 @@
-use Rattle.std.proofs.Common.{◌≡◌, ◌+◌, ◌-◌, ◌%◌, ◌<◌, map, length, vec_items}
+use Rattle.std.proofs.Common.{◌≡◌, ◌+◌, ◌-◌, ◌%◌, ◌<◌}
 use Rattle.std.specs.List.{range_with_len}
 use Rattle.abuf_resolve.specs.Parts.{IsOffset, IsPart}
 use Rattle.abuf_resolve.proofs.scene.Scene.part.Given as goal
