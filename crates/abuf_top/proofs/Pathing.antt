@@ -14,11 +14,12 @@ use Rattle.abuf_top.specs.Images.{Images, plan_of}
 use Rattle.abuf_top.specs.Libraries.{Holdings, told_by}
 use Rattle.abuf_top.specs.Paths.{path_verdict}
 use Rattle.abuf_top.specs.Prepared.{Loads, PreparesImages, StopsAt}
-use Rattle.abuf_top.specs.Stopped.{HasReadCause}
+use Rattle.abuf_top.specs.Stopped.{HasReadCause, HasTaskCause, IsAfterWords, IsOfPath, IsOfScene, StopsByPath}
 use Rattle.abuf_top.specs.Image.{DrawsOnce}
 use Rattle.abuf_top.specs.Verdict.{command_verdict, drawing_verdict, images_verdict, shots_verdict, sequence_verdict, material_verdict, loaded}
 use Rattle.abuf_top.specs.declared.loaded.Loaded.{Loaded}
 use Rattle.abuf_top.specs.declared.stop.Refusal.{Refusal}
+use Rattle.abuf_top.specs.declared.stop.Refusal.TheVariants as refusal
 use Rattle.abuf_top.specs.declared.stop.Stop.{Stop}
 use Rattle.abuf_top.specs.declared.stop.Stop.TheVariants as stop
 use Rattle.abuf_top.specs.declared.task.Task.{Task}
@@ -28,9 +29,45 @@ use Rattle.abuf_top.specs.declared.task.Task.TheVariants.{Sequence}
 pub told_same : (a b : Bool) (h k : Holdings) → a ≡ b → ((other : List ℕ) → h other ≡ k other) → told_by a h ≡ told_by b k
 told_same a b h k e f = λ i. told_by (e i) (λ other. f other i)
 
+-- A refusal of a scene or a library comes after the words,
+after_words : (r : Refusal) → IsOfScene r → IsAfterWords r
+after_words refusal.Words h = absurd h
+after_words (refusal.Value option) h = absurd h
+after_words refusal.PathMissing h = absurd h
+after_words refusal.PathTooLong h = absurd h
+after_words (refusal.PathLine line why) h = absurd h
+after_words refusal.SceneTooLong h = tt
+after_words (refusal.SceneLine line why) h = tt
+after_words (refusal.UnknownMaterial line) h = tt
+after_words (refusal.LibraryMissing k) h = tt
+after_words (refusal.LibraryTooLong k) h = tt
+after_words (refusal.LibraryLine k line why) h = tt
+
+-- and is none of the path.
+of_scene : (r : Refusal) → IsOfScene r → IsOfPath r → ⊥
+of_scene refusal.Words h p = absurd h
+of_scene (refusal.Value option) h p = absurd h
+of_scene refusal.PathMissing h p = absurd h
+of_scene refusal.PathTooLong h p = absurd h
+of_scene (refusal.PathLine line why) h p = absurd h
+of_scene refusal.SceneTooLong h p = absurd p
+of_scene (refusal.SceneLine line why) h p = absurd p
+of_scene (refusal.UnknownMaterial line) h p = absurd p
+of_scene (refusal.LibraryMissing k) h p = absurd p
+of_scene (refusal.LibraryTooLong k) h p = absurd p
+of_scene (refusal.LibraryLine k line why) h p = absurd p
+
+-- A scene and its libraries don't stop a run by a path.
+pub not_by_path : (rose : Type 0) (s : Stop) → HasReadCause rose s → StopsByPath s → ⊥
+not_by_path rose (stop.Refused r) h p = of_scene r h p
+not_by_path rose (stop.PoolFull pool) h p = absurd p
+not_by_path rose stop.ReadFault h p = absurd p
+not_by_path rose stop.WriteFault h p = absurd p
+not_by_path rose stop.Memory h p = absurd p
+
 -- More causes may be named.
-pub cause_weaker : (few more : Type 0) (s : Stop) → (few → more) → HasReadCause few s → HasReadCause more s
-cause_weaker few more (stop.Refused r) f h = h
+pub cause_weaker : (few more : Type 0) (s : Stop) → (few → more) → HasReadCause few s → HasTaskCause more s
+cause_weaker few more (stop.Refused r) f h = after_words r h
 cause_weaker few more (stop.PoolFull pool) f h = h
 cause_weaker few more stop.ReadFault f h = f h
 cause_weaker few more stop.WriteFault f h = h

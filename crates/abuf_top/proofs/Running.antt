@@ -17,7 +17,7 @@ use Rattle.abuf_top.specs.Image.{Drawing, DrawsOnce, has_one_frame}
 use Rattle.abuf_top.specs.Images.{Images}
 use Rattle.abuf_top.specs.Outside.{Outside, ReadFailed, told}
 use Rattle.abuf_top.specs.Prepared.{PreparesTask, AskOnce, IsTaskOf}
-use Rattle.abuf_top.specs.Stopped.{HasCause, RefusesFor, IsOfWords, IsAfterWords, IsOfDrawing}
+use Rattle.abuf_top.specs.Stopped.{HasCause, RefusesFor, IsOfWords, IsAfterWords, IsOfPath, IsOfDrawing, StopsByPath}
 use Rattle.abuf_top.specs.Reads.{CallsShelf, IsUncalled}
 use Rattle.abuf_top.specs.Verdict.{task, final_verdict, pool_verdict, pools_verdict}
 use Rattle.abuf_top.specs.declared.task.Task.{Task}
@@ -67,6 +67,44 @@ drew_decides (Err (stop.PoolFull pool)) closed ran err stops c two = of c.tells 
 drew_decides (Err stop.ReadFault) closed ran err stops c two = absurd stops
 drew_decides (Err stop.WriteFault) closed ran err stops c two = absurd (omega (arith, two, c.has_number ∙ ap status_number c.tells.0))
 drew_decides (Err stop.Memory) closed ran err stops c two = absurd (omega (arith, two, c.has_number ∙ ap status_number c.tells.0))
+
+-- Nor with that of a path.
+drew_by_no_path : (r : Result (Unit {0}) Stop) (closed : Option Ended) (ran : Ran) (err : Taken) → IfErr r IsOfDrawing → Concludes r closed ran err → ran.status ≡ 9 → ⊥
+drew_by_no_path (Ok _) closed ran err stops c nine = absurd (omega (arith, nine, c.has_number ∙ ap status_number c.tells.0))
+drew_by_no_path (Err (stop.Refused r)) closed ran err stops c nine = absurd stops
+drew_by_no_path (Err (stop.PoolFull pool)) closed ran err stops c nine = of c.tells where
+  of : Announces (stop.PoolFull pool) c.is err ⊎ Announces stop.Memory c.is err → ⊥
+  of (inl said) = absurd (omega (arith, nine, c.has_number ∙ ap status_number said.0))
+  of (inr said) = absurd (omega (arith, nine, c.has_number ∙ ap status_number said.0))
+drew_by_no_path (Err stop.ReadFault) closed ran err stops c nine = absurd stops
+drew_by_no_path (Err stop.WriteFault) closed ran err stops c nine = absurd (omega (arith, nine, c.has_number ∙ ap status_number c.tells.0))
+drew_by_no_path (Err stop.Memory) closed ran err stops c nine = absurd (omega (arith, nine, c.has_number ∙ ap status_number c.tells.0))
+
+-- The status of a path is that of its refusals alone,
+of_path : (r : Refusal) → status_number (refusal_status r) ≡ 9 → IsOfPath r
+of_path refusal.Words nine = absurd (omega (arith, nine))
+of_path (refusal.Value option) nine = absurd (omega (arith, nine))
+of_path refusal.PathMissing nine = tt
+of_path refusal.PathTooLong nine = tt
+of_path (refusal.PathLine line why) nine = tt
+of_path refusal.SceneTooLong nine = absurd (omega (arith, nine))
+of_path (refusal.SceneLine line why) nine = absurd (omega (arith, nine))
+of_path (refusal.UnknownMaterial line) nine = absurd (omega (arith, nine))
+of_path (refusal.LibraryMissing k) nine = absurd (omega (arith, nine))
+of_path (refusal.LibraryTooLong k) nine = absurd (omega (arith, nine))
+of_path (refusal.LibraryLine k line why) nine = absurd (omega (arith, nine))
+
+-- so that a run ends with it only where they stop it.
+by_path : (words : Result Job WordFault) (rose : Type 0) (s : Stop) (closed : Option Ended) (ran : Ran) (err : Taken)
+    → HasCause words rose s → Concludes (Err s) closed ran err → ran.status ≡ 9 → StopsByPath s
+by_path words rose (stop.Refused r) closed ran err cause c nine = of c.tells where
+  of : Announces (stop.Refused r) c.is err ⊎ Announces stop.Memory c.is err → IsOfPath r
+  of (inl said) = of_path r (sym (c.has_number ∙ ap status_number said.0) ∙ nine)
+  of (inr said) = absurd (omega (arith, nine, c.has_number ∙ ap status_number said.0))
+by_path words rose (stop.PoolFull pool) closed ran err cause c nine = absurd cause
+by_path words rose stop.ReadFault closed ran err cause c nine = absurd (omega (arith, nine, c.has_number ∙ ap status_number c.tells.0))
+by_path words rose stop.WriteFault closed ran err cause c nine = absurd cause
+by_path words rose stop.Memory closed ran err cause c nine = absurd (omega (arith, nine, c.has_number ∙ ap status_number c.tells.0))
 
 sequence_decides : (words : Result Job WordFault) (number : ℕ) → (AskOnce words → ⊥) → (number ≡ 2 → ⊥) → WordsDecide words number
 sequence_decides (Ok job) number more other = other
@@ -149,6 +187,7 @@ module _ (words : List (List ℕ)) (o : Outside)
         answer = answer;
         complete = complete (task words o.source.left_old (told o.shelf)) (Ok (Draw d)) ran.status o line answer;
         two = subst (λ (w : Result Job WordFault). WordsDecide w ran.status) (sym is.0) (drew_decides r closed ran o.err stops c);
+        nine = λ nine. absurd (drew_by_no_path r closed ran o.err stops c nine);
         unwritten = λ once. unwritten r closed ran o.out o.err c last;
         handed = subst (λ (b : Bool). IsSome ran.closed ↔ (GoesWithFrame ran.status × b ≡ true)) one (hands (has_one_frame d.job) r closed ran o.err c handed);
         closed = frame r closed ran o.err (IsFrameOf d) c frames;
@@ -185,6 +224,7 @@ module _ (words : List (List ℕ)) (o : Outside)
         answer = answer;
         complete = complete (task words o.source.left_old (told o.shelf)) (Ok (Sequence i)) ran.status o line answer;
         two = sequence_decides (job words) ran.status is.0 (drew_decides r closed ran o.err stops c);
+        nine = λ nine. absurd (drew_by_no_path r closed ran o.err stops c nine);
         unwritten = λ once. absurd (is.0 once);
         handed = subst (λ (b : Bool). IsSome ran.closed ↔ (GoesWithFrame ran.status × b ≡ true)) (without-frame (job words) is.0) (hands false r closed ran o.err c back);
         closed = frame r closed ran o.err (IsFrameOfTask (Ok (Sequence i))) c (subst (λ (x : Option Ended). IfSome x (IsFrameOfTask (Ok (Sequence i)))) (sym none) tt);
@@ -213,9 +253,9 @@ module _ (words : List (List ℕ)) (o : Outside)
   -- A run that stopped before that.
   pub run_stopped : (s : Stop) (closed : Option Ended) (ran : Ran)
       → IfSome (task words o.source.left_old (told o.shelf)) (λ line. PreparesTask line (ReadFailed o.source o.shelf) (Err s))
-      → HasCause (job words) (ReadFailed o.source o.shelf) s → Keeps o.out.old o.out.new → closed ≡ None
+      → HasCause (job words) (ReadFailed o.source o.shelf) s → (StopsByPath s → IsUncalled o.source) → Keeps o.out.old o.out.new → closed ≡ None
       → Concludes (Err s) closed ran o.err → IsRun words ran o
-  run_stopped s closed ran line cause kept none c =
+  run_stopped s closed ran line cause uncalled kept none c =
       let all = task words o.source.left_old (told o.shelf) in
       let found = found_by all s in
       let is_told = found-told all (ReadFailed o.source o.shelf) s line in
@@ -228,6 +268,7 @@ module _ (words : List (List ℕ)) (o : Outside)
         answer = answer;
         complete = complete (task words o.source.left_old (told o.shelf)) (found) ran.status o is_told answer;
         two = stop_decides (job words) (ReadFailed o.source o.shelf) s closed ran o.err cause c;
+        nine = λ nine. uncalled (by_path (job words) (ReadFailed o.source o.shelf) s closed ran o.err cause c nine);
         unwritten = λ once. unwritten (Err s) closed ran o.out o.err c (unwritten-none s kept cause);
         handed = hands (has_frame (job words)) (Err s) closed ran o.err c back;
         closed = frame (Err s) closed ran o.err (IsFrameOfTask found) c (subst (λ (x : Option Ended). IfSome x (IsFrameOfTask found)) (sym none) tt);

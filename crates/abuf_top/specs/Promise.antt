@@ -60,7 +60,8 @@ WordsDecide (Err why) number = (number ≡ 2) ⊎ (number ≡ 8)
 -- `found`: what the run found to do, or its refusal. `as_told`: it is that of the source and the shelf, where these tell; `allowed`:
 -- and whatever they tell it is of the words' own job, by which the headers and the sizes of all outputs are known. `answer`: its
 -- status is a row of the table, and that row holds of what it wrote. `complete`: where nothing failed outside, it is the row of the
--- verdict, or memory ran out. `two`: when status 2 comes, whatever is told. `unwritten`: but for a sequence, something is written
+-- verdict, or memory ran out. `two`: when status 2 comes, whatever is told. `nine`: with status 9 the source isn't called, whatever
+-- is told. `unwritten`: but for a sequence, something is written
 -- with the statuses 0 and 7 alone. `handed`: when the closed frame is handed back. `closed`: its lists are those of the drawing's
 -- fragments. `size`: what it has room for. `source`: when the source isn't called. `calls`: how often the shelf is, where what that
 -- hangs on is told, and `most`: how often at most, where the source alone tells.
@@ -71,6 +72,7 @@ pub record IsRun (words : List (List ℕ)) (ran : Ran) (o : Outside) : Type 0 wh
   pub answer : IsAnswer (final_verdict found) ran.status o
   pub complete : IsComplete (verdict words o.source.left_old (told o.shelf)) ran.status o
   pub two : WordsDecide (job words) ran.status
+  pub nine : ran.status ≡ 9 → IsUncalled o.source
   pub unwritten : AskOnce (job words) → ((ran.status ≡ 0) ⊎ (ran.status ≡ 7) → ⊥) → Keeps o.out.old o.out.new
   pub handed : IsSome ran.closed ↔ (GoesWithFrame ran.status × has_frame (job words) ≡ true)
   pub closed : IfSome ran.closed (IsFrameOfTask found)

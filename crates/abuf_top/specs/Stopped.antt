@@ -42,14 +42,56 @@ IsAfterWords (refusal.LibraryMissing k) = Unit {0}
 IsAfterWords (refusal.LibraryTooLong k) = Unit {0}
 IsAfterWords (refusal.LibraryLine k line why) = Unit {0}
 
--- Whatever is told, what is read after the words stops a run by no refusal of the words, and by a fault of reading only where a
--- count rose.
+-- One of the path of a sequence, and one of the scene or a library.
+abbrev pub IsOfPath : Refusal → Type 0
+IsOfPath refusal.Words = ⊥
+IsOfPath (refusal.Value option) = ⊥
+IsOfPath refusal.PathMissing = Unit {0}
+IsOfPath refusal.PathTooLong = Unit {0}
+IsOfPath (refusal.PathLine line why) = Unit {0}
+IsOfPath refusal.SceneTooLong = ⊥
+IsOfPath (refusal.SceneLine line why) = ⊥
+IsOfPath (refusal.UnknownMaterial line) = ⊥
+IsOfPath (refusal.LibraryMissing k) = ⊥
+IsOfPath (refusal.LibraryTooLong k) = ⊥
+IsOfPath (refusal.LibraryLine k line why) = ⊥
+
+abbrev pub IsOfScene : Refusal → Type 0
+IsOfScene refusal.Words = ⊥
+IsOfScene (refusal.Value option) = ⊥
+IsOfScene refusal.PathMissing = ⊥
+IsOfScene refusal.PathTooLong = ⊥
+IsOfScene (refusal.PathLine line why) = ⊥
+IsOfScene refusal.SceneTooLong = Unit {0}
+IsOfScene (refusal.SceneLine line why) = Unit {0}
+IsOfScene (refusal.UnknownMaterial line) = Unit {0}
+IsOfScene (refusal.LibraryMissing k) = Unit {0}
+IsOfScene (refusal.LibraryTooLong k) = Unit {0}
+IsOfScene (refusal.LibraryLine k line why) = Unit {0}
+
+-- Whatever is told, a scene and its libraries stop a run by a refusal of theirs, and by a fault of reading only where a count rose.
 abbrev pub HasReadCause : Type 0 → Stop → Type 0
-HasReadCause rose (stop.Refused r) = IsAfterWords r
+HasReadCause rose (stop.Refused r) = IsOfScene r
 HasReadCause rose (stop.PoolFull pool) = ⊥
 HasReadCause rose stop.ReadFault = rose
 HasReadCause rose stop.WriteFault = ⊥
 HasReadCause rose stop.Memory = Unit {0}
+
+-- The same of all that is read after the words: a path may refuse too.
+abbrev pub HasTaskCause : Type 0 → Stop → Type 0
+HasTaskCause rose (stop.Refused r) = IsAfterWords r
+HasTaskCause rose (stop.PoolFull pool) = ⊥
+HasTaskCause rose stop.ReadFault = rose
+HasTaskCause rose stop.WriteFault = ⊥
+HasTaskCause rose stop.Memory = Unit {0}
+
+-- The path stops the run.
+abbrev pub StopsByPath : Stop → Type 0
+StopsByPath (stop.Refused r) = IsOfPath r
+StopsByPath (stop.PoolFull pool) = ⊥
+StopsByPath stop.ReadFault = ⊥
+StopsByPath stop.WriteFault = ⊥
+StopsByPath stop.Memory = ⊥
 
 -- The words refuse where they give no job, and only there.
 abbrev pub RefusesFor : Result Job WordFault → Refusal → Type 0

@@ -6,7 +6,7 @@ ghost use Rattle.abuf_cli.specs.Jobs.{job};
 ghost use Rattle.abuf_cli.specs.declared.job.What.TheVariants as what;
 ghost use Rattle.abuf_top.specs.Image.{DrawsOnce};
 ghost use Rattle.abuf_top.specs.Libraries.{told_by};
-ghost use Rattle.abuf_top.specs.Stopped.{HasReadCause, HasCause};
+ghost use Rattle.abuf_top.specs.Stopped.{HasReadCause, HasTaskCause, HasCause, StopsByPath};
 ghost use Rattle.abuf_top.specs.Fetches.{load_fetches, command_fetches, fetches, most_for_load, most_for_command, most_fetches};
 ghost use Rattle.abuf_top.specs.Fetches.{LoadNeedsNoSource, CommandNeedsNoSource, NeedsNoSource};
 ghost use Rattle.abuf_top.specs.Outside.{source_change, shelf_change, ReadFailed};
@@ -66,12 +66,13 @@ fn task_of<R: Threads + Sync, S: Source, H: Shelf>(
 ) -> Result<Task, Stop>
     ensures told { AnswersAs (command_verdict job.what job) (λ verdict rose. PreparesTask verdict rose result)
         (source_change S.left S.faults scene.old scene.new) (shelf_change H.tells H.holds H.calls H.faults shelf.old shelf.new) }
-    ensures cause { IfErr result (HasReadCause (Rose (S.faults scene.old) (S.faults scene.new) ⊎ Rose (H.faults shelf.old) (H.faults shelf.new))) }
+    ensures cause { IfErr result (HasTaskCause (Rose (S.faults scene.old) (S.faults scene.new) ⊎ Rose (H.faults shelf.old) (H.faults shelf.new))) }
     ensures calls { CallsShelf (command_fetches job.what)
         (source_change S.left S.faults scene.old scene.new) (shelf_change H.tells H.holds H.calls H.faults shelf.old shelf.new) }
     ensures most { IfSome (most_for_command job.what (S.left scene.old)) (λ n. H.calls shelf.new ≤ H.calls shelf.old + n) }
     ensures source { CommandNeedsNoSource job.what (told_by (H.tells shelf.old) (H.holds shelf.old))
         → IsUncalled (source_change S.left S.faults scene.old scene.new) }
+    ensures path { IfErr result (λ stop. StopsByPath stop → IsUncalled (source_change S.left S.faults scene.old scene.new)) }
     ensures job { IfOk result (IsTaskOf (Ok job)) }
 {
     if let Some(name) = path_of(&job) {
@@ -101,6 +102,7 @@ pub fn prepare<R: Threads + Sync, S: Source, H: Shelf>(
     ensures most { IfSome (most_fetches (job (map string_bytes words.now)) (S.left scene.old)) (λ n. H.calls shelf.new ≤ H.calls shelf.old + n) }
     ensures source { NeedsNoSource (job (map string_bytes words.now)) (told_by (H.tells shelf.old) (H.holds shelf.old))
         → IsUncalled (source_change S.left S.faults scene.old scene.new) }
+    ensures path { IfErr result (λ stop. StopsByPath stop → IsUncalled (source_change S.left S.faults scene.old scene.new)) }
     ensures words { IfOk result (IsTaskOf (job (map string_bytes words.now))) }
 {
     let job = read_words(alloc, words)?;

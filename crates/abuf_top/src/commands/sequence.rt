@@ -14,7 +14,7 @@ ghost use Rattle.abuf_top.specs.Outside.{source_change, shelf_change};
 ghost use Rattle.abuf_top.specs.Reads.{AnswersAs, CallsShelf, IsUncalled};
 ghost use Rattle.abuf_top.specs.Paths.{path_verdict, shots_by};
 ghost use Rattle.abuf_top.specs.Prepared.{LoadsPath, PreparesImages};
-ghost use Rattle.abuf_top.specs.Stopped.{HasReadCause, IsOfDrawing};
+ghost use Rattle.abuf_top.specs.Stopped.{HasTaskCause, IsOfDrawing, StopsByPath};
 ghost use Rattle.abuf_top.specs.Verdict.{sequence_verdict, pools_verdict};
 
 use crate::load::load;
@@ -88,7 +88,7 @@ impl Images {
 fn read_shots(alloc: Global, content: &[u8]) -> Result<List<Shot>, Stop>
     requires { length content.now ≤ MAX_PATH_BYTES }
     ensures told { LoadsPath (shots_by (path content.now)) ⊥ result }
-    ensures cause { IfErr result (HasReadCause ⊥) }
+    ensures cause { IfErr result (HasTaskCause ⊥) }
     ensures shots { IfOk result (All IsShot) }
     ensures few { IfOk result (λ shots. length shots ≤ MAX_IMAGES) }
 {
@@ -102,7 +102,7 @@ fn read_shots(alloc: Global, content: &[u8]) -> Result<List<Shot>, Stop>
 // The shots of the path of this name.
 fn fetch_path<H: Shelf>(alloc: Global, shelf: &mut H, name: &[u8]) -> Result<List<Shot>, Stop>
     ensures told { H.tells shelf.old ≡ true → LoadsPath (path_verdict (H.holds shelf.old name.now)) (Rose (H.faults shelf.old) (H.faults shelf.new)) result }
-    ensures cause { IfErr result (HasReadCause (Rose (H.faults shelf.old) (H.faults shelf.new))) }
+    ensures cause { IfErr result (HasTaskCause (Rose (H.faults shelf.old) (H.faults shelf.new))) }
     ensures shots { IfOk result (All IsShot) }
     ensures few { IfOk result (λ shots. length shots ≤ MAX_IMAGES) }
     ensures tells { H.tells shelf.new ≡ H.tells shelf.old }
@@ -150,12 +150,13 @@ pub fn prepare_images<S: Source, H: Shelf>(
     requires name { job.now.what ≡ what.Sequence name.now }
     ensures told { AnswersAs (sequence_verdict job.now name.now) (λ verdict rose. PreparesImages verdict rose result)
         (source_change S.left S.faults scene.old scene.new) (shelf_change H.tells H.holds H.calls H.faults shelf.old shelf.new) }
-    ensures cause { IfErr result (HasReadCause (Rose (S.faults scene.old) (S.faults scene.new) ⊎ Rose (H.faults shelf.old) (H.faults shelf.new))) }
+    ensures cause { IfErr result (HasTaskCause (Rose (S.faults scene.old) (S.faults scene.new) ⊎ Rose (H.faults shelf.old) (H.faults shelf.new))) }
     ensures calls { CallsShelf (sequence_fetches name.now)
         (source_change S.left S.faults scene.old scene.new) (shelf_change H.tells H.holds H.calls H.faults shelf.old shelf.new) }
     ensures most { IfSome (option_map (λ n. 1 + n) (most_for_libraries (S.left scene.old))) (λ n. H.calls shelf.new ≤ H.calls shelf.old + n) }
     ensures source { PathIsRefused name.now (told_by (H.tells shelf.old) (H.holds shelf.old))
         → IsUncalled (source_change S.left S.faults scene.old scene.new) }
+    ensures path { IfErr result (λ stop. StopsByPath stop → IsUncalled (source_change S.left S.faults scene.old scene.new)) }
     ensures plan { IfOk result (λ images. images.plan ≡ plan_of job.now) }
 {
     let shots = fetch_path(alloc, shelf, name)?;

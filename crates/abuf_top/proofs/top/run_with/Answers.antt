@@ -31,4 +31,4 @@ returns-in-Err g c =
     let ended = c.without_frame-in-Err in
     let ran = c.conclude-in-Err in
     let concludes = subst (λ (r : Result (Unit {0}) Stop). Concludes r ended.result.closed ran.result (sink_change g.E.Sink.taken g.E.Sink.faults c.args.err.now ran.new.err)) ended.ensures.result ran.ensures in
-    run_stopped _ _ from.source from.calls from.most c.in-Err.stop ended.result.closed ran.result from.told from.cause (Keeps-refl (g.O.Sink.taken c.args.out.now)) ended.ensures.closed concludes
+    run_stopped _ _ from.source from.calls from.most c.in-Err.stop ended.result.closed ran.result from.told from.cause from.path (Keeps-refl (g.O.Sink.taken c.args.out.now)) ended.ensures.closed concludes
