@@ -9,6 +9,7 @@ import platform
 import shlex
 import sys
 from dataclasses import dataclass, field
+from functools import lru_cache
 
 from testing.faults import Unusable
 from testing.processes import Answer, Processes
@@ -21,6 +22,7 @@ sys.path.insert(0, os.path.join(TOP, "examples", "driver"))
 import build  # noqa: E402
 
 NOT_SUPPORTED = 3  # the status of a driver that lacks what a case needs
+MOST_KEPT = 512  # answers of the oracle
 MODES = ("native", "grid", "magnify", "emulate", "image")
 ATTACHMENTS = ("none", "rgba8", "bgra8")
 ICD_FOLDERS = ("/etc/vulkan/icd.d", "/usr/local/share/vulkan/icd.d", "/usr/share/vulkan/icd.d", "/usr/lib/chromium")
@@ -113,11 +115,13 @@ def command_driver(command: str) -> Driver:
 
 
 class Oracle:
-    """The exact answers, by the program `exact`."""
+    """The exact answers, by the program `exact`. Those of a scene are asked for in most of its modes, so they are kept."""
 
     def __init__(self, processes: Processes) -> None:
         self.processes = processes
         self.program = built("exact")
+        self.fragments = lru_cache(MOST_KEPT)(self.ask_fragments)
+        self.image = lru_cache(MOST_KEPT)(self.ask_image)
 
     def ask(self, words: list[str], data: bytes) -> bytes:
         answer = self.processes.call([self.program, *words], data, None)
@@ -125,8 +129,8 @@ class Oracle:
             raise Unusable(answer.last_line or "the oracle was ended")
         return answer.out
 
-    def fragments(self, data: bytes, bits: int = 8) -> bytes:
+    def ask_fragments(self, data: bytes, bits: int = 8) -> bytes:
         return self.ask(["--bits", str(bits)], data)
 
-    def image(self, data: bytes, *words: str) -> bytes:
+    def ask_image(self, data: bytes, *words: str) -> bytes:
         return self.ask(["--image", "--maxval", "65535", *words], data)

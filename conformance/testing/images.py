@@ -77,20 +77,26 @@ def window_about(image: Image, pixel: tuple[int, int]) -> Window:
     return Window(left, top, width, height)
 
 
+def rows_of(image: Image, window: Window) -> list[tuple[int, ...]]:
+    """The values of each row that the window shows."""
+    starts = [3 * (y * image.width + window.left) for y in range(window.top, window.top + window.height)]
+    return [image.values[start:start + 3 * window.width] for start in starts]
+
+
 def picture(image: Image, window: Window) -> bytes:
     """A PNG of what the window shows."""
-    values = (value * 255 // image.maxval
-              for y in range(window.top, window.top + window.height)
-              for x in range(window.left, window.left + window.width) for value in image.pixel(x, y))
-    return png(window.width, window.height, bytes(values))
+    values = bytes(value * 255 // image.maxval for row in rows_of(image, window) for value in row)
+    return png(window.width, window.height, values)
 
 
 def difference_picture(a: Image, b: Image, window: Window) -> bytes:
     """Red for a small difference to yellow for a great one, over the first image, grey and dim."""
     pixels = bytearray()
-    for y in range(window.top, window.top + window.height):
-        for x in range(window.left, window.left + window.width):
-            p, q = a.pixel(x, y), b.pixel(x, y)
-            greatest = max(abs(v - w) for v, w in zip(p, q))
-            pixels += bytes((255, 255 * greatest // a.maxval, 0) if greatest else [sum(p) * 85 // (3 * a.maxval)] * 3)
+    for p, q in zip(rows_of(a, window), rows_of(b, window)):
+        for at in range(0, len(p), 3):
+            if p[at:at + 3] == q[at:at + 3]:
+                pixels += bytes([sum(p[at:at + 3]) * 85 // (3 * a.maxval)]) * 3
+            else:
+                greatest = max(abs(p[n] - q[n]) for n in range(at, at + 3))
+                pixels += bytes((255, 255 * greatest // a.maxval, 0))
     return png(window.width, window.height, bytes(pixels))

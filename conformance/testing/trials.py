@@ -6,9 +6,10 @@ import base64
 import signal
 import tempfile
 from dataclasses import asdict, dataclass, field
+from functools import lru_cache
 
 from testing.cases import Case
-from testing.drivers import NOT_SUPPORTED, TOP, Driver, Oracle
+from testing.drivers import MOST_KEPT, NOT_SUPPORTED, TOP, Driver, Oracle
 from testing.faults import read_bytes
 from testing.images import (Image, difference_picture, differing, image_of, picture, window_about)
 from testing.processes import Answer, Processes
@@ -86,8 +87,7 @@ class Bench:
     # ---- a trial
 
     def run(self, case: Case) -> Trial:
-        data = read_bytes(case.path)
-        return self.run_scene(case, scene_of(data.decode(errors="replace"), case.path), data)
+        return self.run_scene(case, *scene_of_file(case.path))
 
     def try_scene(self, scene: Scene, mode: str, attachment: str) -> Trial:
         """A trial of a scene that has no file."""
@@ -178,12 +178,18 @@ class Bench:
         with tempfile.NamedTemporaryFile() as file:
             file.write(fragments)
             file.flush()
-            return self.oracle.image(scene, "--fragments", file.name)
+            return self.oracle.ask_image(scene, "--fragments", file.name)
 
     def tell(self, trial: Trial, finding: Finding) -> None:
         trial.status, trial.verdict, trial.reason = finding.status, finding.verdict, finding.reason
         trial.finding = {key: value for key, value in asdict(finding).items()
                          if key not in ("verdict", "reason") and value not in ([], {}, None)}
+
+
+@lru_cache(MOST_KEPT)
+def scene_of_file(path: str) -> tuple[Scene, bytes]:
+    data = read_bytes(path)
+    return scene_of(data.decode(errors="replace"), path), data
 
 
 def bad_end(answer: Answer, timeout: float) -> tuple[str, str] | None:

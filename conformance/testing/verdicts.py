@@ -246,6 +246,8 @@ def samples_that_differ(scene: Scene, exact: Fragments, driver: Fragments, abili
     seams = Seams(scene, driver, exact, abilities)
     found = []
     for x, y, n in sorted(exact.keys() | driver.keys()):
+        if driver.get((x, y, n)) == exact.get((x, y, n)):
+            continue
         triangle = scene.triangles[n]
         for k in range(scene.samples):
             count = times(driver, x, y, n, k)
