@@ -144,9 +144,16 @@ class Oracle(unittest.TestCase):
         good = "size 4 4\nsamples 1\nbackground 0 0 0\n"
         for text in ("", "size 4\n", "size 4 4\n", good + "t 1 2 3\n", "size 0 4\nsamples 1\n", good + "u 1\n",
                      "size 4 4\nsamples 3\n", good + "t 0 0 -1 0 0 0 0 0 0 0 0 0 0\n", good + "t" + " 9" * 14 + "\n",
-                     good + "t 99999999999999999999" + " 0" * 12 + "\n", good + "t 0 0 0 0 0 0 0 0 0 65536 0 0 0\n"):
+                     good + "t 99999999999999999999" + " 0" * 12 + "\n", good + "t 0 0 0 0 0 0 0 0 0 65536 0 0 0\n",
+                     good + "t 70368744177665" + " 0" * 12 + "\n", "size 4097 4\nsamples 1\n", good + "\n",
+                     good.replace("\n", "\r\n"), good + "background 0 0 65536\n"):
             done = subprocess.run([EXACT], input=text, capture_output=True, text=True)
             self.assertEqual((done.returncode, done.stderr.count("\n"), done.stdout), (2, 1, ""), text)
+            with self.assertRaisesRegex(Unusable, "^scene: .*$"):
+                scenes.scene_of(text, "scene")
+        for text in (good, good + "# any words\n", good + "t 70368744177664" + " 0" * 12):
+            self.assertEqual(subprocess.run([EXACT], input=text, capture_output=True, text=True).returncode, 0, text)
+            self.assertEqual(scenes.scene_of(text, "scene").width, 4)
 
 
 class PlantedFaults(Folder):

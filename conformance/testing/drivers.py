@@ -7,6 +7,7 @@ import json
 import os
 import platform
 import shlex
+import shutil
 import sys
 from dataclasses import dataclass, field
 from functools import lru_cache
@@ -60,7 +61,8 @@ class Driver:
         if answer.status is None:
             raise Unusable(f"the driver doesn't tell what it is within {timeout:g} s")
         if answer.status != 0:
-            raise Unusable(answer.last_line or f"the driver ends with status {answer.status} on --info")
+            raise Unusable(f"{self.words[0]} --info ends with status {answer.status}"
+                           + (f": {answer.last_line}" if answer.last_line else ""))
         try:
             info = json.loads(answer.out)
             if not all(isinstance(info[key], kind) for key, kind in KEYS.items()):
@@ -79,8 +81,9 @@ def icd_of(name: str) -> str:
     there = [path for folder in ICD_FOLDERS for path in sorted(glob.glob(os.path.join(folder, "*.json")))]
     found = [path for path in there if name in os.path.basename(path)]
     if not found:
-        names = ", ".join(os.path.basename(path) for path in there) or "none; install mesa-vulkan-drivers or chromium"
-        raise Unusable(f"no Vulkan driver's ICD file is {name}; there are {names}")
+        names = ", ".join(os.path.basename(path) for path in there) or "none"
+        raise Unusable(f"no Vulkan driver's ICD file is {name}; there are {names}; Debian's mesa-vulkan-drivers has lvp, "
+                       "and its chromium SwiftShader")
     return found[0]
 
 
@@ -109,13 +112,13 @@ def command_driver(command: str) -> Driver:
         words = shlex.split(command)
     except ValueError as why:
         raise Unusable(f"--driver: {why}") from None
-    if not words:
-        raise Unusable("--driver has no command")
+    if not words or shutil.which(words[0]) is None:
+        raise Unusable(f"--driver: there is no program {words[0]}" if words else "--driver has no command")
     return Driver(words)
 
 
 class Oracle:
-    """The exact answers, by the program `exact`. Those of a scene are asked for in most of its modes, so they are kept."""
+    """The exact answers, by the program `exact`. Most modes of a scene have the same one, so they are kept."""
 
     def __init__(self, processes: Processes) -> None:
         self.processes = processes

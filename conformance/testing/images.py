@@ -89,14 +89,16 @@ def picture(image: Image, window: Window) -> bytes:
     return png(window.width, window.height, values)
 
 
-def difference_picture(a: Image, b: Image, window: Window) -> bytes:
-    """Red for a small difference to yellow for a great one, over the first image, grey and dim."""
+def difference_picture(a: Image, b: Image, window: Window, known: set[tuple[int, int]]) -> bytes:
+    """Red for a small difference to yellow for a great one, over the first image, grey and dim. Pixels that are known
+    to differ are red also where the colours agree."""
     pixels = bytearray()
-    for p, q in zip(rows_of(a, window), rows_of(b, window)):
-        for at in range(0, len(p), 3):
-            if p[at:at + 3] == q[at:at + 3]:
-                pixels += bytes([sum(p[at:at + 3]) * 85 // (3 * a.maxval)]) * 3
-            else:
-                greatest = max(abs(p[n] - q[n]) for n in range(at, at + 3))
+    for y, (p, q) in enumerate(zip(rows_of(a, window), rows_of(b, window)), window.top):
+        for x in range(window.width):
+            colour, other = p[3 * x:3 * x + 3], q[3 * x:3 * x + 3]
+            if colour != other or (window.left + x, y) in known:
+                greatest = max(abs(v - w) for v, w in zip(colour, other))
                 pixels += bytes((255, 255 * greatest // a.maxval, 0))
+            else:
+                pixels += bytes([sum(colour) * 85 // (3 * a.maxval)]) * 3
     return png(window.width, window.height, bytes(pixels))
