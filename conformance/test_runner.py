@@ -27,7 +27,7 @@ from collections import Counter
 HERE = os.path.dirname(os.path.abspath(__file__))
 sys.path.insert(0, HERE)
 
-from testing import cases, drivers, randoms, scenes, verdicts  # noqa: E402
+from testing import cases, drivers, images, randoms, scenes, verdicts  # noqa: E402
 from testing.faults import Unusable  # noqa: E402
 
 RUNNER = os.path.join(HERE, "runner.py")
@@ -370,6 +370,11 @@ class Reports(Folder):
                                   capture_output=True, text=True)
             self.assertEqual((done.returncode, done.stderr), (0, ""))
         self.assertEqual(done.stdout, page)
+
+    def test_the_picture_shows_pixels_whose_triangles_alone_differ(self) -> None:
+        image = images.Image(2, 1, 255, (9, 9, 9, 9, 9, 9))
+        picture = images.difference_picture(image, image, images.Window(0, 0, 2, 1), {(1, 0)})
+        self.assertEqual(picture, images.png(2, 1, bytes((3, 3, 3, 255, 0, 0))))
 
     def test_the_command_of_a_case_repeats_it(self) -> None:
         self.run_on(f"{EXACT} --fault every-edge", "--caselist", self.write("list", "coverage/fan@native\n"))

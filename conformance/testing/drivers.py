@@ -23,7 +23,7 @@ sys.path.insert(0, os.path.join(TOP, "examples", "driver"))
 import build  # noqa: E402
 
 NOT_SUPPORTED = 3  # the status of a driver that lacks what a case needs
-MOST_KEPT = 512  # answers of the oracle
+MOST_KEPT = 512  # scenes of the suite, and answers to them: more than there are
 MODES = ("native", "grid", "magnify", "emulate", "image")
 ATTACHMENTS = ("none", "rgba8", "bgra8")
 ICD_FOLDERS = ("/etc/vulkan/icd.d", "/usr/local/share/vulkan/icd.d", "/usr/share/vulkan/icd.d", "/usr/lib/chromium")
@@ -120,11 +120,11 @@ def command_driver(command: str) -> Driver:
 class Oracle:
     """The exact answers, by the program `exact`. Most modes of a scene have the same one, so they are kept."""
 
-    def __init__(self, processes: Processes) -> None:
+    def __init__(self, processes: Processes, kept: int) -> None:
         self.processes = processes
         self.program = built("exact")
-        self.fragments = lru_cache(MOST_KEPT)(self.ask_fragments)
-        self.image = lru_cache(MOST_KEPT)(self.ask_image)
+        self.fragments = lru_cache(kept)(self.ask_fragments)
+        self.image = lru_cache(kept)(self.ask_image)
 
     def ask(self, words: list[str], data: bytes) -> bytes:
         answer = self.processes.call([self.program, *words], data, None)
