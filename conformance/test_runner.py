@@ -32,6 +32,9 @@ from testing.faults import Unusable  # noqa: E402
 
 RUNNER = os.path.join(HERE, "runner.py")
 FAULTY = f"{sys.executable} {os.path.join(HERE, 'testing', 'faulty.py')}"
+SECONDS = str(100000 + os.getpid())  # so that two runs of these tests at once don't meet
+SLEEP = f"sleep {SECONDS}"  # what a driver that hangs leaves running
+os.environ["FAULTY_SECONDS"] = SECONDS
 SMALL = "^(coverage/(corners|fan|orders|tiny)@|subpixel/)"  # the cases that most faults are looked for in
 try:
     EXACT = drivers.built("exact")
@@ -221,7 +224,7 @@ class PlantedFaults(Folder):
                                "10" if fault == "hang" else "60")
             self.assertEqual(done.returncode, 1, done.stderr)
             self.assertEqual(set(self.statuses()), {"Pass", status})
-        self.assertEqual(processes_of("sleep 1000"), [])
+        self.assertEqual(processes_of(SLEEP), [])
 
 
 def processes_of(command: str) -> list[int]:
@@ -434,13 +437,13 @@ class Ends(Folder):
                                    stderr=subprocess.DEVNULL)
         journal = self.path("out/journal.jsonl")
         deadline = time.monotonic() + 300
-        while time.monotonic() < deadline and not (processes_of("sleep 1000") and self.count_lines(journal) > 1):
+        while time.monotonic() < deadline and not (processes_of(SLEEP) and self.count_lines(journal) > 1):
             time.sleep(0.05)
         process.send_signal(signal.SIGTERM)
         self.assertEqual(process.wait(300), 2)
-        while time.monotonic() < deadline and processes_of("sleep 1000"):
+        while time.monotonic() < deadline and processes_of(SLEEP):
             time.sleep(0.05)
-        self.assertEqual(processes_of("sleep 1000"), [])
+        self.assertEqual(processes_of(SLEEP), [])
         with open(journal, "a", encoding="utf-8") as file:
             file.write('{"name": "cut o')  # as where the machine went down
         with open(journal, encoding="utf-8") as file:
@@ -454,18 +457,18 @@ class Ends(Folder):
         self.assertEqual(sorted(again), sorted(self.trials()))
 
     def test_a_killed_runner_takes_its_drivers_with_it(self) -> None:
-        script = self.write("hang.sh", 'case "$*" in *--info*) exec ' + EXACT + ' --info;; esac\nexec sleep 1234\n')
+        script = self.write("hang.sh", 'case "$*" in *--info*) exec ' + EXACT + ' --info;; esac\nexec ' + SLEEP + '\n')
         process = subprocess.Popen(self.words(f"sh {script}", "--include", SMALL, "--modes", "native"),
                                    stdout=subprocess.DEVNULL)
         deadline = time.monotonic() + 300
-        while time.monotonic() < deadline and not processes_of("sleep 1234"):
+        while time.monotonic() < deadline and not processes_of(SLEEP):
             time.sleep(0.05)
-        self.assertTrue(processes_of("sleep 1234"))
+        self.assertTrue(processes_of(SLEEP))
         process.kill()
         process.wait()
-        while time.monotonic() < deadline and processes_of("sleep 1234"):
+        while time.monotonic() < deadline and processes_of(SLEEP):
             time.sleep(0.05)
-        self.assertEqual(processes_of("sleep 1234"), [])
+        self.assertEqual(processes_of(SLEEP), [])
 
     def test_a_journal_of_another_driver_is_refused(self) -> None:
         words = ("--include", "^subpixel/", "--modes", "native")

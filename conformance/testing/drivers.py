@@ -82,8 +82,8 @@ def icd_of(name: str) -> str:
     found = [path for path in there if name in os.path.basename(path)]
     if not found:
         names = ", ".join(os.path.basename(path) for path in there) or "none"
-        raise Unusable(f"no Vulkan driver's ICD file is {name}; there are {names}; Debian's mesa-vulkan-drivers has lvp, "
-                       "and its chromium SwiftShader")
+        raise Unusable(f"no Vulkan driver's ICD file is {name}; there are {names}; Debian's mesa-vulkan-drivers has "
+                       "lvp, and its chromium SwiftShader")
     return found[0]
 
 
