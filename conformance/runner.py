@@ -247,6 +247,9 @@ def main() -> None:
     except (Unusable, OSError) as why:
         print(f"runner.py: {why}", file=sys.stderr)
         sys.exit(2)
+    except KeyboardInterrupt:
+        print("runner.py: ended by SIGINT", file=sys.stderr)
+        sys.exit(2)
 
 
 if __name__ == "__main__":
