@@ -105,7 +105,7 @@ def run(given: argparse.Namespace) -> int:
     make_folder(given.output)
     print(reports.title_of(driver.info), flush=True)
     write(os.path.join(given.output, "caselist.txt"), "".join(case.name + "\n" for case in chosen))
-    bench = Bench(driver, drivers.Oracle(processes), processes, given.timeout)
+    bench = Bench(driver, drivers.Oracle(processes, drivers.MOST_KEPT), processes, given.timeout)
     journal = runs.Journal(given.output, driver.info, given.resume)
     work = runs.Run(bench, chosen, expectations, journal, given.max_fails)
     ended_by = []
@@ -137,7 +137,7 @@ def run_random(given: argparse.Namespace) -> int:
         raise Unusable(f"the driver has no pattern for attachment {attachment}")
     make_folder(given.output)
     print(reports.title_of(driver.info))
-    bench = Bench(driver, drivers.Oracle(processes), processes, given.timeout)
+    bench = Bench(driver, drivers.Oracle(processes, 1), processes, given.timeout)
     bits = min(8, driver.info["subpixel_bits"] if given.bits is None else given.bits)
     found: Counter = Counter()
     for seed in range(given.seed, given.seed + given.scenes):
@@ -246,6 +246,9 @@ def main() -> None:
         sys.exit({"run": run, "random": run_random}.get(given.command, report)(given))
     except (Unusable, OSError) as why:
         print(f"runner.py: {why}", file=sys.stderr)
+        sys.exit(2)
+    except KeyboardInterrupt:
+        print("runner.py: ended by SIGINT", file=sys.stderr)
         sys.exit(2)
 
 

@@ -27,11 +27,14 @@ from collections import Counter
 HERE = os.path.dirname(os.path.abspath(__file__))
 sys.path.insert(0, HERE)
 
-from testing import cases, drivers, randoms, scenes, verdicts  # noqa: E402
+from testing import cases, drivers, images, randoms, scenes, verdicts  # noqa: E402
 from testing.faults import Unusable  # noqa: E402
 
 RUNNER = os.path.join(HERE, "runner.py")
 FAULTY = f"{sys.executable} {os.path.join(HERE, 'testing', 'faulty.py')}"
+SECONDS = str(100000 + os.getpid())  # so that two runs of these tests at once don't meet
+SLEEP = f"sleep {SECONDS}"  # what a driver that hangs leaves running
+os.environ["FAULTY_SECONDS"] = SECONDS
 SMALL = "^(coverage/(corners|fan|orders|tiny)@|subpixel/)"  # the cases that most faults are looked for in
 try:
     EXACT = drivers.built("exact")
@@ -144,9 +147,16 @@ class Oracle(unittest.TestCase):
         good = "size 4 4\nsamples 1\nbackground 0 0 0\n"
         for text in ("", "size 4\n", "size 4 4\n", good + "t 1 2 3\n", "size 0 4\nsamples 1\n", good + "u 1\n",
                      "size 4 4\nsamples 3\n", good + "t 0 0 -1 0 0 0 0 0 0 0 0 0 0\n", good + "t" + " 9" * 14 + "\n",
-                     good + "t 99999999999999999999" + " 0" * 12 + "\n", good + "t 0 0 0 0 0 0 0 0 0 65536 0 0 0\n"):
+                     good + "t 99999999999999999999" + " 0" * 12 + "\n", good + "t 0 0 0 0 0 0 0 0 0 65536 0 0 0\n",
+                     good + "t 70368744177665" + " 0" * 12 + "\n", "size 4097 4\nsamples 1\n", good + "\n",
+                     good.replace("\n", "\r\n"), good + "background 0 0 65536\n"):
             done = subprocess.run([EXACT], input=text, capture_output=True, text=True)
             self.assertEqual((done.returncode, done.stderr.count("\n"), done.stdout), (2, 1, ""), text)
+            with self.assertRaisesRegex(Unusable, "^scene: .*$"):
+                scenes.scene_of(text, "scene")
+        for text in (good, good + "# any words\n", good + "t 70368744177664" + " 0" * 12):
+            self.assertEqual(subprocess.run([EXACT], input=text, capture_output=True, text=True).returncode, 0, text)
+            self.assertEqual(scenes.scene_of(text, "scene").width, 4)
 
 
 class PlantedFaults(Folder):
@@ -214,7 +224,7 @@ class PlantedFaults(Folder):
                                "10" if fault == "hang" else "60")
             self.assertEqual(done.returncode, 1, done.stderr)
             self.assertEqual(set(self.statuses()), {"Pass", status})
-        self.assertEqual(processes_of("sleep 1000"), [])
+        self.assertEqual(processes_of(SLEEP), [])
 
 
 def processes_of(command: str) -> list[int]:
@@ -364,6 +374,11 @@ class Reports(Folder):
             self.assertEqual((done.returncode, done.stderr), (0, ""))
         self.assertEqual(done.stdout, page)
 
+    def test_the_picture_shows_pixels_whose_triangles_alone_differ(self) -> None:
+        image = images.Image(2, 1, 255, (9, 9, 9, 9, 9, 9))
+        picture = images.difference_picture(image, image, images.Window(0, 0, 2, 1), {(1, 0)})
+        self.assertEqual(picture, images.png(2, 1, bytes((3, 3, 3, 255, 0, 0))))
+
     def test_the_command_of_a_case_repeats_it(self) -> None:
         self.run_on(f"{EXACT} --fault every-edge", "--caselist", self.write("list", "coverage/fan@native\n"))
         command = self.trials()["coverage/fan@native"]["command"]
@@ -422,13 +437,13 @@ class Ends(Folder):
                                    stderr=subprocess.DEVNULL)
         journal = self.path("out/journal.jsonl")
         deadline = time.monotonic() + 300
-        while time.monotonic() < deadline and not (processes_of("sleep 1000") and self.count_lines(journal) > 1):
+        while time.monotonic() < deadline and not (processes_of(SLEEP) and self.count_lines(journal) > 1):
             time.sleep(0.05)
         process.send_signal(signal.SIGTERM)
         self.assertEqual(process.wait(300), 2)
-        while time.monotonic() < deadline and processes_of("sleep 1000"):
+        while time.monotonic() < deadline and processes_of(SLEEP):
             time.sleep(0.05)
-        self.assertEqual(processes_of("sleep 1000"), [])
+        self.assertEqual(processes_of(SLEEP), [])
         with open(journal, "a", encoding="utf-8") as file:
             file.write('{"name": "cut o')  # as where the machine went down
         with open(journal, encoding="utf-8") as file:
@@ -442,18 +457,18 @@ class Ends(Folder):
         self.assertEqual(sorted(again), sorted(self.trials()))
 
     def test_a_killed_runner_takes_its_drivers_with_it(self) -> None:
-        script = self.write("hang.sh", 'case "$*" in *--info*) exec ' + EXACT + ' --info;; esac\nexec sleep 1234\n')
+        script = self.write("hang.sh", 'case "$*" in *--info*) exec ' + EXACT + ' --info;; esac\nexec ' + SLEEP + '\n')
         process = subprocess.Popen(self.words(f"sh {script}", "--include", SMALL, "--modes", "native"),
                                    stdout=subprocess.DEVNULL)
         deadline = time.monotonic() + 300
-        while time.monotonic() < deadline and not processes_of("sleep 1234"):
+        while time.monotonic() < deadline and not processes_of(SLEEP):
             time.sleep(0.05)
-        self.assertTrue(processes_of("sleep 1234"))
+        self.assertTrue(processes_of(SLEEP))
         process.kill()
         process.wait()
-        while time.monotonic() < deadline and processes_of("sleep 1234"):
+        while time.monotonic() < deadline and processes_of(SLEEP):
             time.sleep(0.05)
-        self.assertEqual(processes_of("sleep 1234"), [])
+        self.assertEqual(processes_of(SLEEP), [])
 
     def test_a_journal_of_another_driver_is_refused(self) -> None:
         words = ("--include", "^subpixel/", "--modes", "native")

@@ -9,6 +9,7 @@ import json
 import os
 import re
 from dataclasses import dataclass
+from typing import Any
 
 from testing.drivers import ATTACHMENTS, MODES, SUITE
 from testing.faults import Unusable, read_text
@@ -57,12 +58,19 @@ def case_of(name: str, known: set[str]) -> Case:
     return Case(scene, *mode_of(mode))
 
 
+def json_of(path: str) -> Any:
+    try:
+        return json.loads(read_text(path))
+    except ValueError:
+        raise Unusable(f"{path}: isn't JSON; take it from the repository again") from None
+
+
 def shows() -> dict[str, str]:
     """What each scene shows, in a sentence."""
     found = {}
     for path in glob.glob(os.path.join(SUITE, "*", "cases.json")):
         folder = os.path.basename(os.path.dirname(path))
-        for record in json.loads(read_text(path)):
+        for record in json_of(path):
             found[f"{folder}/{record['name']}"] = record["shows"]
     return found
 
@@ -70,7 +78,7 @@ def shows() -> dict[str, str]:
 def tags() -> dict[str, dict]:
     """What each scene asks of a driver, as tags.py tells it."""
     path = os.path.join(SUITE, "tags.json")
-    return json.loads(read_text(path)) if os.path.exists(path) else {}
+    return json_of(path) if os.path.exists(path) else {}
 
 
 # ---- lists

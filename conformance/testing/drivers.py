@@ -7,8 +7,10 @@ import json
 import os
 import platform
 import shlex
+import shutil
 import sys
 from dataclasses import dataclass, field
+from functools import lru_cache
 
 from testing.faults import Unusable
 from testing.processes import Answer, Processes
@@ -21,6 +23,7 @@ sys.path.insert(0, os.path.join(TOP, "examples", "driver"))
 import build  # noqa: E402
 
 NOT_SUPPORTED = 3  # the status of a driver that lacks what a case needs
+MOST_KEPT = 512  # scenes of the suite, and answers to them: more than there are
 MODES = ("native", "grid", "magnify", "emulate", "image")
 ATTACHMENTS = ("none", "rgba8", "bgra8")
 ICD_FOLDERS = ("/etc/vulkan/icd.d", "/usr/local/share/vulkan/icd.d", "/usr/share/vulkan/icd.d", "/usr/lib/chromium")
@@ -58,7 +61,8 @@ class Driver:
         if answer.status is None:
             raise Unusable(f"the driver doesn't tell what it is within {timeout:g} s")
         if answer.status != 0:
-            raise Unusable(answer.last_line or f"the driver ends with status {answer.status} on --info")
+            raise Unusable(f"{self.words[0]} --info ends with status {answer.status}"
+                           + (f": {answer.last_line}" if answer.last_line else ""))
         try:
             info = json.loads(answer.out)
             if not all(isinstance(info[key], kind) for key, kind in KEYS.items()):
@@ -77,8 +81,9 @@ def icd_of(name: str) -> str:
     there = [path for folder in ICD_FOLDERS for path in sorted(glob.glob(os.path.join(folder, "*.json")))]
     found = [path for path in there if name in os.path.basename(path)]
     if not found:
-        names = ", ".join(os.path.basename(path) for path in there) or "none; install mesa-vulkan-drivers or chromium"
-        raise Unusable(f"no Vulkan driver's ICD file is {name}; there are {names}")
+        names = ", ".join(os.path.basename(path) for path in there) or "none"
+        raise Unusable(f"no Vulkan driver's ICD file is {name}; there are {names}; Debian's mesa-vulkan-drivers has "
+                       "lvp, and its chromium SwiftShader")
     return found[0]
 
 
@@ -107,17 +112,19 @@ def command_driver(command: str) -> Driver:
         words = shlex.split(command)
     except ValueError as why:
         raise Unusable(f"--driver: {why}") from None
-    if not words:
-        raise Unusable("--driver has no command")
+    if not words or shutil.which(words[0]) is None:
+        raise Unusable(f"--driver: there is no program {words[0]}" if words else "--driver has no command")
     return Driver(words)
 
 
 class Oracle:
-    """The exact answers, by the program `exact`."""
+    """The exact answers, by the program `exact`. Most modes of a scene have the same one, so they are kept."""
 
-    def __init__(self, processes: Processes) -> None:
+    def __init__(self, processes: Processes, kept: int) -> None:
         self.processes = processes
         self.program = built("exact")
+        self.fragments = lru_cache(kept)(self.ask_fragments)
+        self.image = lru_cache(kept)(self.ask_image)
 
     def ask(self, words: list[str], data: bytes) -> bytes:
         answer = self.processes.call([self.program, *words], data, None)
@@ -125,8 +132,8 @@ class Oracle:
             raise Unusable(answer.last_line or "the oracle was ended")
         return answer.out
 
-    def fragments(self, data: bytes, bits: int = 8) -> bytes:
+    def ask_fragments(self, data: bytes, bits: int = 8) -> bytes:
         return self.ask(["--bits", str(bits)], data)
 
-    def image(self, data: bytes, *words: str) -> bytes:
+    def ask_image(self, data: bytes, *words: str) -> bytes:
         return self.ask(["--image", "--maxval", "65535", *words], data)

@@ -4,7 +4,7 @@
     faulty.py crash|hang|nonsense|outside [WORDS of exact..]
 
 It is there to test the runner. Which scenes it spoils hangs on their bytes alone. A hang starts a
-process of its own, which has to end too.
+process of its own, which has to end too; it lasts as long as the variable FAULTY_SECONDS says.
 """
 
 from __future__ import annotations
@@ -27,8 +27,9 @@ def main() -> None:
         if fault == "crash":
             os.kill(os.getpid(), signal.SIGSEGV)
         elif fault == "hang":
-            subprocess.Popen(["sleep", "1000"])
-            time.sleep(1000)
+            seconds = os.environ.get("FAULTY_SECONDS", "1000")
+            subprocess.Popen(["sleep", seconds])
+            time.sleep(int(seconds))
         elif fault == "nonsense":
             print("out of cheese error")
             sys.exit(0)

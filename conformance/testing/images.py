@@ -77,20 +77,28 @@ def window_about(image: Image, pixel: tuple[int, int]) -> Window:
     return Window(left, top, width, height)
 
 
+def rows_of(image: Image, window: Window) -> list[tuple[int, ...]]:
+    """The values of each row that the window shows."""
+    starts = [3 * (y * image.width + window.left) for y in range(window.top, window.top + window.height)]
+    return [image.values[start:start + 3 * window.width] for start in starts]
+
+
 def picture(image: Image, window: Window) -> bytes:
     """A PNG of what the window shows."""
-    values = (value * 255 // image.maxval
-              for y in range(window.top, window.top + window.height)
-              for x in range(window.left, window.left + window.width) for value in image.pixel(x, y))
-    return png(window.width, window.height, bytes(values))
+    values = bytes(value * 255 // image.maxval for row in rows_of(image, window) for value in row)
+    return png(window.width, window.height, values)
 
 
-def difference_picture(a: Image, b: Image, window: Window) -> bytes:
-    """Red for a small difference to yellow for a great one, over the first image, grey and dim."""
+def difference_picture(a: Image, b: Image, window: Window, known: set[tuple[int, int]]) -> bytes:
+    """Red for a small difference to yellow for a great one, over the first image, grey and dim. Pixels that are known
+    to differ are red also where the colours agree."""
     pixels = bytearray()
-    for y in range(window.top, window.top + window.height):
-        for x in range(window.left, window.left + window.width):
-            p, q = a.pixel(x, y), b.pixel(x, y)
-            greatest = max(abs(v - w) for v, w in zip(p, q))
-            pixels += bytes((255, 255 * greatest // a.maxval, 0) if greatest else [sum(p) * 85 // (3 * a.maxval)] * 3)
+    for y, (p, q) in enumerate(zip(rows_of(a, window), rows_of(b, window)), window.top):
+        for x in range(window.width):
+            colour, other = p[3 * x:3 * x + 3], q[3 * x:3 * x + 3]
+            if colour != other or (window.left + x, y) in known:
+                greatest = max(abs(v - w) for v, w in zip(colour, other))
+                pixels += bytes((255, 255 * greatest // a.maxval, 0))
+            else:
+                pixels += bytes([sum(colour) * 85 // (3 * a.maxval)]) * 3
     return png(window.width, window.height, bytes(pixels))

@@ -5,6 +5,7 @@ from __future__ import annotations
 import base64
 import html
 import math
+import re
 from collections import Counter, defaultdict
 
 from testing.cases import shows, tags
@@ -13,7 +14,7 @@ from testing.scenes import OFFSETS
 from testing.verdicts import RULES, VERDICTS
 
 PICTURE_SIDE = 200  # of a picture on the page, nearly
-MOST_BESIDE = 8  # pixels that the drawing of the worst sample shows on each side of it
+MOST_BESIDE = 32  # pixels that the drawing of the worst sample shows on each side of it
 
 STYLE = """
 :root { color-scheme: light dark; --text: #1c2024; --back: #fff; --quiet: #5c6670; --line: #d5dade;
@@ -38,7 +39,8 @@ article > header { display: flex; flex-wrap: wrap; gap: .2rem .8rem; justify-con
 .figures { display: flex; flex-wrap: wrap; gap: .8rem; margin: .6rem 0 }
 figure { margin: 0 }
 figure img, figure svg { display: block; image-rendering: pixelated; border: 1px solid var(--line); max-width: 100% }
-@media (max-width: 34rem) { figure { width: calc(50% - .4rem) } figure img, figure svg { width: 100%; height: auto } }
+@media (max-width: 34rem) { th, td { padding: .2rem .35rem } .wide { font-size: .85rem }
+  figure { width: calc(50% - .4rem) } figure img, figure svg { width: 100%; height: auto } }
 figcaption { font-size: .8rem; color: var(--quiet) }
 code, pre { font: .85rem/1.4 ui-monospace, monospace; overflow-wrap: anywhere; white-space: pre-wrap }
 pre { background: var(--box); padding: .5rem .7rem; border-radius: .3rem; margin: .4rem 0 }
@@ -51,6 +53,15 @@ TONES = {"Pass": "good", "Fail": "bad", "Crash": "bad", "Timeout": "bad", "Malfo
 
 def text(value: object) -> str:
     return html.escape(str(value))
+
+
+def capital(sentence: str) -> str:
+    return sentence[:1].upper() + sentence[1:]
+
+
+def headings(kinds: list[str]) -> str:
+    """Of columns; a narrow page breaks ExpectedFail in its middle."""
+    return "".join("<th>" + "<wbr>".join(re.findall("[A-Z][a-z]*", kind)) for kind in kinds)
 
 
 def tone(outcome: str) -> str:
@@ -102,8 +113,8 @@ def totals(results: dict) -> str:
     bad = len(results["bad"])
     told = (f"<p class=bad>{bad} case{'s' * (bad != 1)} not as expected.</p>" if bad
             else "<p class=good>All is as expected.</p>")
-    return (f"{told}<div class=wide><table><thead><tr><th>Mode" + "".join(f"<th>{kind}" for kind in kinds)
-            + f"</thead>{cells}</table></div>")
+    return (f"{told}<div class=wide><table><thead><tr><th>Mode{headings(kinds)}"
+            f"</thead>{cells}</table></div>")
 
 
 def folders(results: dict) -> str:
@@ -115,7 +126,7 @@ def folders(results: dict) -> str:
     cells = "".join(f"<tr><td>{text(folder)}" + "".join(f"<td class={tone(k)}>{counts.get(k) or ''}" for k in kinds)
                     for folder, counts in sorted(by_folder.items()))
     return ("<details><summary>By folder</summary><div class=wide><table><thead><tr><th>Folder"
-            + "".join(f"<th>{kind}" for kind in kinds) + f"</thead>{cells}</table></div></details>")
+            + headings(kinds) + f"</thead>{cells}</table></div></details>")
 
 
 # ---- a case
@@ -150,16 +161,17 @@ def zoom(worst: dict, samples: int) -> str:
     parts = [f'<path d="M{256 * n} 0V{side}M0 {256 * n}H{side}" stroke="var(--line)" stroke-width="{line / 2}"/>'
              for n in range(count + 1)]
     corners = worst["corners"]
-    for a, b in zip(corners, [*corners[1:], corners[0]]):
-        if ends := clipped_line(a, b, low, high):
-            x1, y1, x2, y2 = (value - low[n % 2] for n, value in enumerate(ends))
-            parts.append(f'<line x1="{x1:.1f}" y1="{y1:.1f}" x2="{x2:.1f}" y2="{y2:.1f}" stroke="var(--exact)" '
-                         f'stroke-width="{line}"/>')
+    edges = [ends for a, b in zip(corners, [*corners[1:], corners[0]]) if (ends := clipped_line(a, b, low, high))]
+    for ends in edges:
+        x1, y1, x2, y2 = (value - low[n % 2] for n, value in enumerate(ends))
+        parts.append(f'<line x1="{x1:.1f}" y1="{y1:.1f}" x2="{x2:.1f}" y2="{y2:.1f}" stroke="var(--exact)" '
+                     f'stroke-width="{line}"/>')
     parts.append(f'<circle cx="{place[0]}" cy="{place[1]}" r="{7 * count}" fill="none" stroke="var(--bad)" '
                  f'stroke-width="{1.5 * line}"/>')
+    told = " and its primitive's edges" if edges else f"; no edge of its primitive within {MOST_BESIDE} pixels"
     return (f'<figure><svg width="{PICTURE_SIDE}" height="{PICTURE_SIDE}" viewBox="0 0 {side} {side}" role="img" '
-            f'aria-label="edges near the sample">{"".join(parts)}</svg><figcaption>the worst sample and its '
-            "primitive's edges</figcaption></figure>")
+            f'aria-label="edges near the sample">{"".join(parts)}</svg><figcaption>the worst sample{told}'
+            "</figcaption></figure>")
 
 
 def worst_text(trial: dict) -> str:
@@ -207,7 +219,7 @@ def article(trial: dict, sentences: dict[str, str], known_tags: dict[str, dict],
     parts = [f"<article id=\"{text(trial['name'])}\"><header><h3>{text(trial['name'])}</h3>"
              f"<span class={tone(outcome)}>{text(outcome)}{': ' + text(verdict) if verdict else ''}</span></header>",
              f"<p class=quiet>{text(sentences.get(scene, ''))}{text(asks_text(known_tags.get(scene, {})))}</p>",
-             f"<p>{text(trial.get('reason', ''))}</p>"]
+             f"<p>{text(capital(trial.get('reason', '')))}</p>"]
     if trial.get("finding", {}).get("worst"):
         parts.append(worst_text(trial))
     parts.append(figures(trial, samples))

@@ -10,7 +10,7 @@ import sys
 import threading
 import time
 from collections import Counter
-from concurrent.futures import ThreadPoolExecutor
+from concurrent.futures import ThreadPoolExecutor, wait
 from dataclasses import dataclass, field
 
 from testing.cases import Case, Expected
@@ -20,6 +20,7 @@ from testing.trials import Bench, Trial, trial_of
 # As deqp-runner names them, and Changed: listed in the baseline with another status or verdict.
 GOOD = ("Pass", "Skip", "ExpectedFail", "ExpectedWarn", "KnownFlake", "Flake")
 RERUN = ("Fail", "Crash", "Malformed")  # to see whether they come out so again
+LONGEST_WAIT = 0.5  # seconds
 
 
 @dataclass
@@ -167,7 +168,11 @@ class Run:
     def run(self, jobs: int) -> list[Trial]:
         try:
             with ThreadPoolExecutor(jobs) as pool:
-                trials = list(pool.map(self.one, self.cases))
+                futures = [pool.submit(self.one, case) for case in self.cases]
+                # A signal that comes just before the main thread begins to wait is seen only when that ends.
+                while wait(futures, LONGEST_WAIT).not_done:
+                    pass
+                trials = [future.result() for future in futures]
         finally:
             self.progress.clear()
         if self.fault:

@@ -6,6 +6,7 @@ downwards.
 
 from __future__ import annotations
 
+import re
 import struct
 from dataclasses import dataclass, replace
 from math import hypot
@@ -23,7 +24,12 @@ OFFSETS: dict[int, list[Place]] = {
     16: [(1, 1), (-1, -3), (-3, 2), (4, -1), (-5, -2), (2, 5), (5, 3), (3, -5),
          (-2, 6), (0, -7), (-4, -6), (-6, 4), (-8, 0), (7, -4), (6, 7), (-7, -8)],
 }
-COUNTS = {"size": 2, "samples": 1, "background": 3, "t": 13}
+# What the numbers of a line lie between, as examples/driver/scene.c has it.
+SIDE, COLOUR, DEPTH, PLACE = (1, 4096), (0, 65535), (0, 16777215), (-(1 << 46), 1 << 46)
+CORNER = (PLACE, PLACE, DEPTH)
+RANGES = {"size": (SIDE,) * 2, "samples": ((1, 16),), "background": (COLOUR,) * 3,
+          "t": (*CORNER, *CORNER, *CORNER, *(COLOUR,) * 4)}
+NUMBER = re.compile("-?[0-9]{1,18}")
 
 
 @dataclass(frozen=True)
@@ -90,16 +96,17 @@ def scene_of(text: str, path: str) -> Scene:
     """The scene of a file, whose name is told where it isn't one."""
     found: dict[str, list[int]] = {"background": [0, 0, 0]}
     triangles = []
-    for number, line in enumerate(text.splitlines(), 1):
+    for number, line in enumerate(text.removesuffix("\n").split("\n"), 1):
         if line.startswith("#"):
             continue
         word, *rest = line.split(" ")
-        try:
-            values = [int(part) for part in rest]
-        except ValueError:
-            values = []
-        if word not in COUNTS or len(values) != COUNTS[word]:
-            raise Unusable(f"{path}: line {number} isn't one of a .tri file: {line[:40]}")
+        values = [int(part) for part in rest if NUMBER.fullmatch(part)]
+        ranges = RANGES.get(word, ())
+        if not ranges or not len(ranges) == len(rest) == len(values):
+            raise Unusable(f"{path}: line {number} isn't one of a .tri file: {line[:40]!r}")
+        for value, (least, most) in zip(values, ranges):
+            if not least <= value <= most:
+                raise Unusable(f"{path}: line {number}: {value} isn't {least} to {most}")
         if word == "t":
             xa, ya, qa, xb, yb, qb, xc, yc, qc, *paint = values
             triangles.append(Triangle(((xa, ya), (xb, yb), (xc, yc)), (qa, qb, qc), tuple(paint)))

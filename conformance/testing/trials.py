@@ -6,9 +6,10 @@ import base64
 import signal
 import tempfile
 from dataclasses import asdict, dataclass, field
+from functools import lru_cache
 
 from testing.cases import Case
-from testing.drivers import NOT_SUPPORTED, TOP, Driver, Oracle
+from testing.drivers import MOST_KEPT, NOT_SUPPORTED, TOP, Driver, Oracle
 from testing.faults import read_bytes
 from testing.images import (Image, difference_picture, differing, image_of, picture, window_about)
 from testing.processes import Answer, Processes
@@ -86,8 +87,7 @@ class Bench:
     # ---- a trial
 
     def run(self, case: Case) -> Trial:
-        data = read_bytes(case.path)
-        return self.run_scene(case, scene_of(data.decode(errors="replace"), case.path), data)
+        return self.run_scene(case, *scene_of_file(case.path))
 
     def try_scene(self, scene: Scene, mode: str, attachment: str) -> Trial:
         """A trial of a scene that has no file."""
@@ -118,8 +118,8 @@ class Bench:
         if out == exact:
             trial.status = "Pass"
             return
-        driver = fragments_of(out.decode(errors="replace"), scene)
-        finding = find(scene.rounded(bits), fragments_of(exact.decode(), scene), driver, self.abilities(case))
+        driver, wanted = fragments_of(out.decode(errors="replace"), scene), fragments_of(exact.decode(), scene)
+        finding = find(scene.rounded(bits), wanted, driver, self.abilities(case))
         if finding is None:  # the lines stand in another order
             trial.status = "Pass"
             return
@@ -131,7 +131,8 @@ class Bench:
             rounded = scene.rounded(bits).text().encode()
             expected = image_of(self.oracle.image(rounded))
             actual = image_of(self.fold(rounded, out))
-            trial.pictures = pictures(expected, actual, finding.worst["pixel"])
+            known = {key[:2] for key in wanted.keys() | driver.keys() if wanted.get(key) != driver.get(key)}
+            trial.pictures = pictures(expected, actual, finding.worst["pixel"], known)
 
     def compare_images(self, trial: Trial, case: Case, scene: Scene, data: bytes, out: bytes) -> None:
         expected, actual = image_of(self.oracle.image(data)), image_of(out)
@@ -146,7 +147,7 @@ class Bench:
         else:
             finding, pixel = self.find_order(scene, data, expected, actual)
         self.tell(trial, finding)
-        trial.pictures = pictures(expected, actual, pixel)
+        trial.pictures = pictures(expected, actual, pixel, set())
 
     def find_coverage(self, case: Case, scene: Scene, data: bytes) -> Finding | None:
         """What the fragments of a case have whose image differs, or None if the driver gives the exact ones or none."""
@@ -178,12 +179,18 @@ class Bench:
         with tempfile.NamedTemporaryFile() as file:
             file.write(fragments)
             file.flush()
-            return self.oracle.image(scene, "--fragments", file.name)
+            return self.oracle.ask_image(scene, "--fragments", file.name)
 
     def tell(self, trial: Trial, finding: Finding) -> None:
         trial.status, trial.verdict, trial.reason = finding.status, finding.verdict, finding.reason
         trial.finding = {key: value for key, value in asdict(finding).items()
                          if key not in ("verdict", "reason") and value not in ([], {}, None)}
+
+
+@lru_cache(MOST_KEPT)
+def scene_of_file(path: str) -> tuple[Scene, bytes]:
+    data = read_bytes(path)
+    return scene_of(data.decode(errors="replace"), path), data
 
 
 def bad_end(answer: Answer, timeout: float) -> tuple[str, str] | None:
@@ -199,10 +206,10 @@ def bad_end(answer: Answer, timeout: float) -> tuple[str, str] | None:
     return None
 
 
-def pictures(expected: Image, actual: Image, pixel: tuple[int, int]) -> dict[str, str]:
+def pictures(expected: Image, actual: Image, pixel: tuple[int, int], known: set[tuple[int, int]]) -> dict[str, str]:
     window = window_about(expected, pixel)
     kinds = {"expected": picture(expected, window), "actual": picture(actual, window),
-             "difference": difference_picture(expected, actual, window)}
+             "difference": difference_picture(expected, actual, window, known)}
     return {kind: base64.b64encode(data).decode() for kind, data in kinds.items()}
 
 

@@ -204,7 +204,10 @@ Driver open_driver(const Choice *choice)
     VkInstance instance = make_instance();
     if (choice->fault)
         errx(2, "only `exact` has faults to plant");
-    MUST(vkEnumeratePhysicalDevices(instance, &count, devices));
+    VkResult result = vkEnumeratePhysicalDevices(instance, &count, devices);
+    if (result == VK_ERROR_INITIALIZATION_FAILED || (result == VK_SUCCESS && count == 0))
+        errx(2, "the Vulkan driver finds no device of its own on this machine");
+    must(result, "vkEnumeratePhysicalDevices");
     if ((uint32_t)choice->device >= count)
         errx(2, "there is no device %d of Vulkan, but %u of them", choice->device, count);
     physical = devices[choice->device];
