@@ -240,6 +240,16 @@ class WrongBodies(unittest.TestCase):
                                 b"rt: must-fail abuf_num/even.edit: NOT REFUSED\n")
             self.assertEqual(list(wrong_bodies.refusals_of([log])), [("abuf_num", "odd")])
 
+    def test_the_function_of_a_line(self):
+        with tempfile.TemporaryDirectory() as folder:
+            os.makedirs(os.path.join(folder, "crates", "a", "src"))
+            helping.write(os.path.join(folder, "crates", "a", "src", "lib.rt"),
+                          b"fn one() {\n    1\n}\n\n#[inline]\n// why\npub(crate) fn two() {\n    2\n}\n")
+            self.addCleanup(setattr, wrong_bodies, "TOP", wrong_bodies.TOP)
+            wrong_bodies.TOP = folder
+            found = [wrong_bodies.function_at("a", "src/lib.rt", line) for line in (1, 2, 5, 6, 7, 8)]
+            self.assertEqual(found, ["one", "one", "two", "two", "two", "two"])
+
     def test_edits_that_no_log_has(self):
         done = helping.run("wrong_bodies.py", os.devnull)
         self.assertEqual(done.returncode, 2)
