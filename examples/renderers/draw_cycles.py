@@ -18,7 +18,7 @@ MADE = "made: "  # before the line of inside_blender.py
 
 
 def info() -> renderer.Info:
-    return renderer.Info("Blender's Cycles", renderer.version(["blender", "--version"], "blender", r"Blender (\S+)"))
+    return renderer.Info("Cycles, of Blender", renderer.version(["blender", "--version"], "blender", r"Blender (\S+)"))
 
 
 def draw(scene: renderer.Scene, image: str) -> renderer.Run:

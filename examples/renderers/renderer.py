@@ -16,8 +16,6 @@ import json
 import math
 import os
 import re
-import resource
-import select
 import shutil
 import signal
 import subprocess
@@ -29,6 +27,7 @@ from typing import Callable, NamedTuple, NoReturn, Sequence
 
 HERE = os.path.dirname(os.path.abspath(__file__))
 TOP = os.path.dirname(os.path.dirname(HERE))
+LAUNCHER = os.path.join(HERE, "launch.py")
 if os.path.join(TOP, "tools") not in sys.path:
     sys.path.insert(0, os.path.join(TOP, "tools"))
 
@@ -197,34 +196,31 @@ class Run:
 def call(command: Sequence[str], data: bytes = b"", variables: dict[str, str] | None = None, limit: float | None = None,
          memory: float | None = None, folder: str | None = None) -> Run:
     """Runs a program to its end. With a limit in seconds it leads a group of processes, all of which end with it; memory is in GiB."""
-    def hold() -> None:
-        if memory is not None:
-            resource.setrlimit(resource.RLIMIT_AS, (int(memory * GIB), int(memory * GIB)))
-
-    with tempfile.TemporaryFile() as given, tempfile.TemporaryFile() as out, tempfile.TemporaryFile() as error:
+    with tempfile.TemporaryFile() as given, tempfile.TemporaryFile() as out, tempfile.TemporaryFile() as error, \
+            tempfile.NamedTemporaryFile("r") as figures:
         given.write(data)
         given.seek(0)
+        words = [sys.executable, "-I", "-S", LAUNCHER, figures.name, str(int((memory or 0) * GIB)), *command]
         began = time.perf_counter()
-        child = subprocess.Popen(command, stdin=given, stdout=out, stderr=error, cwd=folder, env={**os.environ, **(variables or {})},
-                                 start_new_session=limit is not None, preexec_fn=hold)
-        is_over = limit is None
+        child = subprocess.Popen(words, stdin=given, stdout=out, stderr=error, cwd=folder, env={**os.environ, **(variables or {})},
+                                 start_new_session=limit is not None)
+        is_over = False
         try:
-            if limit is not None:
-                ending = os.pidfd_open(child.pid)
-                is_over = bool(select.select([ending], [], [], limit)[0])
-                os.close(ending)
+            child.wait(limit)
+            is_over = True
+        except subprocess.TimeoutExpired:
+            pass
         finally:
-            if not is_over:  # or where this is interrupted, so that nothing stays behind
-                os.killpg(child.pid, signal.SIGKILL)
-            _, status, usage = os.wait4(child.pid, 0)
-            seconds = time.perf_counter() - began
-            child.returncode = os.waitstatus_to_exitcode(status)
-        if limit is not None:
-            end_group(child.pid)
+            if limit is not None:  # also where this is interrupted, so that nothing stays behind
+                end_group(child.pid)
+                child.wait()
         out.seek(0)
         error.seek(0)
-        return Run(seconds, usage.ru_utime + usage.ru_stime, usage.ru_maxrss, child.returncode if is_over else None, out.read(),
-                   error.read().decode(errors="replace")[-MOST_TEXT:])
+        told, text = out.read(), error.read().decode(errors="replace")[-MOST_TEXT:]
+        parts = figures.read().split()
+        if not is_over or len(parts) != 4:
+            return Run(time.perf_counter() - began, 0, 0, None if not is_over else -signal.SIGKILL, told, text)
+        return Run(float(parts[0]), float(parts[1]), int(parts[2]), int(parts[3]), told, text)
 
 
 def end_group(leader: int) -> None:
@@ -237,10 +233,9 @@ def end_group(leader: int) -> None:
 
 def run(command: Sequence[str], data: bytes = b"", **variables: str) -> Run:
     """The run of a renderer, or that it failed."""
-    try:
-        done = call(command, data, variables)
-    except FileNotFoundError:
-        raise Cant(f"{command[0]} isn't there; --info tells what to install") from None
+    if shutil.which(command[0]) is None:
+        raise Cant(f"{command[0]} isn't there; --info tells what to install")
+    done = call(command, data, variables)
     if done.status != 0:
         raise Failed(f"{os.path.basename(command[0])}: {done.why()}")
     return done

@@ -220,19 +220,22 @@ def blended_in_8_bits(pixel: Pixel) -> Iterator[Colour]:
 
 
 def explanations(pixel: Pixel) -> Iterator[tuple[str, Colour]]:
-    """Causes with the colours that they give, the likelier ones first."""
-    for cause, tries in (("ties", toggled(pixel, pixel.on_edge)), ("equals", equals_otherwise(pixel)), ("depth", neighbours_swapped(pixel)),
-                         ("outline", toggled(pixel, pixel.beside)), ("cut", cut_short(pixel)), ("unsorted", unsorted(pixel)),
-                         ("order", orders_of(pixel))):
-        for layers in tries:
-            yield cause, composited(pixel.background, layers)
+    """Causes with the colours that they give, the likelier ones first: of those that come equally near, the first counts."""
+    def all_of(cause: str, tries: Iterator[Sequence[Layer]]) -> Iterator[tuple[str, Colour]]:
+        return ((cause, composited(pixel.background, layers)) for layers in tries)
+
+    yield from all_of("ties", toggled(pixel, pixel.on_edge))
+    yield from all_of("equals", equals_otherwise(pixel))
+    yield from all_of("depth", neighbours_swapped(pixel))
+    yield from all_of("outline", toggled(pixel, pixel.beside))
+    yield from (("equals", colour) for colour in merged(pixel))
+    yield from (("blending", colour) for colour in blended_in_8_bits(pixel))
+    yield from all_of("unsorted", unsorted(pixel))
+    yield from all_of("cut", cut_short(pixel))
+    yield from all_of("order", orders_of(pixel))
     for background in BACKGROUNDS:
         yield "background", composited(background, pixel.layers)
     yield "curve", tuple(with_curve(value) for value in composited(pixel.background, pixel.layers))
-    for colour in merged(pixel):
-        yield "equals", colour
-    for colour in blended_in_8_bits(pixel):
-        yield "blending", colour
 
 
 def suspected(pixel: Pixel, difference: int) -> str:

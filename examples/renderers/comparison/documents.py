@@ -105,12 +105,6 @@ def strip(images: Sequence[pam.Image]) -> pam.Image:
     return pam.Image(len(rows[0]) // 3, images[0].height, 255, b"".join(rows))
 
 
-def halved(image: pam.Image) -> pam.Image:
-    """Every other pixel of every other row, so that no colour is mixed."""
-    rows = [b"".join(row[i:i + 3] for i in range(0, len(row), 6)) for row in image.rows()[::2]]
-    return pam.Image(len(rows[0]) // 3, len(rows), 255, b"".join(rows))
-
-
 def picture_of(results: dict, folder: str, name: str) -> pam.Image:
     scene = next(scene for scene in tables.scenes_there(results) if scene["name"] == name)
     first = next(iter(scene["orders"].values()))
@@ -121,7 +115,7 @@ def picture_of(results: dict, folder: str, name: str) -> pam.Image:
         names = worst["pictures"][key]
         images.append(pam.load(os.path.join(folder, names["image" if name == FLAT else "difference"])))
     images = [pam.enlarged(image, 4) if image.width < 100 else image for image in images]
-    return strip([halved(image) if name == FLAT else image for image in images])
+    return strip(images)
 
 
 # ---- all of it
@@ -129,7 +123,7 @@ def picture_of(results: dict, folder: str, name: str) -> pam.Image:
 
 def without_pictures(results: dict) -> dict:
     """The results without the names of files, which aren't kept."""
-    scenes = [{**scene, "orders": {order: {**told, "pictures": {}} for order, told in scene["orders"].items()}} for scene in results["scenes"]]
+    scenes: list[dict] = [{**scene, "orders": {order: {**told, "pictures": {}} for order, told in scene["orders"].items()}} for scene in results["scenes"]]
     return {**results, "scenes": scenes}
 
 

@@ -22,7 +22,7 @@ section > .figures { margin: 0 }
 section > div.told { flex: 1 1 15rem; min-width: 12rem }
 section h4 { margin: 0; font-size: 1rem; font-weight: 600 }
 td.first { white-space: nowrap } td, th { white-space: nowrap }
-td.long { white-space: normal }
+td.long, td small { white-space: normal }
 figure img { height: auto }
 @media (max-width: 34rem) { body { padding: .7rem } section > .figures { width: 100% } }
 """
@@ -73,7 +73,8 @@ def differences(results: dict) -> str:
         cells = []
         for key in peers:
             verdict = verdict_of(scene, key)
-            cells.append(f"<td class={tone(verdict)}>" + ("the same" if verdict.is_same else text(verdict.text())))
+            count, _, cause = verdict.text().partition(": ")
+            cells.append(f"<td class={tone(verdict)}>" + ("the same" if verdict.is_same else text(count)) + (f"<br><small>{text(cause)}</small>" if cause else ""))
         rows.append(f"<tr><td><a href=\"#{text(scene['name'])}\">{text(scene['name'])}</a>{''.join(cells)}")
     return ("<h2>Pixels that differ from abuf's image</h2><p class=quiet>In the worst order of the faces, with the greatest difference of 255, and the "
             "likely cause.</p><div class=wide><table><thead><tr><th>Scene" + "".join(f"<th>{text(name_of(results, key))}" for key in peers)
@@ -109,6 +110,8 @@ def orders_text(scene: dict, key: str) -> str:
         if one["outcome"] == DRAWN:
             how = f"{one['differing']} pixels by {one['greatest']}" if one["differing"] else "the same as abuf's"
         alike.setdefault(how, []).append(order)
+    if len(alike) == 1 and verdict_of(scene, key).outcome != DRAWN:
+        return ""
     if len(alike) == 1:
         return f"<p class=quiet>In each of {len(scene['orders'])} orders of the faces: {text(*alike)}.</p>"
     return "<p class=quiet>By order of the faces: " + text("; ".join(f"{', '.join(orders)}: {how}" for how, orders in alike.items())) + ".</p>"

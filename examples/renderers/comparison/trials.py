@@ -54,8 +54,6 @@ def peer_of(command: Sequence[str], memory: float | None = None) -> Peer:
             return peer
         told = json.loads(done.out.splitlines()[-1])
         peer.name, peer.version, peer.device = (str(told.get(name, "")) for name in ("name", "version", "device"))
-    except OSError as why:
-        peer.missing = f"{command[0]}: {why.strerror}"
     except (ValueError, IndexError, AttributeError):
         peer.missing = "--info doesn't tell a JSON object"
     return peer
@@ -188,7 +186,8 @@ class Plan:
 
 def draw_in_turn(plan: Plan, scene: Scene, order: Order, rounds: int, given_up: dict[str, str]) -> dict[str, Trial]:
     """Each renderer once, then each again, so that a busy moment falls on all of them alike."""
-    found = {key: Trial() for key in (ABUF, *(peer.key for peer in plan.peers))}
+    peers = {peer.key: peer for peer in plan.peers}
+    found = {key: Trial() for key in (ABUF, *peers)}
     for peer in plan.peers:
         if peer.missing:
             found[peer.key].end(SKIPPED, peer.missing)
@@ -202,10 +201,9 @@ def draw_in_turn(plan: Plan, scene: Scene, order: Order, rounds: int, given_up: 
                 if trial.outcome != DRAWN or times.best is not None and times.best.seconds > LONG:
                     continue
                 image = os.path.join(plan.folder, f"{scene.name}.{order.name}.{key}.drawn.png")  # some add the ending
-                peer = next((one for one in plan.peers if one.key == key), None)
                 plan.tell(f"{scene.name} {order.name} by {key}")
-                run = run_abuf(trial, plan.abuf, order.path, words, image, plan.limits) if peer is None else \
-                    run_peer(trial, peer, order.path, words, image, plan.limits)
+                run = run_abuf(trial, plan.abuf, order.path, words, image, plan.limits) if key == ABUF else \
+                    run_peer(trial, peers[key], order.path, words, image, plan.limits)
                 if run is not None and trial.outcome == DRAWN:
                     times.add(run)
     return found
@@ -301,7 +299,7 @@ def system() -> str:
 def results_of(plan: Plan, scenes: Sequence[Scene]) -> dict:
     """All that is found, and how."""
     os.makedirs(plan.folder, exist_ok=True)
-    told = {"date": datetime.date.today().isoformat(), "machine": machine(), "system": system(), "load": os.getloadavg()[0],
+    told: dict = {"date": datetime.date.today().isoformat(), "machine": machine(), "system": system(), "load": os.getloadavg()[0],
             "threads": plan.threads, "rounds": plan.rounds, "limit": plan.limits.seconds, "memory": plan.limits.memory,
             "renderers": {peer.key: peer.told() for peer in plan.peers}, "scenes": []}
     for scene in scenes:
