@@ -88,14 +88,17 @@ def drawn(given: argparse.Namespace) -> dict:
     wanted = chosen_scenes(os.path.join(given.output, "scenes"), given.only)
     peers = chosen_peers(given.renderers, given.renderer, given.memory)
     for peer in peers:
-        print(f"{peer.key}: " + (f"skipped: {peer.missing}" if peer.missing else " ".join(filter(None, (peer.name, peer.version, peer.device)))))
+        print(f"{peer.key}: " + (f"skipped: {peer.missing}" if peer.missing else " ".join(filter(None, (peer.name, peer.version, peer.device)))), flush=True)
     told = report.Report("runs")
 
     def tell(_: str) -> None:
         told.passed += 1
         told.progress(told.passed)
 
-    plan = trials.Plan(abuf, peers, threads, rounds, trials.Limits(given.limit, given.memory), given.output, tell)
+    def keep(results: dict) -> None:
+        write(given.output, "results.json", json.dumps(results, indent=1) + "\n")
+
+    plan = trials.Plan(abuf, peers, threads, rounds, trials.Limits(given.limit, given.memory), given.output, tell, keep)
     results = trials.results_of(plan, wanted)
     told.clear()
     return results
@@ -116,7 +119,6 @@ def main() -> int:
         given.output = os.path.dirname(os.path.abspath(given.kept))
     else:
         results = drawn(given)
-        write(given.output, "results.json", json.dumps(results, indent=1) + "\n")
     write(given.output, "results.csv", tables.csv_of(results))
     write(given.output, "results.md", tables.markdown_of(results))
     write(given.output, "index.html", page.html_of(results, given.output))

@@ -395,7 +395,9 @@ class Whole(unittest.TestCase):
         self.assertEqual(set(rows[0]), set(tables.COLUMNS))
         self.assertEqual([row["differing"] for row in rows if row["renderer"] == "dark"], ["80", "80"])
         lines = tables.markdown_of(self.results).splitlines()
-        self.assertIn("best of 2", lines[0])
+        self.assertIn("the best of 2 runs", lines[0])
+        for load, is_told in ((0.5, False), (30.0, True)):
+            self.assertEqual("had other work" in tables.how_of({**self.results, "load": load, "load_at_end": 0.5, "processors": 4}), is_told)
         for line in lines[2:]:
             self.assertEqual(line.count("|"), 0 if not line else lines[2].count("|") if line in lines[2:5] else lines[6].count("|"), line)
         self.assertIn("small by crashes: crashed: ", tables.summary_of(self.results))

@@ -10,7 +10,7 @@ sys.path.append(os.path.join(renderer.TOP, "conformance"))
 
 from testing.page import STYLE, text  # noqa: E402
 
-from comparison.causes import CAUSES  # noqa: E402
+from comparison.causes import CAUSES, LOOKED_AT  # noqa: E402
 from comparison.tables import (Verdict, how_of, name_of, peers_there, scenes_there, time_cell, verdict_of)  # noqa: E402
 from comparison.trials import ABUF, CRASHED, DRAWN, MALFORMED, SKIPPED, TOO_LONG  # noqa: E402
 
@@ -28,10 +28,10 @@ figure img { height: auto }
 """
 TONES = {SKIPPED: "quiet", CRASHED: "bad", TOO_LONG: "bad", MALFORMED: "bad"}
 OUTCOMES = {SKIPPED: "Skipped", CRASHED: "Crashed", TOO_LONG: "Took too long", MALFORMED: "Wrote no image that can be compared"}
-HOW = """
+HOW = f"""
 <details><summary>How the figures were got</summary>
 <p>Each scene is drawn with one ray or sample at the centre of each pixel, flat colours and linear values of 8 bits. An image is compared
-with abuf's, pixel by pixel, as <code>tools/agree.py</code> does it. Pixels that differ are looked into, up to 120 in an image, those that
+with abuf's, pixel by pixel, as <code>tools/agree.py</code> does it. Pixels that differ are looked into, up to {LOOKED_AT} in an image, those that
 differ by more than a unit first. What lies at a pixel's centre is known exactly. If one change of it gives the renderer's colour within a
 unit, that change is the cause. Otherwise it is only suspected.</p>
 <p>A time is that of the renderer's process from its start to its end, with its image written; in brackets that of the drawing alone, where

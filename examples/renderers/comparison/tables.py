@@ -2,6 +2,7 @@
 
 import csv
 import io
+import os
 from dataclasses import dataclass
 from typing import Iterable, Sequence
 
@@ -134,9 +135,12 @@ def versions_of(results: dict) -> str:
 
 def how_of(results: dict) -> str:
     """When, where and how the figures were got."""
-    rounds = f"best of {results['rounds']}" if results["rounds"] > 1 else "one run each"
+    rounds = f"the best of {results['rounds']} runs" if results["rounds"] > 1 else "one run each"
     load = f"load {results['load']:.1f} at the start and {results['load_at_end']:.1f} at the end"
-    return f"{results['date']}, {results['machine']}, {results['system']}; {load}; {rounds}, in turn; limit {results['limit']:g} s. {versions_of(results)}."
+    told = f"{results['date']}, {results['machine']}, {results['system']}; {load}; {rounds}, in turn; limit {results['limit']:g} s. {versions_of(results)}."
+    # More than one process for each processor: the comparison alone starts no more.
+    is_busy = max(results["load"], results["load_at_end"]) > 1.2 * results.get("processors", os.cpu_count())
+    return told + " The machine had other work at the time, so times are longer than they need be, and can't be compared." * is_busy
 
 
 def markdown_of(results: dict) -> str:

@@ -181,7 +181,8 @@ class Plan:
     rounds: int
     limits: Limits
     folder: str
-    tell: Callable[[str], None]
+    tell: Callable[[str], None]  # before each run
+    keep: Callable[[dict], None] = lambda results: None  # after each scene, so that a long comparison may be ended
 
 
 def draw_in_turn(plan: Plan, scene: Scene, order: Order, rounds: int, given_up: dict[str, str]) -> dict[str, Trial]:
@@ -299,10 +300,11 @@ def system() -> str:
 def results_of(plan: Plan, scenes: Sequence[Scene]) -> dict:
     """All that is found, and how."""
     os.makedirs(plan.folder, exist_ok=True)
-    told: dict = {"date": datetime.date.today().isoformat(), "machine": machine(), "system": system(), "load": os.getloadavg()[0],
-            "threads": plan.threads, "rounds": plan.rounds, "limit": plan.limits.seconds, "memory": plan.limits.memory,
+    told: dict = {"date": datetime.date.today().isoformat(), "machine": machine(), "processors": os.cpu_count(), "system": system(), "load": os.getloadavg()[0],
+            "load_at_end": os.getloadavg()[0], "threads": plan.threads, "rounds": plan.rounds, "limit": plan.limits.seconds, "memory": plan.limits.memory,
             "renderers": {peer.key: peer.told() for peer in plan.peers}, "scenes": []}
     for scene in scenes:
         told["scenes"].append(scene_results(plan, scene))
-    told["load_at_end"] = os.getloadavg()[0]
+        told["load_at_end"] = os.getloadavg()[0]
+        plan.keep(told)
     return told
