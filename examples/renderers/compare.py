@@ -11,7 +11,7 @@ The folder then has index.html, one page that needs no network, and results.json
 there is skipped, one that crashes or takes too long is told as that, and README.md in this folder says how to add one.
 
 --measure measures in turn: all renderers one after another, on 1 and on 4 threads, the best of 5 rounds. On a machine that has
-nothing else to do, this makes the figures of the documents anew, with their pictures, and takes some 15 minutes:
+nothing else to do, this makes the figures of the documents anew, with their pictures:
 
     examples/renderers/compare.py --measure --docs
 

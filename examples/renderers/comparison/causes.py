@@ -20,7 +20,7 @@ CAUSES = {
     "ties": "the centre of the pixel lies exactly on an edge",
     "outline": "the centre lies within 1/16 pixel of an edge, and corners are rounded otherwise",
     "equals": "faces of equal depth: their order is another one, or some are lost",
-    "depth": "faces of nearly equal depth changed places",
+    "depth": "faces of nearly equal depth changed places, or some are lost",
     "cut": "only the nearest layers are drawn",
     "unsorted": "layers are blended in the order of the file, not by their depth",
     "order": "the same layers in another order",
@@ -28,6 +28,7 @@ CAUSES = {
     "curve": "the values have a transfer curve, as sRGB has it",
     "unknown": "none of these",
 }
+OPAQUE = reference.Paint().alpha
 WITHIN = 1  # unit of 255 by which an explanation may be off
 BESIDE = 16  # 1/256 pixel: so near to an edge, corners that are rounded otherwise may decide
 NEARLY = 64  # units of depth keys that are nearly equal
@@ -116,44 +117,76 @@ def toggled(pixel: Pixel, some: Sequence[Layer]) -> Iterator[Sequence[Layer]]:
             yield sorted([*others, *chosen], key=lambda layer: layer[:2])
 
 
-def equal_groups(pixel: Pixel) -> list[tuple[int, int]]:
-    """Where layers of equal depth begin and end."""
+def groups_of(pixel: Pixel, gap: int) -> list[tuple[int, int]]:
+    """Where layers of equal depth begin and end, or of depths with no more than a gap between neighbours."""
     groups, start = [], 0
-    for _, group in itertools.groupby(pixel.layers, key=lambda layer: layer.key):
-        count = len(list(group))
-        if count > 1:
-            groups.append((start, start + count))
-        start += count
+    for end in range(1, len(pixel.layers) + 1):
+        if end == len(pixel.layers) or pixel.layers[end].key - pixel.layers[end - 1].key > gap:
+            if end - start > 1:
+                groups.append((start, end))
+            start = end
     return groups
 
 
-def equals_otherwise(pixel: Pixel) -> Iterator[Sequence[Layer]]:
-    """Another order of equals, or some of them lost, group by group; then the same in all groups at once."""
-    groups = equal_groups(pixel)
+class Blend:
+    """The layers over the background, to be asked what it is with some of them replaced. What lies under and over each is kept."""
+
+    def __init__(self, pixel: Pixel) -> None:
+        self.layers = pixel.layers
+        self.under = [[float(part) for part in pixel.background]]
+        for layer in pixel.layers:
+            self.under.append(over_all(self.under[-1], [layer]))
+        self.through, self.added = [1.0], [[0.0] * 3]  # of the layers from the last one on
+        for layer in reversed(pixel.layers):
+            share = self.through[-1] * layer.paint.alpha / OPAQUE
+            self.added.append([part + share * k for part, k in zip(self.added[-1], layer.paint.colour)])
+            self.through.append(self.through[-1] - share)
+
+    def replaced(self, start: int, end: int, some: Sequence[Layer]) -> Colour:
+        """The colour with other layers in place of these."""
+        rest = len(self.layers) - end
+        under = over_all(self.under[start], some)
+        return tuple(round((self.through[rest] * part + more) / 257) for part, more in zip(under, self.added[rest]))
+
+    def without_farthest(self, count: int) -> Colour:
+        """The colour without so many of the farthest layers."""
+        return self.replaced(0, count, [])
+
+
+def over_all(colour: list[float], some: Sequence[Layer]) -> list[float]:
+    """Layers over a colour, without rounding."""
+    for layer in some:
+        share = layer.paint.alpha / OPAQUE
+        colour = [under + share * (k - under) for under, k in zip(colour, layer.paint.colour)]
+    return colour
+
+
+def regrouped(pixel: Pixel, blend: Blend, gap: int) -> Iterator[Colour]:
+    """Another order of layers that are so near to each other, or some of them lost, group by group; then the same in all at once."""
+    groups = groups_of(pixel, gap)
     for start, end in groups:
         group = pixel.layers[start:end][:MOST_ORDERED]
         for count in range(len(group), 0, -1):
             for chosen in itertools.permutations(group, count):
-                yield [*pixel.layers[:start], *chosen, *pixel.layers[end:]]
+                yield blend.replaced(start, end, chosen)
     if len(groups) > 1:
-        yield sorted(pixel.layers, key=lambda layer: (layer.key, -layer.number))
+        runs = [pixel.layers[start:end] for start, end in runs_of(groups, len(pixel.layers))]
+        yield composited(pixel.background, [layer for run in runs for layer in reversed(run)])
         for which in (0, -1):
-            yield [list(group)[which] for _, group in itertools.groupby(pixel.layers, key=lambda layer: layer.key)]
+            yield composited(pixel.background, [run[which] for run in runs])
 
 
-def neighbours_swapped(pixel: Pixel) -> Iterator[Sequence[Layer]]:
-    """Neighbours of nearly equal depth in the other order, or one of them lost, pair by pair."""
-    for k, (under, over) in enumerate(zip(pixel.layers, pixel.layers[1:])):
-        if 0 < over.key - under.key <= NEARLY:
-            for pair in ((over, under), (under,), (over,)):
-                yield [*pixel.layers[:k], *pair, *pixel.layers[k + 2:]]
+def runs_of(groups: Sequence[tuple[int, int]], count: int) -> list[tuple[int, int]]:
+    """The groups, and each layer that is in none of them by itself."""
+    within = {k for start, end in groups for k in range(start, end)}
+    return sorted([*groups, *((k, k + 1) for k in range(count) if k not in within)])
 
 
-def cut_short(pixel: Pixel) -> Iterator[Sequence[Layer]]:
+def cut_short(pixel: Pixel, blend: Blend) -> Iterator[Colour]:
     """Only so many of the nearest layers."""
     for limit in LIMITS:
         if limit < len(pixel.layers):
-            yield pixel.layers[-limit:]
+            yield blend.without_farthest(len(pixel.layers) - limit)
 
 
 def unsorted(pixel: Pixel) -> Iterator[Sequence[Layer]]:
@@ -176,8 +209,8 @@ def orders_of(pixel: Pixel) -> Iterator[Sequence[Layer]]:
 
 def merged(pixel: Pixel) -> Iterator[Colour]:
     """Of equals in each channel the greatest of what they give over the opaque ones, as blending by the maximum leaves it."""
-    for start, end in equal_groups(pixel):
-        solid = [one for one in pixel.layers[start:end] if one.paint.alpha == reference.Paint().alpha]
+    for start, end in groups_of(pixel, 0):
+        solid = [one for one in pixel.layers[start:end] if one.paint.alpha == OPAQUE]
         clear = [one for one in pixel.layers[start:end] if one not in solid]
         tries = [composited(pixel.background, [*pixel.layers[:start], *solid, one, *pixel.layers[end:]]) for one in clear]
         if tries:
@@ -225,13 +258,14 @@ def explanations(pixel: Pixel) -> Iterator[tuple[str, Colour]]:
         return ((cause, composited(pixel.background, layers)) for layers in tries)
 
     yield from all_of("ties", toggled(pixel, pixel.on_edge))
-    yield from all_of("equals", equals_otherwise(pixel))
-    yield from all_of("depth", neighbours_swapped(pixel))
+    blend = Blend(pixel)
+    yield from (("equals", colour) for colour in regrouped(pixel, blend, 0))
+    yield from (("depth", colour) for colour in regrouped(pixel, blend, NEARLY))
     yield from all_of("outline", toggled(pixel, pixel.beside))
     yield from (("equals", colour) for colour in merged(pixel))
     yield from (("blending", colour) for colour in blended_in_8_bits(pixel))
     yield from all_of("unsorted", unsorted(pixel))
-    yield from all_of("cut", cut_short(pixel))
+    yield from (("cut", colour) for colour in cut_short(pixel, blend))
     yield from all_of("order", orders_of(pixel))
     for background in BACKGROUNDS:
         yield "background", composited(background, pixel.layers)
@@ -244,11 +278,11 @@ def suspected(pixel: Pixel, difference: int) -> str:
         return "blending"
     if pixel.on_edge:
         return "ties"
-    if equal_groups(pixel):
+    if groups_of(pixel, 0):
         return "equals"
     if pixel.beside:
         return "outline"
-    if any(over.key - under.key <= NEARLY for under, over in zip(pixel.layers, pixel.layers[1:])):
+    if groups_of(pixel, NEARLY):
         return "depth"
     return "unknown"
 

@@ -173,7 +173,7 @@ def summary_of(results: dict) -> str:
             continue
         for key in peers_there(results):
             verdict = verdict_of(scene, key)
-            count = f"; abuf's image in {verdict.same} of {verdict.orders} orders" if verdict.orders > 1 and not verdict.is_same and verdict.outcome == DRAWN else ""
+            count = f"; the same in {verdict.same} of {verdict.orders} orders" if verdict.orders > 1 and not verdict.is_same and verdict.outcome == DRAWN else ""
             text = "abuf's image" if verdict.is_same else verdict.text() + (f": {verdict.why}" if verdict.why else "") + count
             lines.append(f"{scene['name']} by {key}: {text}")
     return "\n".join(lines)
