@@ -34,11 +34,11 @@ def readme_table(results: dict) -> str:
     """The demonstration by each renderer: its times, its memory, and how far it is from the exact image."""
     scene = next(scene for scene in tables.scenes_there(results) if scene["name"] == SHOWN)
     films = next(scene for scene in tables.scenes_there(results) if scene["name"] == FLAT)
-    rows = []
+    rows, clock = [], "processor" if tables.is_busy(results) else "seconds"
     for key in (ABUF, *tables.peers_there(results)):
         times = tables.times_of(scene, key)
         version = results["renderers"][key]["version"] if key != ABUF else ""
-        shown = [tables.seconds_text(times[str(n)]["seconds"]) if str(n) in times else tables.verdict_of(scene, key).text() for n in results["threads"]]
+        shown = [tables.seconds_text(times[str(n)][clock]) if str(n) in times else tables.verdict_of(scene, key).text() for n in results["threads"]]
         peak = f"{max(one['peak'] for one in times.values()) / 1024:.0f} MiB" if times else ""
         rows.append([f"{tables.name_of(results, key)} {version}".strip(), *shown, peak, differing(scene, key), differing(films, key)])
     return tables.markdown_table(["", *(f"{n} thread{'s' * (n != 1)}" for n in results["threads"]), "memory", f"`{SHOWN}` differs", f"`{FLAT}` differs"], rows)
@@ -78,7 +78,8 @@ def parts_of(results: dict) -> dict[str, dict[str, str]]:
             "pictures": "".join(f"![{caption(results, name)}](pictures/renderers-{name}.png)\n\n`{name}`, from the left: {caption(results, name)}.\n\n"
                                 for name in (FLAT, DEEP, FINE)).rstrip("\n") + "\n",
         },
-        README: {"answer": f"{strip}(docs/pictures/renderers-{FLAT}.png)\n\nFrom the left: {caption(results, FLAT)}.\n\n{readme_table(results)}"},
+        README: {"answer": f"{strip}(docs/pictures/renderers-{FLAT}.png)\n\nFrom the left: {caption(results, FLAT)}.\n\n{readme_table(results)}"
+                 + f"\n{tables.BUSY}\n" * tables.is_busy(results)},
     }
 
 

@@ -11,7 +11,7 @@ sys.path.append(os.path.join(renderer.TOP, "conformance"))
 from testing.page import STYLE, text  # noqa: E402
 
 from comparison.causes import CAUSES, LOOKED_AT  # noqa: E402
-from comparison.tables import (Verdict, how_of, name_of, peers_there, scenes_there, time_cell, verdict_of)  # noqa: E402
+from comparison.tables import (Verdict, how_of, is_busy, name_of, peers_there, scenes_there, time_cell, verdict_of)  # noqa: E402
 from comparison.trials import ABUF, CRASHED, DRAWN, MALFORMED, SKIPPED, TOO_LONG  # noqa: E402
 
 SIDE = 320  # of a picture on the page
@@ -83,7 +83,7 @@ def differences(results: dict) -> str:
 
 def times(results: dict) -> str:
     keys = [ABUF, *peers_there(results)]
-    rows = [f"<tr><td>{text(scene['name'])}<td>{threads}" + "".join(f"<td>{text(time_cell(scene, key, threads))}" for key in keys)
+    rows = [f"<tr><td>{text(scene['name'])}<td>{threads}" + "".join(f"<td>{text(time_cell(scene, key, threads, is_busy(results)))}" for key in keys)
             for scene in scenes_there(results) for threads in results["threads"]]
     return ("<h2>Time and memory</h2><p class=quiet>Of the whole process; in brackets the drawing alone.</p><div class=wide><table><thead><tr>"
             "<th>Scene<th>Threads" + "".join(f"<th>{text(name_of(results, key))}" for key in keys) + "</thead>" + "".join(rows) + "</table></div>")
@@ -135,7 +135,7 @@ def peer_section(results: dict, scene: dict, key: str, folder: str) -> str:
     parts.append(orders_text(scene, key))
     if verdict.varies:
         parts.append("<p class=bad>The image isn't the same in each run.</p>")
-    parts += [f"<p>{threads} thread{'s' * (threads != 1)}: {text(time_cell(scene, key, threads))}</p>" for threads in results["threads"]
+    parts += [f"<p>{threads} thread{'s' * (threads != 1)}: {text(time_cell(scene, key, threads, is_busy(results)))}</p>" for threads in results["threads"]
               if verdict.outcome == DRAWN]
     return f"<section>{f'<div class=figures>{figures}</div>' if figures else ''}<div class=told>{''.join(parts)}</div></section>"
 
@@ -146,7 +146,7 @@ def article(results: dict, scene: dict, folder: str) -> str:
     how = "" if len(scene["orders"]) == 1 else (f"The same bytes in all {len(same)} orders of the faces." if len(same) == len(scene["orders"])
                                                  else f"The same bytes in {len(same)} of {len(scene['orders'])} orders of the faces only!")
     figure = picture(folder, first["pictures"][ABUF]["image"], "abuf")
-    lines = "".join(f"<p>{threads} thread{'s' * (threads != 1)}: {text(time_cell(scene, ABUF, threads))}</p>" for threads in results["threads"])
+    lines = "".join(f"<p>{threads} thread{'s' * (threads != 1)}: {text(time_cell(scene, ABUF, threads, is_busy(results)))}</p>" for threads in results["threads"])
     return (f'<article id="{name}"><header><h3>{name}</h3><span class=quiet>{scene["triangles"]} triangles</span></header><p>{text(scene["says"])}</p>'
             f"<pre>abuf render {text(' '.join(scene['words']))}</pre>"
             f"<section><div class=figures>{figure}</div><div class=told><h4>abuf</h4><p>{how}</p>{lines}</div></section>"

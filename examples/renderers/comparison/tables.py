@@ -2,7 +2,6 @@
 
 import csv
 import io
-import os
 from dataclasses import dataclass
 from typing import Iterable, Sequence
 
@@ -61,6 +60,7 @@ class Verdict:
         return f"{self.differing} (by {self.greatest}): {self.cause}"
 
 
+BUSY = "The machine had other work at the time, so the times in the tables are processor times, of all threads together."
 GRAVITY = (CRASHED, TOO_LONG, MALFORMED, SKIPPED, DRAWN)
 
 
@@ -90,16 +90,21 @@ def seconds_text(seconds: float) -> str:
     return f"{seconds:.2f} s" if seconds < 9.95 else f"{seconds:.0f} s"
 
 
-def time_text(figures: dict) -> str:
-    """The time of a run, that of the drawing alone in brackets, and the memory."""
-    drawing = f" ({seconds_text(figures['drawing'])})" if "drawing" in figures else ""
-    return f"{seconds_text(figures['seconds'])}{drawing}, {figures['peak'] / 1024:.0f} MiB"
+def is_busy(results: dict) -> bool:
+    """Whether the machine had other work: more than one process for each processor, while the comparison runs one at a time."""
+    return max(results["load"], results["load_at_end"]) > 1.2 * results["processors"]
 
 
-def time_cell(scene: dict, key: str, threads: int) -> str:
+def time_text(figures: dict, by_processor: bool = False) -> str:
+    """The time of a run, that of the drawing alone in brackets, and the memory; or the processor time and the memory."""
+    drawing = f" ({seconds_text(figures['drawing'])})" if "drawing" in figures and not by_processor else ""
+    return f"{seconds_text(figures['processor' if by_processor else 'seconds'])}{drawing}, {figures['peak'] / 1024:.0f} MiB"
+
+
+def time_cell(scene: dict, key: str, threads: int, by_processor: bool = False) -> str:
     figures = times_of(scene, key).get(str(threads))
     if figures:
-        return time_text(figures)
+        return time_text(figures, by_processor)
     return {DRAWN: "", SKIPPED: "skipped", CRASHED: "crashed", TOO_LONG: "too long", MALFORMED: "no image"}[verdict_of(scene, key).outcome]
 
 
@@ -122,7 +127,7 @@ def differences_table(results: dict) -> str:
 
 def times_table(results: dict, names: Sequence[str] | None = None) -> str:
     keys = [ABUF, *peers_there(results)]
-    rows = [[f"`{scene['name']}`", str(threads), *(time_cell(scene, key, threads) for key in keys)]
+    rows = [[f"`{scene['name']}`", str(threads), *(time_cell(scene, key, threads, is_busy(results)) for key in keys)]
             for scene in scenes_there(results) if names is None or scene["name"] in names for threads in results["threads"]]
     return markdown_table(["Scene", "Threads", *(name_of(results, key) for key in keys)], rows)
 
@@ -138,9 +143,7 @@ def how_of(results: dict) -> str:
     rounds = f"the best of {results['rounds']} runs" if results["rounds"] > 1 else "one run each"
     load = f"load {results['load']:.1f} at the start and {results['load_at_end']:.1f} at the end"
     told = f"{results['date']}, {results['machine']}, {results['system']}; {load}; {rounds}, in turn; limit {results['limit']:g} s. {versions_of(results)}."
-    # More than one process for each processor: the comparison alone starts no more.
-    is_busy = max(results["load"], results["load_at_end"]) > 1.2 * results.get("processors", os.cpu_count())
-    return told + " The machine had other work at the time, so times are longer than they need be, and can't be compared." * is_busy
+    return told + f" {BUSY}" * is_busy(results)
 
 
 def markdown_of(results: dict) -> str:
