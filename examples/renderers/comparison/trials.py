@@ -23,7 +23,7 @@ NODES = str(reference.MOST_NODES)
 # How a trial comes out. Only what is drawn has figures.
 DRAWN, SKIPPED, CRASHED, TOO_LONG, MALFORMED = "drawn", "skipped", "crashed", "too long", "malformed"
 LONG = 10.0  # seconds; what takes longer is measured once
-ENOUGH = 60.0  # seconds that --info may take
+ENOUGH = 60.0  # seconds that --info, and abuf, may take whatever the limit is
 # A script of a renderer finds renderer.py wherever it lies.
 VARIABLES = {"PYTHONPATH": os.pathsep.join(filter(None, (renderer.HERE, os.environ.get("PYTHONPATH"))))}
 
@@ -146,7 +146,7 @@ def run_abuf(trial: Trial, abuf: program.Program, path: str, words: Sequence[str
     with open(path, "rb") as file:
         data = file.read()
     done = renderer.call([*abuf.command, "render", *words, "--nodes", NODES], data, {program.TUNABLES: abuf.tunables},
-                         limits.seconds, limits.memory, os.path.dirname(path))
+                         max(ENOUGH, limits.seconds), limits.memory, os.path.dirname(path))
     if done.status != 0:
         raise Fault(f"abuf doesn't draw {path}: {done.why()}")
     with open(image, "wb") as file:
