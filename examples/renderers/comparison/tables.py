@@ -142,7 +142,9 @@ def how_of(results: dict) -> str:
     """When, where and how the figures were got."""
     rounds = f"the best of {results['rounds']} runs" if results["rounds"] > 1 else "one run each"
     load = f"load {results['load']:.1f} at the start and {results['load_at_end']:.1f} at the end"
-    told = f"{results['date']}, {results['machine']}, {results['system']}; {load}; {rounds}, in turn; limit {results['limit']:g} s. {versions_of(results)}."
+    # Results may be put together from the files of several comparisons, with different limits.
+    how = "in several comparisons" if results.get("several") else f"in turn; limit {results['limit']:g} s"
+    told = f"{results['date']}, {results['machine']}, {results['system']}; {load}; {rounds}, {how}. {versions_of(results)}."
     return told + f" {BUSY}" * is_busy(results)
 
 
