@@ -119,8 +119,8 @@ def compare(a, b, allow=0):
 # ---- what lies in a pixel
 
 
-def primitives_of_file(path, job):
-    """The primitives of a scene on the screen, whose libraries lie in its folder."""
+def triangles_of_file(path):
+    """The triangles of a scene, whose libraries lie in its folder, each with its corners and its paint."""
     folder = os.fsencode(os.path.dirname(path))
     try:
         with open(path, "rb") as file:
@@ -131,11 +131,16 @@ def primitives_of_file(path, job):
             if data is None:
                 raise Fault(f"{path}: library {number} missing")
             reference.read_mtl(data, number, materials)
-        return reference.primitives_of(job, reference.triangles_of(obj, materials))
+        return reference.triangles_of(obj, materials)
     except OSError as why:
         raise Fault(f"{path}: {why.strerror}")
     except reference.Refusal as refusal:
         raise Fault(f"{path}: {refusal.text}")
+
+
+def primitives_of_file(path, job):
+    """The primitives of a scene on the screen."""
+    return reference.primitives_of(job, triangles_of_file(path))
 
 
 def is_on_edge(primitive, s):

@@ -1,0 +1,1 @@
+"""What compare.py does: scenes, trials, the causes of differences, the page and the tables."""
