@@ -105,6 +105,11 @@ def escaped(text: str) -> str:
     return text.replace("&", "&amp;").replace("<", "&lt;").replace(">", "&gt;")
 
 
+def hex_of(colour: Iterable[int]) -> str:
+    """A colour of three channels, each 0 to 65535."""
+    return "#" + "".join(f"{(255 * channel + 32767) // 65535:02x}" for channel in colour)
+
+
 class Canvas:
     """The elements of one diagram, from the top downwards."""
 
@@ -138,14 +143,21 @@ class Canvas:
         rounded = f' rx="{corner}"' if corner else ""
         self.put("rect", kind, f'x="{number(x)}" y="{number(y)}" width="{number(w)}" height="{number(h)}"{rounded}')
 
+    def swatch(self, x: float, y: float, w: float, h: float, colour: Iterable[int], corner: int = 0) -> None:
+        """A rectangle in a colour of the scene, which is the same on light and dark pages."""
+        rounded = f' rx="{corner}"' if corner else ""
+        self.put("rect", "swatch", f'x="{number(x)}" y="{number(y)}" width="{number(w)}" height="{number(h)}"{rounded} '
+                 f'fill="{hex_of(colour)}"')
+
     def path(self, steps: str, kind: str) -> None:
-        self.put("path", kind, f'd="{steps}"')
+        if steps:
+            self.put("path", kind, f'd="{steps}"')
 
     def arrow(self, steps: str, x: float, y: float, way: str, colour: str = "") -> None:
-        """A line that ends in an arrow head at (x, y), which points down, up, right or left."""
+        """A line that ends in an arrow head at (x, y), which points down, up or right."""
         self.path(f"{steps} {number(x)} {number(y)}", f"{colour}-line" if colour else "line")
-        corners = {"down": (-4, -8, 8, 0), "up": (-4, 8, 8, 0), "right": (-8, -4, 0, 8), "left": (8, -4, 0, 8)}[way]
-        self.path(f"M{number(x)} {number(y)}l{corners[0]} {corners[1]}l{corners[2]} {corners[3]}z", f"{colour}-head" if colour else "head")
+        sides = {"down": "l-4 -8h8", "up": "l-4 8h8", "right": "l-8 -4v8"}[way]
+        self.path(f"M{number(x)} {number(y)}{sides}z", f"{colour}-head" if colour else "head")
 
     def down(self, x: float, start: float, end: float) -> None:
         self.arrow(f"M{number(x)} {number(start)}L", x, end, "down")
@@ -188,17 +200,24 @@ WAY = [
     Box(9, "B", "abuf_resolve", "sums for each pixel"),
     Box(10, "BC", "abuf_pam", "bytes of the image"),
 ]
-WHOLE = "abuf_top"  # runs all of it
+WHOLE = ("abuf_top", ("all of it, from", "the words to", "an answer"))
 REGION = ("abuf_picture", 5, 9)  # the rows that it runs for a region
 AGAIN = [(6, "abuf_band", ("once for each", "band of rows")), (8, "abuf_sequence", ("once for each", "shot of a path"))]
 INSTEAD = ("abuf_peel", ("layer by layer,", "without a frame"))  # goes from the row before the region to the one after it
-ASIDE = {"A": ("abuf", ("main, which", "calls abuf_top")), "B": ("abuf_num", ("numbers and lists,", "below all others")),
-         "C": ("abuf_rows", ("tests of whole", "commands"))}
-FLOWS = [("abuf_cli", "abuf_view"), ("abuf_io", "abuf_text"), ("abuf_text", "abuf_obj"), ("abuf_text", "abuf_mtl"),
-         ("abuf_obj", "abuf_scene"), ("abuf_mtl", "abuf_scene"), ("abuf_scene", "abuf_view"), ("abuf_view", "abuf_fan"),
-         ("abuf_fan", "abuf_raster"), ("abuf_raster", "abuf_draw"), ("abuf_draw", "abuf_frame"), ("abuf_frame", "abuf_resolve"),
-         ("abuf_resolve", "abuf_pam")]
+ASIDE = {
+    "A": ("abuf", ("main, which", "calls abuf_top")),
+    "B": ("abuf_num", ("numbers and lists,", "below all others")),
+    "C": ("abuf_rows", ("tests of whole", "commands")),
+}
+FLOWS = [
+    ("abuf_cli", "abuf_view"), ("abuf_io", "abuf_text"), ("abuf_text", "abuf_obj"), ("abuf_text", "abuf_mtl"),
+    ("abuf_obj", "abuf_scene"), ("abuf_mtl", "abuf_scene"), ("abuf_scene", "abuf_view"), ("abuf_view", "abuf_fan"),
+    ("abuf_fan", "abuf_raster"), ("abuf_raster", "abuf_draw"), ("abuf_draw", "abuf_frame"), ("abuf_frame", "abuf_resolve"),
+    ("abuf_resolve", "abuf_pam"),
+]
 TALL, GAP = 42, 15  # of a row, and between two
+STEP = 17  # from a line of a box to the next
+TITLE = 28  # above the first row of a region
 
 
 def crates_of(text: str) -> list[str]:
@@ -207,7 +226,8 @@ def crates_of(text: str) -> list[str]:
 
 
 def drawn_crates() -> list[str]:
-    return [box.crate for box in WAY] + [WHOLE, REGION[0], INSTEAD[0]] + [crate for _, crate, _ in AGAIN] + [crate for crate, _ in ASIDE.values()]
+    others = [crate for _, crate, _ in AGAIN] + [crate for crate, _ in ASIDE.values()]
+    return [box.crate for box in WAY] + [WHOLE[0], REGION[0], INSTEAD[0]] + others
 
 
 def check_crates(text: str) -> None:
@@ -219,19 +239,41 @@ def check_crates(text: str) -> None:
 
 
 def span(lanes: str) -> tuple[float, float]:
-    """The left and the right end of neighbouring lanes."""
-    return LANES[lanes[0]][0], LANES[lanes[-1]][1]
+    """The left end of neighbouring lanes, and their width."""
+    left, right = LANES[lanes[0]][0], LANES[lanes[-1]][1]
+    return left, right - left
 
 
 def middle(lanes: str) -> float:
-    return sum(span(lanes)) / 2
+    left, wide = span(lanes)
+    return left + wide / 2
 
 
-def crate_box(canvas: Canvas, x: float, y: float, w: float, crate: str, makes: Iterable[str], kind: str = "box") -> None:
+def row_places(top: float) -> list[float]:
+    """Where the rows begin, and where they end."""
+    _, first, last = REGION
+    found, y = [], top
+    for row in range(max(box.row for box in WAY) + 1):
+        y += (TITLE + 2) * (row == first)
+        found.append(y)
+        y += TALL + GAP + 12 * (row == last)
+    return [*found, y]
+
+
+def crate_box(canvas: Canvas, lanes: str, y: float, crate: str, makes: Iterable[str], kind: str = "box", inset: int = 0) -> None:
+    left, wide = span(lanes)
     lines = list(makes)
-    canvas.rect(x, y, w, TALL + 17 * (len(lines) - 1), kind, 5)
-    canvas.text(x + w / 2, y + 17, crate, "code bold middle")
-    canvas.lines(x + w / 2, y + 34, lines, "small middle", 17)
+    canvas.rect(left + inset, y, wide - 2 * inset, TALL + STEP * (len(lines) - 1), kind, 5)
+    canvas.text(middle(lanes), y + 17, crate, "code bold middle")
+    canvas.lines(middle(lanes), y + 34, lines, "small middle", STEP)
+
+
+def end_box(canvas: Canvas, lanes: str, y: float, name: str, gives: str) -> None:
+    """Where something comes from, or goes to."""
+    left, wide = span(lanes)
+    canvas.rect(left, y, wide, TALL, "green", 20)
+    canvas.text(middle(lanes), y + 18, name, "small bold middle")
+    canvas.text(middle(lanes), y + 34, gives, "small middle")
 
 
 def pipeline() -> str:
@@ -239,59 +281,45 @@ def pipeline() -> str:
         check_crates(file.read())
     canvas = Canvas("The way of a scene through the crates")
     name, first, last = REGION
-    top = EDGE + TALL + GAP  # of the box of the whole
-    places: dict[int, float] = {}
-    y: float = top + 14
-    for row in range(max(box.row for box in WAY) + 1):
-        y += 30 * (row == first)
-        places[row] = y
-        y += TALL + GAP + 12 * (row == last)
-    bottom = y
-    boxes = {box.crate: box for box in WAY}
-
-    for lane, lines in INPUTS.items():
-        left, right = LANES[lane]
-        canvas.rect(left, EDGE, right - left, TALL, "green", 20)
-        canvas.text((left + right) / 2, EDGE + 18, lines[0], "small bold middle")
-        canvas.text((left + right) / 2, EDGE + 34, lines[1], "small middle")
+    top = EDGE + TALL + GAP
+    places = row_places(top + 14)
+    bottom = places.pop()
+    left, wide = span("B")
     canvas.rect(12, top, WIDTH - 24, bottom - top, "page", 8)
-    canvas.text(middle("A"), places[last + 1] - 6, WHOLE, "code bold middle")
-    canvas.lines(middle("A"), places[last + 1] + 12, ("all of it, from", "the words to", "an answer"), "small middle", 17)
-    canvas.rect(LANES["B"][0] - 4, places[first] - 28, LANES["B"][1] - LANES["B"][0] + 8, places[last] + TALL + 8 - places[first] + 28, "group", 8)
+    canvas.rect(left - 4, places[first] - TITLE, wide + 8, places[last] + TALL + 8 - places[first] + TITLE, "group", 8)
     canvas.text(middle("B"), places[first] - 10, f"`{name}`: a region", "small middle")
-    for lane in INPUTS:
+    for lane, (end, gives) in INPUTS.items():
+        end_box(canvas, lane, EDGE, end, gives)
         canvas.down(middle(lane), EDGE + TALL, places[0] - 2)
 
+    boxes = {box.crate: box for box in WAY}
     for start, end in FLOWS:
         lanes = min(boxes[start].lanes, boxes[end].lanes, key=len)
-        canvas.down(middle(lanes), places[boxes[start].row] + TALL, places[boxes[end].row] - 2 - 28 * (boxes[end].row == first))
+        to = boxes[end].row
+        canvas.down(middle(lanes), places[boxes[start].row] + TALL, places[to] - 2 - TITLE * (to == first))
     for box in WAY:
-        left, right = span(box.lanes)
-        is_within = first <= box.row <= last
-        crate_box(canvas, left + 5 * is_within, places[box.row], right - left - 10 * is_within, box.crate, [box.makes], "blue" if is_within else "box")
-
-    left, right = span("A")
+        if first <= box.row <= last:
+            crate_box(canvas, box.lanes, places[box.row], box.crate, [box.makes], "blue", 5)
+        else:
+            crate_box(canvas, box.lanes, places[box.row], box.crate, [box.makes])
     for row, crate, lines in AGAIN:
-        crate_box(canvas, left, places[row] - 8, right - left, crate, lines)
-        canvas.arrow(f"M{right} {places[row] + TALL / 2}L", LANES["B"][0] - 5, places[row] + TALL / 2, "right")
-    left, right = span("C")
+        crate_box(canvas, "A", places[row] - 8, crate, lines)
+        canvas.arrow(f"M{number(LANES['A'][1])} {number(places[row] + TALL / 2)}L", left - 5, places[row] + TALL / 2, "right")
     crate, lines = INSTEAD
     at = places[(first + last) // 2] - 8
     canvas.down(middle("C"), places[first - 1] + TALL, at - 2)
-    canvas.down(middle("C"), at + TALL + 17, places[last + 1] - 2)
-    crate_box(canvas, left, at, right - left, crate, lines)
+    crate_box(canvas, "C", at, crate, lines)
+    canvas.down(middle("C"), at + TALL + STEP, places[last + 1] - 2)
+    canvas.text(middle("A"), places[last + 1] - 6, WHOLE[0], "code bold middle")
+    canvas.lines(middle("A"), places[last + 1] + 12, WHOLE[1], "small middle", STEP)
 
-    left, right = span("BC")
     canvas.down(middle("BC"), places[last + 1] + TALL, bottom + GAP - 2)
-    canvas.rect(left, bottom + GAP, right - left, TALL, "green", 20)
-    canvas.text(middle("BC"), bottom + GAP + 18, "Sink", "small bold middle")
-    canvas.text(middle("BC"), bottom + GAP + 34, "each image, by one call", "small middle")
+    end_box(canvas, "BC", bottom + GAP, "Sink", "each image, by one call")
     y = bottom + GAP + TALL + 16
     canvas.path(f"M{EDGE} {number(y)}H{WIDTH - EDGE}", "thin")
     for lane, (crate, lines) in ASIDE.items():
-        left, right = LANES[lane]
-        crate_box(canvas, left, y + 14, right - left, crate, lines)
-    return canvas.svg(y + 14 + TALL + 17 + EDGE)
+        crate_box(canvas, lane, y + 14, crate, lines)
+    return canvas.svg(y + 14 + TALL + STEP + EDGE)
 
 
 # ---- a frame of a few pixels and nodes
@@ -366,59 +394,70 @@ def word_text(word: int) -> str:
     return "mark" if word == MARK else str(word)
 
 
+def head_middle(pixel: int) -> float:
+    return EDGE + 114 * pixel + 51
+
+
+def node_middle(node: int) -> float:
+    return EDGE + 76 * node + 34
+
+
+def draw_node(canvas: Canvas, frame: Frame, node: int, y: float, owner: int | None) -> None:
+    """A node in the colour of the list of its pixel; the payload stands above the next."""
+    x, colour = node_middle(node), "box" if owner is None else LIST_COLOURS[owner]
+    payload, following = frame.words[frame.payload(node)], frame.words[frame.next(node)]
+    canvas.text(x, y - 24, f"node {node}", "small middle")
+    canvas.text(x, y - 7, f"{frame.payload(node)}, {frame.next(node)}", "small soft middle")
+    canvas.rect(x - 34, y, 68, 92, colour, 4)
+    canvas.text(x, y + 20, str(payload), "code middle")
+    told = ["isn't", "claimed"] if owner is None else [f"prim {payload >> 16}", f"mask {payload & 0xffff}"]
+    canvas.lines(x, y + 38, told, "small middle", STEP)
+    canvas.path(f"M{number(x - 34)} {number(y + 64)}h68", "line" if owner is None else f"{colour}-line")
+    canvas.text(x, y + 83, word_text(following), "code middle")
+
+
+def draw_list(canvas: Canvas, frame: Frame, pixel: int, heads: float, nodes: float) -> None:
+    """The arrows from a head along the nexts."""
+    colour, chain = LIST_COLOURS[pixel], frame.list_of(pixel)
+    x, end = head_middle(pixel), node_middle(chain[0])
+    curve = f"M{number(x)} {number(heads)}C{number(x)} {number(heads + 38)} {number(end)} {number(nodes - 86)}"
+    canvas.arrow(curve, end, nodes - 40, "down", colour)
+    below = nodes + 92
+    for one, other in zip(chain, chain[1:]):
+        x, end, depth = node_middle(one) - 12, node_middle(other) + 12, below + 26 + 18 * (one - other)
+        curve = f"M{number(x)} {number(below)}C{number(x)} {number(depth)} {number(end)} {number(depth)}"
+        canvas.arrow(curve, end, below + 3, "up", colour)
+
+
 def frame() -> str:
-    canvas = Canvas("The words of a frame of 4 pixels and 6 nodes")
     drawn = Frame(PIXELS, NODES)
+    canvas = Canvas(f"The words of a frame of {PIXELS} pixels and {NODES} nodes")
     for pixel, prim, mask in DRAWN:
         drawn.insert(pixel, fragment_word(prim, mask))
-    owners = {node: pixel for pixel in range(PIXELS) for node in drawn.list_of(pixel)}
+    count = drawn.words[0]
 
     canvas.text(EDGE, 34, "Counter", "bold")
     canvas.text(92, 34, "word 0", "small soft")
     canvas.rect(EDGE, 44, 102, 32, "box", 4)
-    canvas.text(EDGE + 51, 65, str(drawn.words[0]), "code middle")
-    canvas.lines(134, 56, [f"the numbers 0 to {drawn.words[0] - 1} are claimed,", "so the next claim gives 5"], "small")
+    canvas.text(EDGE + 51, 65, str(count), "code middle")
+    canvas.lines(134, 56, [f"the numbers 0 to {count - 1} are claimed,", f"so the next claim gives {count}"], "small")
 
-    canvas.text(EDGE, 112, "Heads", "bold")
-    canvas.text(92, 112, f"words {drawn.head(0)} to {drawn.head(PIXELS - 1)}: 0 for none, n + 1 for node n", "small soft")
-    heads = 140
-
-    def head_middle(pixel: int) -> float:
-        return EDGE + 114 * pixel + 51
-
+    heads, nodes = 140, 272
+    canvas.text(EDGE, heads - 28, "Heads", "bold")
+    told = f"words {drawn.head(0)} to {drawn.head(PIXELS - 1)}: 0 for none, n + 1 for node n"
+    canvas.text(92, heads - 28, told, "small soft")
     for pixel in range(PIXELS):
         canvas.text(head_middle(pixel), heads - 5, f"pixel {pixel}", "small middle")
         canvas.rect(head_middle(pixel) - 51, heads, 102, 32, LIST_COLOURS.get(pixel, "box"), 4)
         canvas.text(head_middle(pixel), heads + 21, word_text(drawn.words[drawn.head(pixel)]), "code middle")
 
-    nodes = 272
     canvas.text(EDGE, nodes - 58, "Nodes", "bold")
-
-    def node_middle(node: int) -> float:
-        return EDGE + 76 * node + 34
-
+    owners = {node: pixel for pixel in range(PIXELS) for node in drawn.list_of(pixel)}
     for node in range(NODES):
-        x, colour = node_middle(node), LIST_COLOURS.get(owners.get(node, -1), "box")
-        payload, following = drawn.words[drawn.payload(node)], drawn.words[drawn.next(node)]
-        canvas.text(x, nodes - 24, f"node {node}", "small middle")
-        canvas.text(x, nodes - 7, f"{drawn.payload(node)}, {drawn.next(node)}", "small soft middle")
-        canvas.rect(x - 34, nodes, 68, 92, colour, 4)
-        canvas.text(x, nodes + 20, str(payload), "code middle")
-        told = [f"prim {payload >> 16}", f"mask {payload & 0xffff}"] if node in owners else ["isn't", "claimed"]
-        canvas.lines(x, nodes + 38, told, "small middle", 17)
-        canvas.path(f"M{number(x - 34)} {nodes + 64}h68", "line" if colour == "box" else f"{colour}-line")
-        canvas.text(x, nodes + 83, word_text(following), "code middle")
-
-    below = nodes + 92
-    for pixel, colour in LIST_COLOURS.items():
-        chain = drawn.list_of(pixel)
-        start, end = head_middle(pixel), node_middle(chain[0])
-        canvas.arrow(f"M{number(start)} {heads + 32}C{number(start)} {heads + 70} {number(end)} {nodes - 86}", end, nodes - 40, "down", colour)
-        for one, other in zip(chain, chain[1:]):
-            depth = below + 26 + 18 * (one - other)
-            canvas.arrow(f"M{number(node_middle(one) - 12)} {below}C{number(node_middle(one) - 12)} {depth} "
-                         f"{number(node_middle(other) + 12)} {depth}", node_middle(other) + 12, below + 3, "up", colour)
-    y = canvas.lines(EDGE, below + 92, [
+        draw_node(canvas, drawn, node, nodes, owners.get(node))
+    for pixel in LIST_COLOURS:
+        draw_list(canvas, drawn, pixel, heads + 32, nodes)
+    y = canvas.lines(EDGE, nodes + 184, [
         "A node has a payload, which is the word of a fragment, and a",
         "next: 0 at the end of a list, n + 1 where node n follows, and the",
         "mark, 2^64 - 1, until the node is linked. The numbers above it",
@@ -429,68 +468,75 @@ def frame() -> str:
 # ---- the life of an entry
 
 
+FIRST, COLUMN = 132, 84  # where the first column of words begins, and from one to the next
+
+
+def column_middle(i: int) -> float:
+    return FIRST + COLUMN * i + (COLUMN - 6) / 2
+
+
+def stage_row(canvas: Canvas, y: float, stage: str, words: list[int], changed: int | None, kind: str) -> None:
+    """A stage with words of the frame, of which one has changed."""
+    canvas.rect(EDGE, y, 96, 34, kind, 17)
+    canvas.text(EDGE + 48, y + 22, stage, "small bold middle")
+    words_row(canvas, y, words, changed)
+
+
+def words_row(canvas: Canvas, y: float, words: list[int], changed: int | None) -> None:
+    for i, word in enumerate(words):
+        canvas.rect(FIRST + COLUMN * i, y, COLUMN - 6, 34, "orange" if i == changed else "box", 4)
+        canvas.text(column_middle(i), y + 22, word_text(word), "code bold middle" if i == changed else "code middle")
+
+
 def entry() -> str:
     canvas = Canvas("The stages of an entry, and the words of the frame after each step")
     drawn = Frame(PIXELS, NODES)
     for pixel, prim, mask in DRAWN[:-1]:
         drawn.insert(pixel, fragment_word(prim, mask))
     pixel, prim, mask = DRAWN[-1]
-    n, before = drawn.words[0], list(drawn.words)
+    last = list(drawn.words)
+    n, old = last[0], last[drawn.head(pixel)]
     places = [0, drawn.head(pixel), drawn.payload(n), drawn.next(n)]
-    states = drawn.insert(pixel, fragment_word(prim, mask))
-    old = before[places[1]]
-    told = {
+    steps = {
         "claim": f"adds 1 to the counter, which gives the number {n}",
         "fill": f"stores the payload: primitive {prim}, mask {mask}",
         "swap": f"swaps {n + 1} into the head, and gets the old head, {old}",
         "link": "stores the old head as the next",
     }
-    remarks = {"Swapped": "The list has the node; a walk stops at the mark.",
-               "Linked": f"A walk goes on to node {old - 1}."}
-    column, first = 84, 132
+    remarks = {"Swapped": "The list has the node; a walk stops at the mark.", "Linked": f"A walk goes on to node {old - 1}."}
 
-    def row(y: float, stage: str, words: list[str], changed: int, kind: str = "blue") -> None:
-        if stage:
-            canvas.rect(EDGE, y, 96, 34, kind, 17)
-            canvas.text(EDGE + 48, y + 22, stage, "small bold middle")
-        else:
-            canvas.text(EDGE, y + 22, "before", "small soft")
-        for i, word in enumerate(words):
-            canvas.rect(first + column * i, y, column - 6, 34, "orange" if i == changed else "box", 4)
-            canvas.text(first + column * i + (column - 6) / 2, y + 22, word, "code bold middle" if i == changed else "code middle")
-
-    for i, (name, place) in enumerate(zip(("counter", "head", "payload", "next"), places)):
-        x = first + column * i + (column - 6) / 2
-        canvas.text(x, 34, name, "small bold middle")
-        canvas.text(x, 51, ("", f"of pixel {pixel}", f"of node {n}", f"of node {n}")[i] or "of the frame", "small soft middle")
-        canvas.text(x, 68, f"word {place}", "small soft middle")
+    columns = [("counter", "of the frame"), ("head", f"of pixel {pixel}"), ("payload", f"of node {n}"), ("next", f"of node {n}")]
+    for i, (name, owner) in enumerate(columns):
+        canvas.text(column_middle(i), 34, name, "small bold middle")
+        canvas.text(column_middle(i), 51, owner, "small soft middle")
+        canvas.text(column_middle(i), 68, f"word {places[i]}", "small soft middle")
     y: float = 78
-    row(y, "", [word_text(before[place]) for place in places], -1)
-    last = before
-    for state in states:
+    canvas.text(EDGE, y + 22, "before", "small soft")
+    words_row(canvas, y, [last[place] for place in places], None)
+    start = y + 34
+    for state in drawn.insert(pixel, fragment_word(prim, mask)):
+        y += 34
         changed = [i for i, place in enumerate(places) if state.words[place] != last[place]]
-        extra = 20 if state.step == "link" else 0
-        canvas.down(EDGE + 48, y + 34, y + 34 + 38 + extra)
-        if extra:
-            canvas.text(first, y + 34 + 20, remarks["Swapped"], "small soft")
-        y += extra
-        canvas.text(EDGE + 60, y + 34 + 25, state.step, "small bold")
-        canvas.text(first, y + 34 + 25, told[state.step], "small")
-        y += 34 + 40
-        row(y, state.stage, [word_text(state.words[place]) for place in places], changed[0], "green" if state.stage == "Linked" else "blue")
-        last = state.words
-    canvas.text(first, y + 54, remarks["Linked"], "small soft")
+        canvas.text(EDGE + 60, y + 25, state.step, "small bold")
+        canvas.text(FIRST, y + 25, steps[state.step], "small")
+        y += 40
+        canvas.down(EDGE + 48, start, y - 2)
+        stage_row(canvas, y, state.stage, [state.words[place] for place in places], changed[0],
+                  "green" if state.stage == "Linked" else "blue")
+        start, last = y + 34, state.words
+        if state.stage in remarks:
+            canvas.text(FIRST, y + 54, remarks[state.stage], "small soft")
+            y += 20
 
     while drawn.words[0] < NODES:
-        drawn.insert(0, fragment_word(prim, mask))
-    y += 74
+        drawn.insert(pixel, fragment_word(prim, mask))
+    y += 54
     canvas.path(f"M{EDGE} {number(y)}H{WIDTH - EDGE}", "thin")
-    n = drawn.words[0]
-    lost = drawn.insert(pixel, fragment_word(prim, mask))
-    canvas.text(EDGE, y + 26, f"A claim that gives the number {n}, where the frame has {NODES} nodes:", "small")
+    canvas.text(EDGE, y + 26, f"A claim that gives the number {drawn.words[0]}, where the frame has {NODES} nodes:", "small")
     y += 40
-    row(y, lost[0].stage, [word_text(lost[0].words[0])], 0, "box")
-    canvas.lines(first + column + 6, y + 14, ["No other word changes. The", "fragment is counted, not kept."], "small")
+    lost, = drawn.insert(pixel, fragment_word(prim, mask))
+    stage_row(canvas, y, lost.stage, [lost.words[0]], 0, "box")
+    canvas.lines(FIRST + COLUMN + 6, y + 14, ["No other word changes. The", "fragment is counted, not kept."], "small")
     return canvas.svg(y + 34 + EDGE)
 
 
@@ -575,100 +621,96 @@ def runs(pixels: Iterable[Place]) -> list[Span]:
     return found
 
 
-PIXEL_KINDS = {"everything": "all", "open": "some"}  # the colours of a stepped tile's pixels
+class Grid(NamedTuple):
+    """Where pixels are drawn: the place of pixel (0, 0), and how wide a pixel is."""
+
+    left: float
+    top: float
+    scale: int
+
+    def place(self, x: float, y: float) -> str:
+        return f"{number(self.left + self.scale * x)} {number(self.top + self.scale * y)}"
+
+    def blocks(self, spans: Iterable[Span]) -> str:
+        return "".join(f"M{self.place(span.x, span.y)}h{self.scale * span.w}v{self.scale * span.h}h{-self.scale * span.w}z"
+                       for span in spans)
+
+    def rulings(self, tile: Span) -> str:
+        """The lines between the pixels of a tile."""
+        return "".join([f"M{self.place(x, tile.y)}v{self.scale * tile.h}" for x in range(tile.x + 1, tile.x + tile.w)]
+                       + [f"M{self.place(tile.x, y)}h{self.scale * tile.w}" for y in range(tile.y + 1, tile.y + tile.h)])
+
+    def outline(self) -> str:
+        """The triangle."""
+        return "M" + "L".join(self.place(x / 256, y / 256) for x, y in CORNERS) + "z"
+
+    def dots(self, places: Iterable[Place]) -> str:
+        return "".join(f"M{self.place(x / 256, y / 256)}h0" for x, y in places)
 
 
-def outline(left: float, top: float, scale: float) -> str:
-    """The triangle, where a pixel is so wide and pixel (0, 0) begins there."""
-    return "M" + " ".join(f"{number(left + scale * x / 256)} {number(top + scale * y / 256)}" for x, y in CORNERS) + "z"
+def draw_pixels(canvas: Canvas, grid: Grid, tile: Span) -> None:
+    """The pixels of a stepped tile, in the colours of their cases."""
+    for name, kind in (("everything", "all"), ("open", "some")):
+        canvas.path(grid.blocks(runs(pixel for pixel in pixels_of(tile) if case(samples_of(*pixel)) == name)), kind)
+    canvas.path(grid.rulings(tile), "thin")
 
 
 def tiles() -> str:
     canvas = Canvas("The tiles of a triangle: nothing, everything, and stepped from pixel to pixel")
     box = box_around()
-    scale = 11
-    left, top = (WIDTH - scale * box.w) / 2 - scale * box.x, EDGE - scale * box.y
+    grid = Grid((WIDTH - 11 * box.w) / 2 - 11 * box.x, EDGE - 11 * box.y, 11)
+    cases = {tile: tile_case(tile) for tile in tiles_of(box)}
+    by_case = {name: [tile for tile in cases if cases[tile] == name] for name in ("nothing", "everything", "open")}
+    canvas.path(grid.blocks(by_case["everything"]), "all")
+    for tile in by_case["open"]:
+        draw_pixels(canvas, grid, tile)
+    canvas.path(grid.blocks(cases), "tile")
+    canvas.path(grid.outline(), "edge")
+    for name, kind in (("nothing", "small soft middle"), ("everything", "small bold middle")):
+        for tile in by_case[name]:
+            x, y = tile.x + tile.w / 2, tile.y + tile.h / 2
+            canvas.text(grid.left + grid.scale * x, grid.top + grid.scale * y + 4, name, kind)
 
-    def x_at(x: float) -> float:
-        return left + scale * x
-
-    def y_at(y: float) -> float:
-        return top + scale * y
-
-    def blocks(spans: Iterable[Span], kind: str) -> None:
-        steps = "".join(f"M{number(x_at(span.x))} {number(y_at(span.y))}h{scale * span.w}v{scale * span.h}h{-scale * span.w}z" for span in spans)
-        if steps:
-            canvas.path(steps, kind)
-
-    all_tiles = tiles_of(box)
-    cases = {tile: tile_case(tile) for tile in all_tiles}
-    stepped = [tile for tile in all_tiles if cases[tile] == "open"]
-    blocks([tile for tile in all_tiles if cases[tile] == "everything"], "all")
-    in_stepped = [pixel for tile in stepped for pixel in pixels_of(tile)]
-    for name, kind in PIXEL_KINDS.items():
-        blocks(runs(pixel for pixel in in_stepped if case(samples_of(*pixel)) == name), kind)
-    for tile in stepped:
-        steps = [f"M{number(x_at(x))} {number(y_at(tile.y))}v{scale * tile.h}" for x in range(tile.x + 1, tile.x + tile.w)]
-        steps += [f"M{number(x_at(tile.x))} {number(y_at(y))}h{scale * tile.w}" for y in range(tile.y + 1, tile.y + tile.h)]
-        canvas.path("".join(steps), "thin")
-    blocks(all_tiles, "tile")
-    canvas.path(outline(left, top, scale), "edge")
-    for tile in all_tiles:
-        if cases[tile] == "nothing":
-            canvas.text(x_at(tile.x + tile.w / 2), y_at(tile.y + tile.h / 2) + 4, "nothing", "small soft middle")
-        elif cases[tile] == "everything":
-            canvas.text(x_at(tile.x + tile.w / 2), y_at(tile.y + tile.h / 2) + 4, "everything", "small bold middle")
-
-    y = y_at(box.y + box.h) + 24
-    count = {name: sum(one == name for one in cases.values()) for name in ("nothing", "everything", "open")}
-    fragments = sum(mask_at(*pixel) > 0 for tile in all_tiles for pixel in pixels_of(tile))
-    y = canvas.lines(EDGE, y, [
-        f"Of {len(all_tiles)} tiles {count['nothing']} have nothing, {count['everything']} have everything, and {count['open']} are stepped.",
+    nothing, everything, stepped = (len(of_case) for of_case in by_case.values())
+    fragments = sum(mask_at(*pixel) > 0 for pixel in pixels_of(box))
+    y = canvas.lines(EDGE, grid.top + grid.scale * (box.y + box.h) + 24, [
+        f"Of {len(cases)} tiles {nothing} have nothing, {everything} have everything, and {stepped} are stepped.",
         f"The triangle has {fragments} fragments, with {SAMPLES} samples a pixel."], "small", 19)
-    return canvas.svg(stepped_tile(canvas, y + 20, all_tiles[0]) + EDGE)
+    side = draw_enlarged(canvas, y + 20, tiles_of(box)[0])
+    draw_key(canvas, EDGE + side + 18, y + 32)
+    return canvas.svg(y + 20 + side + EDGE)
 
 
-def stepped_tile(canvas: Canvas, top: float, tile: Span) -> float:
-    """A stepped tile from near, with what its colours say; the end is answered."""
+def draw_enlarged(canvas: Canvas, top: float, tile: Span) -> float:
+    """A stepped tile with the samples that are tested; its side is answered."""
     scale = 25
-
-    def x_at(x: float) -> float:
-        return EDGE + scale * (x - tile.x)
-
-    def y_at(y: float) -> float:
-        return top + scale * (y - tile.y)
-
-    cases = {(x, y): case(samples_of(x, y)) for x, y in pixels_of(tile)}
-    for name, kind in PIXEL_KINDS.items():
-        canvas.path("".join(f"M{number(x_at(run.x))} {number(y_at(run.y))}h{scale * run.w}v{scale}h{-scale * run.w}z"
-                            for run in runs(pixel for pixel in cases if cases[pixel] == name)), kind)
-    canvas.path("".join([f"M{number(x_at(x))} {number(top)}v{scale * tile.h}" for x in range(tile.x + 1, tile.x + tile.w)]
-                        + [f"M{EDGE} {number(y_at(y))}h{scale * tile.w}" for y in range(tile.y + 1, tile.y + tile.h)]), "thin")
-    canvas.rect(EDGE, top, scale * tile.w, scale * tile.h, "tile")
-    canvas.put("clipPath", "", 'id="tile"', f'<path d="M{EDGE} {number(top)}h{scale * tile.w}v{scale * tile.h}h{-scale * tile.w}z"/>')
-    canvas.put("path", "edge", f'd="{outline(x_at(0), y_at(0), scale)}" clip-path="url(#tile)"')
+    grid = Grid(EDGE - scale * tile.x, top - scale * tile.y, scale)
+    draw_pixels(canvas, grid, tile)
+    canvas.path(grid.blocks([tile]), "tile")
+    canvas.put("clipPath", "", 'id="tile"', f'<path d="{grid.blocks([tile])}"/>')
+    canvas.put("path", "edge", f'd="{grid.outline()}" clip-path="url(#tile)"')
+    tested = [(mask_at(*pixel) >> k & 1, s) for pixel in pixels_of(tile) if case(samples_of(*pixel)) == "open"
+              for k, s in enumerate(samples_of(*pixel))]
     for kind, bit in (("miss", 0), ("dot", 1)):
-        canvas.path("".join(f"M{number(x_at(s[0] / 256))} {number(y_at(s[1] / 256))}h0"
-                            for (x, y), name in cases.items() if name == "open"
-                            for k, s in enumerate(samples_of(x, y)) if mask_at(x, y) >> k & 1 == bit), kind)
-    x, y = EDGE + scale * tile.w + 18, top + 12
-    y = canvas.lines(x, y, ["The first tile, enlarged"], "small bold", 26)
+        canvas.path(grid.dots(s for is_covered, s in tested if is_covered == bit), kind)
+    return scale * SIDE
 
-    def entry_of(kind: str, lines: list[str]) -> None:
-        nonlocal y
+
+def draw_key(canvas: Canvas, x: float, y: float) -> None:
+    """What the colours and the dots of the enlarged tile say."""
+    canvas.text(x, y, "The tile at the top left", "small bold")
+    y += 26
+    for kind, lines in (("all", ["the edges accept all:", f"mask {2 ** SAMPLES - 1}"]),
+                        ("page", ["an edge accepts nothing:", "no fragment"]),
+                        ("some", ["left open, and tested", "sample by sample"]),
+                        ("dot", ["a sample that is covered"]),
+                        ("miss", ["a sample that isn't"])):
         if kind in ("dot", "miss"):
             canvas.path(f"M{number(x + 7)} {number(y - 4)}h0", kind)
         else:
             canvas.rect(x, y - 11, 14, 14, kind)
             canvas.rect(x, y - 11, 14, 14, "tile")
-        y = canvas.lines(x + 22, y, lines, "small", 17) + 7
-
-    entry_of("all", ["the edges accept all:", f"mask {2 ** SAMPLES - 1}"])
-    entry_of("page", ["an edge accepts nothing:", "no fragment"])
-    entry_of("some", ["left open, and tested", "sample by sample"])
-    entry_of("dot", ["a sample that is covered"])
-    entry_of("miss", ["a sample that isn't"])
-    return top + scale * tile.h
+        y = canvas.lines(x + 22, y, lines, "small", STEP) + 7
 
 
 # ---- the example of pick
@@ -756,7 +798,8 @@ def bar(canvas: Canvas, y: float, fields: list[Field], word: int) -> None:
         bit -= field.bits
         canvas.text(x + w - 3, y - 5, str(bit), "small soft end")
     for kind, value in (("bit", 1), ("off", 0)):
-        canvas.path("".join(f"M{EDGE + BIT * (63 - k) + 1} {number(y + 37)}h5v8h-5z" for k in range(64) if word >> k & 1 == value), kind)
+        places = [EDGE + BIT * (63 - k) + 1 for k in range(64) if word >> k & 1 == value]
+        canvas.path("".join(f"M{x} {number(y + 37)}h5v8h-5z" for x in places), kind)
 
 
 def words() -> str:
@@ -770,7 +813,7 @@ def words() -> str:
     canvas.text(EDGE, 34, "The word of a fragment", "bold")
     canvas.text(WIDTH - EDGE, 34, "prim·2^16 + mask", "code end")
     canvas.lines(EDGE, 57, ["A frame keeps it as a payload. Bit k of the mask is set where the",
-                            "fragment has sample k. Ascending words go by the primitive."], "small", 19)
+                            "fragment has sample k. Words ascend with the primitive number."], "small", 19)
     first, second = 112, 286
     left, right = EDGE + BIT * 24, EDGE + BIT * 40
     canvas.path(f"M{left} {first + 32}H{right}L{WIDTH - EDGE} {second}H{right}z", "band")
@@ -783,10 +826,6 @@ def words() -> str:
     y = canvas.lines(EDGE, y, ["Ascending words go from the farthest to the nearest. Of equal",
                                "keys the lower number is beneath."], "small", 19)
     return canvas.svg(y + 2)
-
-
-def hex_of(colour: Iterable[int]) -> str:
-    return "#" + "".join(f"{(255 * channel + 32767) // 65535:02x}" for channel in colour)
 
 
 def plane(prim: reference.Primitive) -> tuple[int, int, int, int]:
@@ -802,7 +841,10 @@ def plane(prim: reference.Primitive) -> tuple[int, int, int, int]:
     return at(1, 0) - w, at(0, 1) - w, w, prim.area
 
 
-def nearer_part(one: reference.Primitive, other: reference.Primitive, corners: list[tuple[float, float]]) -> list[tuple[float, float]]:
+Polygon = list[tuple[float, float]]
+
+
+def nearer_part(one: reference.Primitive, other: reference.Primitive, corners: Polygon) -> Polygon:
     """The part of a convex polygon in which the one primitive is nearer than the other."""
     (u, v, w, area), (p, q, r, size) = plane(one), plane(other)
 
@@ -829,78 +871,85 @@ def order_samples(shown: Example) -> tuple[int, int]:
     raise Fault("README.md's example of pick has one order in all samples")
 
 
+def draw_card(canvas: Canvas, x: float, y: float, w: float, shown: Example, prim: int, told: str, word: int) -> None:
+    """A word, with what it stands for and the colour of its primitive."""
+    canvas.rect(x, y, w, 44, "box", 4)
+    canvas.swatch(x + 8, y + 8, 14, 28, shown.primitives[prim].paint.colour, 2)
+    canvas.text(x + 32, y + 19, told, "small")
+    canvas.text(x + 32, y + 36, str(word), "code soft")
+
+
+def draw_pixel(canvas: Canvas, x: float, y: float, side: float, shown: Example, listed: list[int]) -> None:
+    """The pixel, with what is nearest where, and its samples."""
+    column, row = shown.pixel
+    square = [(256.0 * (column + right), 256.0 * (row + down)) for right, down in ((0, 0), (1, 0), (1, 1), (0, 1))]
+    topmost = {covering[-1][1]: shown.colours(k)[-1] for k, covering in enumerate(shown.samples)}
+    one, other = listed
+    part = nearer_part(shown.primitives[one], shown.primitives[other], square)
+    steps = "L".join(f"{number(x + side * (right / 256 - column))} {number(y + side * (down / 256 - row))}"
+                     for right, down in part)
+    canvas.swatch(x, y, side, side, topmost[other])
+    canvas.put("path", "", f'd="M{steps}z" fill="{hex_of(topmost[one])}"')
+    for k, (right, down) in enumerate(reference.OFFSETS[len(shown.samples)]):
+        at_x, at_y = x + side * (8 + right) / 16, y + side * (8 + down) / 16
+        canvas.put("circle", "mark", f'cx="{number(at_x)}" cy="{number(at_y)}" r="11"')
+        canvas.text(at_x, at_y + 5, str(k), "small on-mark middle")
+
+
+def draw_sample(canvas: Canvas, x: float, y: float, w: float, shown: Example, k: int, listed: list[int]) -> float:
+    """The words of a sample as they are listed and in order, and its colour; the end is answered."""
+    keys = {prim: key for key, prim in shown.samples[k]}
+
+    def cards(prims: list[int]) -> None:
+        nonlocal y
+        for prim in prims:
+            draw_card(canvas, x, y, w, shown, prim, f"prim {prim}, key {keys[prim]}", depth_word(keys[prim], prim))
+            y += 52
+
+    canvas.text(x, y, f"Sample {k}", "bold")
+    canvas.text(x + w, y, "as listed", "small soft end")
+    y += 12
+    before, after = [prim for prim in listed if prim in keys], [prim for _, prim in shown.samples[k]]
+    cards(before)
+    canvas.down(x + 15, y - 8, y + 32)
+    canvas.text(x + 32, y + 13, "sorted: as they were" if before == after else "sorted: exchanged", "small")
+    y += 34
+    cards(after)
+    y += 16
+    canvas.text(x, y, "laid over the background", "small")
+    y += 10
+    colours = shown.colours(k)
+    side = (w - 24 * (len(colours) - 1)) / len(colours)
+    for place, colour in enumerate(colours):
+        at = x + (side + 24) * place
+        canvas.swatch(at, y, side, 34, colour, 3)
+        if place:
+            canvas.arrow(f"M{number(at - 22)} {number(y + 17)}L", at - 2, y + 17, "right")
+    return y + 34
+
+
 def order() -> str:
     canvas = Canvas("The list of a pixel, put in order in two samples")
     shown = example()
     masks = shown.masks()
-    newest_first = sorted(masks, reverse=True)
-    chosen = order_samples(shown)
+    listed = sorted(masks, reverse=True)  # as one thread leaves it, the newest first
+    canvas.text(EDGE, 34, f"Pixel ({shown.pixel[0]}, {shown.pixel[1]})", "bold")
+    draw_pixel(canvas, EDGE, 46, 176, shown, listed)
 
-    def fill(x: float, y: float, w: float, h: float, colour: Iterable[int], corner: int = 0) -> None:
-        rounded = f' rx="{corner}"' if corner else ""
-        canvas.put("rect", "swatch", f'x="{number(x)}" y="{number(y)}" width="{number(w)}" height="{number(h)}"{rounded} fill="{hex_of(colour)}"')
-
-    def card(x: float, y: float, w: float, prim: int, line: str, word: int) -> None:
-        canvas.rect(x, y, w, 44, "box", 4)
-        fill(x + 8, y + 8, 14, 28, shown.primitives[prim].paint.colour, 2)
-        canvas.text(x + 32, y + 19, line, "small")
-        canvas.text(x + 32, y + 36, str(word), "code soft")
-
-    # the pixel
-    x0, y0 = shown.pixel
-    scale, left, top = 176, EDGE, 46
-    canvas.text(EDGE, 34, f"Pixel ({x0}, {y0})", "bold")
-    square = [(256.0 * x, 256.0 * y) for x, y in ((x0, y0), (x0 + 1, y0), (x0 + 1, y0 + 1), (x0, y0 + 1))]
-    topmost = {covering[-1][1]: shown.colours(k)[-1] for k, covering in enumerate(shown.samples)}
-    one, other = newest_first
-    fill(left, top, scale, scale, topmost[other])
-    steps = " ".join(f"{number(left + scale * (x / 256 - x0))} {number(top + scale * (y / 256 - y0))}"
-                     for x, y in nearer_part(shown.primitives[one], shown.primitives[other], square))
-    canvas.put("path", "", f'd="M{steps}z" fill="{hex_of(topmost[one])}"')
-    for k, (right, down) in enumerate(reference.OFFSETS[len(shown.samples)]):
-        x, y = left + scale * (8 + right) / 16, top + scale * (8 + down) / 16
-        canvas.put("circle", "mark", f'cx="{number(x)}" cy="{number(y)}" r="11"')
-        canvas.text(x, y + 5, str(k), "small on-mark middle")
-
-    # its list
-    x, w = 232.0, WIDTH - EDGE - 232.0
+    x, y = 232, 70
     canvas.text(x, 34, "Its list, newest first", "bold")
-    y = top + 24
-    canvas.text(x + 20, top + 8, "head", "small soft middle")
-    for prim in newest_first:
+    canvas.text(x + 20, y - 16, "head", "small soft middle")
+    for prim in listed:
         canvas.down(x + 20, y - 12, y - 1)
-        card(x, y, w, prim, f"primitive {prim}, mask {masks[prim]}", fragment_word(prim, masks[prim]))
-        y += 44 + 16
+        word = fragment_word(prim, masks[prim])
+        draw_card(canvas, x, y, WIDTH - EDGE - x, shown, prim, f"primitive {prim}, mask {masks[prim]}", word)
+        y += 60
     canvas.lines(x, y + 10, ["Threads decide which fragment", "came first."], "small soft", 18)
 
-    # its samples
-    top = 262
-    canvas.path(f"M{EDGE} {top - 22}H{WIDTH - EDGE}", "thin")
+    canvas.path(f"M{EDGE} 240H{WIDTH - EDGE}", "thin")
     w = (WIDTH - 2 * EDGE - 24) / 2
-    for x, k in zip((EDGE, EDGE + w + 24), chosen):
-        keys = {prim: key for key, prim in shown.samples[k]}
-        listed = [prim for prim in newest_first if prim in keys]
-        ordered = [prim for _, prim in shown.samples[k]]
-        canvas.text(x, top + 6, f"Sample {k}", "bold")
-        canvas.text(x + w, top + 6, "as listed", "small soft end")
-        above, below = top + 18, top + 18 + 2 * 52 + 34
-        for place, prim in enumerate(listed):
-            card(x, above + 52 * place, w, prim, f"prim {prim}, key {keys[prim]}", depth_word(keys[prim], prim))
-        foot = above + 2 * 52 - 8
-        canvas.down(x + 15, foot, below - 2)
-        canvas.text(x + 32, foot + 21, "sorted: as they were" if listed == ordered else "sorted: exchanged", "small")
-        for place, prim in enumerate(ordered):
-            card(x, below + 52 * place, w, prim, f"prim {prim}, key {keys[prim]}", depth_word(keys[prim], prim))
-        y = below + 2 * 52 + 16
-        canvas.text(x, y, "laid over the background", "small")
-        colours = shown.colours(k)
-        side = (w - 24 * (len(colours) - 1)) / len(colours)
-        for place, colour in enumerate(colours):
-            fill(x + (side + 24) * place, y + 10, side, 34, colour, 3)
-            if place:
-                at = x + (side + 24) * place
-                canvas.arrow(f"M{number(at - 22)} {number(y + 27)}L", at - 2, y + 27, "right")
-    return canvas.svg(y + 44 + EDGE)
+    ends = [draw_sample(canvas, at, 268, w, shown, k, listed) for at, k in zip((EDGE, EDGE + w + 24), order_samples(shown))]
+    return canvas.svg(max(ends) + EDGE)
 
 
 # ---- the files

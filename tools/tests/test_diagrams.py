@@ -41,8 +41,8 @@ class Files(unittest.TestCase):
                 file.write("\n")
             os.remove(os.path.join(folder, "words.svg"))
             done = helping.call(diagrams, "--check", "--folder", folder, folder=folder)
-            self.assertEqual((done.returncode, done.stdout.decode().splitlines()),
-                             (1, ["WRONG frame.svg: isn't what diagrams.py draws", "WRONG words.svg: isn't there", "diagrams: 6 diagrams, 2 failed"]))
+            self.assertEqual((done.returncode, done.stdout.decode().splitlines()), (1, [
+                "WRONG frame.svg: isn't what diagrams.py draws", "WRONG words.svg: isn't there", "diagrams: 6 diagrams, 2 failed"]))
 
     def test_a_folder_that_is_missing(self):
         done = helping.run("diagrams.py", "--folder", "/no/such/folder")
@@ -52,8 +52,9 @@ class Files(unittest.TestCase):
         for name in diagrams.DIAGRAMS:
             text = drawn(name)
             self.assertLess(len(text.encode()), diagrams.MOST_BYTES, name)
-            self.assertNotRegex(text.replace('xmlns="http://www.w3.org/2000/svg"', ""), r"https?:|@import|href|<script|<image", name)
-            self.assertEqual(set(re.findall(r"font(?:-family)?:(?:\d+px )?([^;}]+)", text.replace("font-size", "").replace("font-weight", ""))) - {"sans-serif", "monospace"}, set(), name)
+            self.assertNotRegex(text.replace('xmlns="http', ""), r"https?:|@import|href|<script|<image", name)
+            fonts = set(re.findall(r"font(?:-family)?:(?:\d+px )?([^;}]+)", text))
+            self.assertTrue({"sans-serif"} <= fonts <= {"sans-serif", "monospace"}, name)
             self.assertIn("prefers-color-scheme:dark", text)
 
     def test_the_documents_show_each(self):
@@ -135,9 +136,10 @@ class Tiles(unittest.TestCase):
     def test_tiles_are_the_box_and_have_their_case(self):
         box = diagrams.box_around()
         tiles = diagrams.tiles_of(box)
-        self.assertEqual(sorted(pixel for tile in tiles for pixel in diagrams.pixels_of(tile)), sorted(diagrams.pixels_of(box)))
+        pixels = [pixel for tile in tiles for pixel in diagrams.pixels_of(tile)]
+        self.assertEqual(sorted(pixels), sorted(diagrams.pixels_of(box)))
         cases = [diagrams.tile_case(tile) for tile in tiles]
-        self.assertEqual(set(cases), {"nothing", "everything", "open"})
+        self.assertEqual((set(cases), cases[0]), ({"nothing", "everything", "open"}, "open"))
         for tile, case in zip(tiles, cases):
             masks = {diagrams.mask_at(x, y) for x, y in diagrams.pixels_of(tile)}
             self.assertTrue(max(tile.w, tile.h) <= 8)
@@ -153,7 +155,8 @@ class Tiles(unittest.TestCase):
 
 class Samples(unittest.TestCase):
     def test_fields_have_the_bits_of_the_words(self):
-        self.assertEqual([sum(field.bits for field in fields) for fields in (diagrams.FRAGMENT_FIELDS, diagrams.SAMPLE_FIELDS)], [64, 64])
+        for fields in (diagrams.FRAGMENT_FIELDS, diagrams.SAMPLE_FIELDS):
+            self.assertEqual(sum(field.bits for field in fields), 64)
         self.assertEqual(diagrams.fragment_word(2 ** 24 - 1, 0), sum(2 ** k for k in range(16, 40)))
         self.assertEqual(diagrams.depth_word(2 ** 24 - 1, 0), sum(2 ** k for k in range(24, 48)))
 
@@ -213,7 +216,8 @@ class Shown(unittest.TestCase):
                 outer = found["rects"][0]
                 for text in found["texts"]:
                     told = f"{name}: {text[4]}"
-                    self.assertTrue(outer[0] + 2 < text[0] and text[2] < outer[2] - 2 and outer[1] < text[1] and text[3] < outer[3], told)
+                    self.assertTrue(outer[0] + 2 < text[0] and text[2] < outer[2] - 2, told)
+                    self.assertTrue(outer[1] < text[1] and text[3] < outer[3], told)
                     for rect in found["rects"]:
                         if overlap(text, rect, 1):
                             self.assertTrue(rect[0] < text[0] and text[2] < rect[2], f"{told}: leaves its box")
