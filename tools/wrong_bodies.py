@@ -6,7 +6,8 @@
     rt ci > /tmp/ci.log 2>&1; wrong_bodies.py /tmp/ci.log
 
 An edit is told by its name, the line that it changes, and the contract that refuses it: the function, and the clause or the
-goal of its proof that the edited body leaves open. Where no log has an edit, nothing is written and the status is 2.
+goal of its proof that the edited body leaves open. An edit that no log has keeps its row if its code is the same, and is 'not
+recorded' otherwise. Where the logs have none at all, nothing is written and the status is 2.
 """
 
 import glob
@@ -30,7 +31,8 @@ together. Where the goal is what a call requires, the edited body could not even
 
 Bodies that `rt plant` makes by itself stand in [PROOFS](PROOFS.md#wrong-bodies), with those that pass and why.
 
-`tools/wrong_bodies.py` makes this page from the edits and the log of a run that tried them.
+`tools/wrong_bodies.py` makes this page from the edits and the log of a run that tried them. Where it says 'not recorded', the
+edit is newer than the last log that was kept.
 """
 
 
@@ -110,26 +112,40 @@ def crates():
         return [line.split(":")[0] for line in file if re.match(r"\w+:", line)]
 
 
+def kept_places(page):
+    """Of each edit on the page, by its crate and its row without the last cell: where it was refused."""
+    found, crate = {}, ""
+    for line in page.splitlines():
+        if line.startswith("## "):
+            crate = line[3:]
+        elif line.startswith("| "):
+            row, _, place = line.removesuffix(" |").rpartition(" | ")
+            found[crate, row] = place
+    return found
+
+
 def main():
     parser = report.words(__doc__)
     parser.add_argument("logs", nargs="+", metavar="LOG")
     refusals = refusals_of(parser.parse_args().logs)
-    missing, page, count = [], [HEAD], 0
+    if not refusals:
+        raise Fault("the logs have no edit that was refused")
+    kept = kept_places(text_of(PAGE)) if os.path.exists(PAGE) else {}
+    page, count = [HEAD], 0
     for crate in crates():
         rows = []
         for name, changes in edits_of(crate):
-            if (crate, name) not in refusals:
-                missing.append(f"{crate}/{name}")
-                continue
-            place = place_of(crate, refusals[crate, name])
             told = "<br>".join(f"{code(old)} → {code(new)}" for _, old, new in changes)
-            rows.append(f"| {name.replace('_', ' ')} | {told} | {place or 'not named by the log'} |")
+            row = f"| {name.replace('_', ' ')} | {told}"
+            if (crate, name) in refusals:
+                place = place_of(crate, refusals[crate, name]) or "not named by the log"
+            else:
+                place = kept.get((crate, row), "not recorded")
+            rows.append(f"{row} | {place} |")
         if rows:
             count += len(rows)
             page.append(f"\n## {crate}\n\n{len(rows)} edits.\n\n| The wrong | Before → after | Refused at |\n|---|---|---|\n"
                         + "\n".join(rows) + "\n")
-    if missing:
-        raise Fault("no log has " + ", ".join(missing))
     with open(PAGE, "w", encoding="utf-8") as file:
         file.write("".join(page))
     print(f"{count} edits")

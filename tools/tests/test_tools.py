@@ -240,6 +240,11 @@ class WrongBodies(unittest.TestCase):
                                 b"rt: must-fail abuf_num/even.edit: NOT REFUSED\n")
             self.assertEqual(list(wrong_bodies.refusals_of([log])), [("abuf_num", "odd")])
 
+    def test_rows_that_are_kept(self):
+        page = "## abuf_num\n\n1 edits.\n\n| The wrong | Before → after | Refused at |\n|---|---|---|\n| odd | `a \\| b` → `c` | `f`: `g` |\n"
+        kept = wrong_bodies.kept_places(page)
+        self.assertEqual(kept["abuf_num", "| odd | `a \\| b` → `c`"], "`f`: `g`")
+
     def test_the_function_of_a_line(self):
         with tempfile.TemporaryDirectory() as folder:
             os.makedirs(os.path.join(folder, "crates", "a", "src"))
@@ -253,7 +258,7 @@ class WrongBodies(unittest.TestCase):
     def test_edits_that_no_log_has(self):
         done = helping.run("wrong_bodies.py", os.devnull)
         self.assertEqual(done.returncode, 2)
-        self.assertIn(b"no log has abuf_num/", done.stderr)
+        self.assertIn(b"no edit that was refused", done.stderr)
 
 
 if __name__ == "__main__":
