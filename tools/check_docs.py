@@ -512,7 +512,7 @@ def typed(path: str) -> Iterator[str]:
         for block in re.findall(r"(?ms)^\.EX\n(.*?)^\.EE$", text(path)):
             yield block.replace("\\", "")
         return
-    for block, row in re.findall(r"(?ms)^```\n(.*?)^```$|^(\|[^\n]*)$", text(path)):
+    for block, row in re.findall(r"(?ms)^```\w*\n(.*?)^```$|^(\|[^\n]*)$", text(path)):
         if block:
             yield block
         for code in codes(row):
