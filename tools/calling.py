@@ -9,6 +9,7 @@ Each library crate has a page crates/NAME/CALLING.md for those who call it. READ
 quote too. A quoted part stands between two lines, the first of which says what it has:
 
     <!-- quote FILE: NAME NAME .. -->   these items of a file, as abuf_draw/src/tests.rt, below the `use` lines that they need
+    <!-- quote item FILE: NAME .. -->   these items alone, without `use` lines
     <!-- quote contracts -->            the public items of the crate, without their bodies
     <!-- quote words -->                the words of the clauses in these: what the definition of each says, and its file
     <!-- end -->                        the end of the part
@@ -29,7 +30,7 @@ from abuflib.program import TOP
 from abuflib.report import Fault, Report
 
 CRATES = os.path.join(TOP, "crates")
-NO_LIBRARY = ("abuf", "abuf_rows")  # the program, and tests alone
+NO_LIBRARY = ("abuf", "abuf_rows", "abuf_uses", "abuf_watch")  # the programs, tests alone, and callers
 PART = re.compile(r"(?ms)^<!-- quote ([^\n]*?) -->\n(.*?)^<!-- (end|quote[^\n]*) -->$")
 
 
@@ -430,8 +431,8 @@ def words(crate: str, page: str) -> str:
     return text or "The contracts have no words of their own.\n"
 
 
-def caller(path: str, names: list[str]) -> str:
-    """Functions of a file as they stand there, below the `use` lines that bring in what they name."""
+def caller(path: str, names: list[str], is_alone: bool) -> str:
+    """Functions of a file as they stand there, alone or below the `use` lines that bring in what they name."""
     crate, _, inner = path.partition("/")
     if crate not in crates() or not inner.startswith("src/") or not inner.endswith(".rt"):
         raise Fault(f"{path} is no source of a crate, of which alone what is proved is quoted")
@@ -442,6 +443,8 @@ def caller(path: str, names: list[str]) -> str:
         if not found:
             raise Fault(f"{path} has no {name}")
         chosen += [item for item in found if item not in chosen]
+    if is_alone:
+        return block("\n\n".join(item.text for item in chosen))
     named = set(re.findall(r"\w+", " ".join(item.code for item in chosen)))
     parts = []
     for kind in ("ghost use", "use"):
@@ -457,10 +460,10 @@ def part_of(what: str, page: str) -> str:
         if not found:
             raise Fault(f"{what} of no crate, since the page is in the folder of none")
         return contracts(found.group(1), page) if what == "contracts" else words(found.group(1), page)
-    named = re.fullmatch(r"([\w/.]+): (\w+(?: \w+)*)", what)
+    named = re.fullmatch(r"(item )?([\w/.]+): (\w+(?: \w+)*)", what)
     if not named:
         raise Fault(f"nothing is quoted by '{what}'")
-    return caller(named.group(1), named.group(2).split())
+    return caller(named.group(2), named.group(3).split(), named.group(1) is not None)
 
 
 # ---- pages
@@ -491,7 +494,7 @@ def drift(page: str, text: str, wanted: str) -> str | None:
     here, there = text.splitlines(), wanted.splitlines()
     line = next((i for i, (one, other) in enumerate(zip(here, there)) if one != other), min(len(here), len(there)))
     show = [lines[line].strip() if line < len(lines) else "nothing" for lines in (here, there)]
-    return f"line {line + 1} is '{show[0]}', and the sources have '{show[1]}'; calling.py --write mends it"
+    return f"line {line + 1} is '{show[0]}', and the sources have '{show[1]}'; calling.py --write fixes it"
 
 
 def fault_of(page: str, text: str) -> str | None:

@@ -1,5 +1,5 @@
 #!/usr/bin/env python3
-"""Draws the diagrams of docs/ARCHITECTURE.md into docs/pictures, or checks that they are what it draws.
+"""Draws the diagrams of README.md and docs/ARCHITECTURE.md into docs/pictures, or checks that they are what it draws.
 
     diagrams.py [--check] [--folder FOLDER]
 
@@ -13,12 +13,14 @@ The diagrams are SVG files with colours for light and for dark pages:
     tiles       a triangle's tiles, by the edge functions at all of their samples
     words       the bits of a fragment's word, and of its word in a sample
     order       the list of README's example of pick, put in order in two samples
+    times       how long each renderer took for a scene, as examples/renderers/compare.py measured it
 
 What they show is computed: fragments, keys and colours by tools/reference.py, stages by drawing into a small frame. The status is
 0 where all is well, 1 where a file differs, and 2 where the sources don't have what is drawn: a crate that the table below lacks,
 or another example.
 """
 
+import json
 import os
 import re
 import shlex
@@ -204,11 +206,17 @@ WHOLE = ("abuf_top", ("all of it, from", "the words to", "an answer"))
 REGION = ("abuf_picture", 5, 9)  # the rows that it runs for a region
 AGAIN = [(6, "abuf_band", ("once for each", "band of rows")), (8, "abuf_sequence", ("once for each", "shot of a path"))]
 INSTEAD = ("abuf_peel", ("layer by layer,", "without a frame"))  # goes from the row before the region to the one after it
-ASIDE = {
-    "A": ("abuf", ("main, which", "calls abuf_top")),
-    "B": ("abuf_num", ("numbers and lists,", "below all others")),
-    "C": ("abuf_rows", ("tests of whole", "commands")),
-}
+ASIDE = [  # rows below
+    {
+        "A": ("abuf", ("main, which", "calls abuf_top")),
+        "B": ("abuf_num", ("numbers and lists,", "below all others")),
+        "C": ("abuf_rows", ("tests of whole", "commands")),
+    },
+    {
+        "A": ("abuf_watch", ("looks while", "others draw")),
+        "C": ("abuf_uses", ("callers of the", "crates")),
+    },
+]
 FLOWS = [
     ("abuf_cli", "abuf_view"), ("abuf_io", "abuf_text"), ("abuf_text", "abuf_obj"), ("abuf_text", "abuf_mtl"),
     ("abuf_obj", "abuf_scene"), ("abuf_mtl", "abuf_scene"), ("abuf_scene", "abuf_view"), ("abuf_view", "abuf_fan"),
@@ -226,7 +234,7 @@ def crates_of(text: str) -> list[str]:
 
 
 def drawn_crates() -> list[str]:
-    others = [crate for _, crate, _ in AGAIN] + [crate for crate, _ in ASIDE.values()]
+    others = [crate for _, crate, _ in AGAIN] + [crate for row in ASIDE for crate, _ in row.values()]
     return [box.crate for box in WAY] + [WHOLE[0], REGION[0], INSTEAD[0]] + others
 
 
@@ -317,9 +325,12 @@ def pipeline() -> str:
     end_box(canvas, "BC", bottom + GAP, "Sink", "each image, by one call")
     y = bottom + GAP + TALL + 16
     canvas.path(f"M{EDGE} {number(y)}H{WIDTH - EDGE}", "thin")
-    for lane, (crate, lines) in ASIDE.items():
-        crate_box(canvas, lane, y + 14, crate, lines)
-    return canvas.svg(y + 14 + TALL + STEP + EDGE)
+    for aside in ASIDE:
+        y += GAP
+        for lane, (crate, lines) in aside.items():
+            crate_box(canvas, lane, y, crate, lines)
+        y += TALL + STEP
+    return canvas.svg(y + EDGE)
 
 
 # ---- a frame of a few pixels and nodes
@@ -954,7 +965,64 @@ def order() -> str:
 
 # ---- the files
 
-DIAGRAMS = {"pipeline": pipeline, "frame": frame, "entry": entry, "tiles": tiles, "words": words, "order": order}
+# ---- how long renderers take
+
+MEASURED = os.path.join(EXAMPLES, "renderers", "measured.json")
+TIMED = "demo-1000"
+BARS = (118, 400)  # from no time to the longest
+
+
+class Times(NamedTuple):
+    """How many seconds a renderer took, on one thread and on all."""
+
+    name: str
+    alone: float
+    shared: float
+
+
+def times_measured() -> tuple[list[Times], int]:
+    """The times of each renderer that drew the scene, the quickest first, and the number of threads."""
+    with open(MEASURED, encoding="utf-8") as file:
+        results = json.load(file)
+    scene = next((scene for scene in results["scenes"] if scene["name"] == TIMED), None)
+    if scene is None:
+        raise Fault(f"{MEASURED} has no scene {TIMED}")
+    one, *_, all_threads = map(str, sorted(results["threads"]))
+    found = []
+    for key, told in next(iter(scene["orders"].values()))["results"].items():
+        name, _, way = results["renderers"].get(key, {"name": key})["name"].partition(", ")
+        if told.get("times"):
+            found.append(Times(f"{name}, lists" if "lists" in way else name, *(told["times"][n]["seconds"] for n in (one, all_threads))))
+    return sorted(found, key=lambda it: it.alone), int(all_threads)
+
+
+def seconds_text(seconds: float) -> str:
+    return f"{seconds:.2f} s" if seconds < 9.95 else f"{seconds:.0f} s"
+
+
+def times() -> str:
+    canvas = Canvas("How long each renderer takes for a thousand large triangles")
+    measured, threads = times_measured()
+    left, right = BARS
+    longest = max(it.alone for it in measured)
+    y = 34.0
+    canvas.text(EDGE, y, "A thousand large films of glass, 640x480", "bold")
+    y += 24
+    for x, kind, told in ((EDGE, "all", "1 thread"), (EDGE + 100, "some", f"{threads} threads")):
+        canvas.rect(x, y - 11, 24, 13, kind)
+        canvas.text(x + 32, y, told, "small soft")
+    y += 18
+    for it in measured:
+        canvas.text(EDGE, y + 20, it.name, "bold" if it is measured[0] else "")
+        for seconds, kind, at in ((it.alone, "all", y), (it.shared, "some", y + 15)):
+            w = max(2.0, (right - left) * seconds / longest)
+            canvas.rect(left, at, w, 13, kind)
+            canvas.text(left + w + 6, at + 11, seconds_text(seconds), "small soft")
+        y += 42
+    return canvas.svg(y + 4)
+
+
+DIAGRAMS = {"pipeline": pipeline, "frame": frame, "entry": entry, "tiles": tiles, "words": words, "order": order, "times": times}
 
 
 def path_of(folder: str, name: str) -> str:

@@ -58,10 +58,10 @@ def unusual(line: bytes, number: int) -> Iterator[tuple[int, int, int]]:
         if one.keyword == b"v":
             parts = [scaled(token, UNIT) for token in one.arguments[:3]]
             if len(parts) < 3:
-                raise Fault(f"line {number}: fewer than three coordinates; fix_obj.py mends it")
+                raise Fault(f"line {number}: fewer than three coordinates; fix_obj.py fixes it")
             x, y, z = parts
             if x is None or y is None or z is None:
-                raise Fault(f"line {number}: a coordinate that isn't a number below 32768; fix_obj.py mends it")
+                raise Fault(f"line {number}: a coordinate that isn't a number below 32768; fix_obj.py fixes it")
             yield x, y, z
 
 

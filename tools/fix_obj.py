@@ -1,15 +1,15 @@
 #!/usr/bin/env python3
-"""Mends an OBJ model, with its libraries, so that abuf draws it, and says each thing that it changes.
+"""Fixes an OBJ model, with its libraries, so that abuf draws it, and says each thing that it changes.
 
-    fix_obj.py MODEL.obj [MENDED.obj] [--scale S] [--origin X,Y,Z] [--tr inverted | --tr alpha] [--all]
+    fix_obj.py MODEL.obj [FIXED.obj] [--scale S] [--origin X,Y,Z] [--tr inverted | --tr alpha] [--all]
 
-    fix_obj.py chair.obj mended.obj && abuf render $(fit.py mended.obj) < mended.obj > chair.pam
+    fix_obj.py chair.obj fixed.obj && abuf render $(fit.py fixed.obj) < fixed.obj > chair.pam
 
 Each change is told with its lines; all other bytes stay as they are, and so do the numbers of the lines, except where a line
-becomes several. Without MENDED.obj nothing is written, and what would be changed is told. A library that is mended, or that
-MENDED.obj would not find in its folder, is written beside it as MENDED-NAME.mtl. Nothing is ever written over what was read.
+becomes several. Without FIXED.obj nothing is written, and what would be changed is told. A library that is fixed, or that
+FIXED.obj would not find in its folder, is written beside it as FIXED-NAME.mtl. Nothing is ever written over what was read.
 
-What is mended:
+What is fixed:
 
     the file      a byte order mark, UTF-16, lines that end in CR alone, lines continued by a backslash
     points        nan and inf (made 0), a comma as the point, numbers of too many digits, missing numbers (made 0), and coordinates
@@ -19,7 +19,7 @@ What is mended:
     statements    free-form curves and surfaces, and keywords that aren't printable ASCII (made comments)
     libraries     several on a line, paths of another machine, names in other capitals; one that is missing, if another in the
                   folder has its materials
-    materials     those without a name, and those that are in no library: white and opaque ones are written into MENDED-new.mtl
+    materials     those without a name, and those that are in no library: white and opaque ones are written into FIXED-new.mtl
     Kd and d      other forms of numbers, -halo, and lines above the first newmtl (made comments)
 
 --scale       multiplies each coordinate, as for a model that is too small for the camera.
@@ -200,8 +200,8 @@ def plain(value: Decimal) -> bytes:
 # ---- the libraries
 
 
-def mend_library(lines: list[bytes], changes: Changes, unnamed: bytes, tr: str | None) -> tuple[list[bytes], set[bytes]]:
-    """The mended lines of a library, and the names of its materials."""
+def fix_library(lines: list[bytes], changes: Changes, unnamed: bytes, tr: str | None) -> tuple[list[bytes], set[bytes]]:
+    """The fixed lines of a library, and the names of its materials."""
     out, names = list(lines), set()
     has_material, has_alpha = False, alphas(lines)
     material = -1
@@ -218,7 +218,7 @@ def mend_library(lines: list[bytes], changes: Changes, unnamed: bytes, tr: str |
                 out[i] = comment(line)
                 changes.add(i + 1, f"{keyword.decode()} above the first newmtl, made a comment")
             else:
-                out[i] = mend_value(line, keyword, arguments, changes, i + 1)
+                out[i] = fix_value(line, keyword, arguments, changes, i + 1)
         elif keyword == b"Tr" and tr and has_material and material not in has_alpha and arguments and NUMBER.fullmatch(arguments[0]):
             alpha = Decimal(arguments[0].decode())
             out[i] = ended(b"d " + plain(1 - alpha if tr == "inverted" else alpha), line)
@@ -238,13 +238,13 @@ def alphas(lines: list[bytes]) -> set[int]:
     return found
 
 
-def mend_value(line: bytes, keyword: bytes, arguments: list[bytes], changes: Changes, at: int) -> bytes:
+def fix_value(line: bytes, keyword: bytes, arguments: list[bytes], changes: Changes, at: int) -> bytes:
     """A line of a colour or an alpha."""
     tokens = arguments[1:] if keyword == b"d" and arguments[:1] == [b"-halo"] else list(arguments)
     if tokens != arguments:
         changes.add(at, "d -halo, without -halo")
     wanted = tokens[:1] if keyword == b"d" else tokens[:3]
-    mended = []
+    fixed = []
     for token in wanted:
         text, change = number(token)
         if change == "not a number, made 0":
@@ -254,21 +254,21 @@ def mend_value(line: bytes, keyword: bytes, arguments: list[bytes], changes: Cha
             text, change = b"1" if text[:1] != b"-" else b"0", "a number beyond all ranges, made 0 or 1"
         if change:
             changes.add(at, change)
-        mended.append(text)
-    if len(mended) != 1 and (keyword == b"d" or len(mended) != 3):
+        fixed.append(text)
+    if len(fixed) != 1 and (keyword == b"d" or len(fixed) != 3):
         changes.add(at, f"{keyword.decode()} of too few numbers, made a comment")
         return comment(line)
-    return line if mended == arguments[:len(mended)] else ended(b" ".join([keyword, *mended]), line)
+    return line if fixed == arguments[:len(fixed)] else ended(b" ".join([keyword, *fixed]), line)
 
 
 class Library:
-    """A library that the model names: where it lies, its mended lines, and whether they must be written."""
+    """A library that the model names: where it lies, its fixed lines, and whether they must be written."""
 
     def __init__(self, path: str, name: bytes, unnamed: bytes, tr: str | None) -> None:
         self.path, self.name = path, name
         self.changes = Changes(os.path.basename(path))
         lines = load(path, self.changes)
-        self.lines, self.materials = mend_library(lines, self.changes, unnamed, tr)
+        self.lines, self.materials = fix_library(lines, self.changes, unnamed, tr)
         self.opaque = 0 if tr else sum(1 for line in lines if line.split(None, 1)[:1] == [b"Tr"]) if not alphas(lines) else 0
 
 
@@ -313,12 +313,12 @@ class Model:
         self.unnamed = b"unnamed"
         while any(line.endswith(self.unnamed) for line in self.lines if b"usemtl" in line):
             self.unnamed += b"-2"
-        self.mend_statements()
-        self.mend_faces()
-        self.mend_libraries()
+        self.fix_statements()
+        self.fix_faces()
+        self.fix_libraries()
 
-    def mend_statements(self) -> None:
-        """Mends all lines but those of faces and libraries, and finds these."""
+    def fix_statements(self) -> None:
+        """Fixes all lines but those of faces and libraries, and finds these."""
         self.library_lines: list[int] = []
         for i, line in enumerate(self.lines):
             if PLAIN_POINT.fullmatch(line):
@@ -329,7 +329,7 @@ class Model:
             keyword, arguments, rest = statement(line)
             if keyword == b"v":
                 self.points.append(i)
-                self.mend_point(i, line, arguments)
+                self.fix_point(i, line, arguments)
             elif keyword == b"f":
                 self.faces.append(i)
             elif keyword == b"usemtl" and not rest:
@@ -344,28 +344,28 @@ class Model:
                 self.lines[i] = comment(line)
                 self.changes.add(i + 1, "a keyword that isn't printable ASCII, made a comment")
 
-    def mend_point(self, i: int, line: bytes, arguments: list[bytes]) -> None:
+    def fix_point(self, i: int, line: bytes, arguments: list[bytes]) -> None:
         tokens = arguments
         if len(tokens) == 1 and tokens[0].count(b",") == 2:
             tokens = tokens[0].split(b",")
             self.changes.add(i + 1, "commas between the numbers, made blanks")
-        mended, told = [], []
+        fixed, told = [], []
         for token in tokens[:3]:
             text, change = number(token)
-            mended.append(text)
+            fixed.append(text)
             told += [change] if change else []
-        if len(mended) < 3:
+        if len(fixed) < 3:
             told.append("a point of fewer than three numbers, the others made 0")
-            mended += [b"0"] * (3 - len(mended))
+            fixed += [b"0"] * (3 - len(fixed))
         for change in told:
             self.changes.add(i + 1, change)
-        if mended != arguments[:3]:
-            self.lines[i] = ended(b" ".join([b"v", *mended]), line)
+        if fixed != arguments[:3]:
+            self.lines[i] = ended(b" ".join([b"v", *fixed]), line)
 
     # faces
 
-    def mend_faces(self) -> None:
-        """Mends the faces, and finds the points that they use."""
+    def fix_faces(self) -> None:
+        """Fixes the faces, and finds the points that they use."""
         count, more = len(self.points), 1 if self.is_counted_from_0() else 0
         self.is_used, self.triangles = bytearray(count), 0
         above, points = 0, self.points
@@ -385,14 +385,14 @@ class Model:
                 self.lines[i] = ended(b" ".join([b"l", *tokens]), line) if tokens else comment(line)
                 self.changes.add(i + 1, "a face of fewer than three corners, " + ("made an l line" if tokens else "made a comment"))
                 continue
-            mended = self.mend_elements(i, tokens, above, count, more)
-            self.triangles += len(mended) - 2 if mended else 0
-            if mended is None:
+            fixed = self.fix_elements(i, tokens, above, count, more)
+            self.triangles += len(fixed) - 2 if fixed else 0
+            if fixed is None:
                 self.lines[i] = comment(line)
-            elif len(mended) > scene.MOST_ELEMENTS:
-                self.cut_face(i, mended, line)
-            elif mended != tokens:
-                self.lines[i] = ended(b" ".join([b"f", *mended]), line)
+            elif len(fixed) > scene.MOST_ELEMENTS:
+                self.cut_face(i, fixed, line)
+            elif fixed != tokens:
+                self.lines[i] = ended(b" ".join([b"f", *fixed]), line)
 
     def is_counted_from_0(self) -> bool:
         """Whether points are counted from 0: one index is 0, and none is negative, or the number of the points or more."""
@@ -402,9 +402,9 @@ class Model:
         indices = [int(index.group(1)) for index in found if index]
         return min(indices) == 0 and max(indices) < len(self.points)
 
-    def mend_elements(self, i: int, tokens: list[bytes], above: int, count: int, more: int) -> list[bytes] | None:
+    def fix_elements(self, i: int, tokens: list[bytes], above: int, count: int, more: int) -> list[bytes] | None:
         """The elements of a face; None where a corner names no point."""
-        mended, corners = [], []
+        fixed, corners = [], []
         for token in tokens:
             found = scene.ELEMENT.fullmatch(token)
             if found is None:
@@ -422,11 +422,11 @@ class Model:
             if index == 0 or not 0 <= place < count:
                 self.changes.add(i + 1, "a face with a point that isn't there, made a comment")
                 return None
-            mended.append(token)
+            fixed.append(token)
             corners.append(place)
         for place in corners:
             self.is_used[place] = 1
-        return mended
+        return fixed
 
     def cut_face(self, i: int, tokens: list[bytes], line: bytes) -> None:
         """Makes several faces of one, which have the same triangles: each begins with the first corner."""
@@ -500,8 +500,8 @@ class Model:
                 name = rest if keyword == b"usemtl" else name
         return names
 
-    def mend_libraries(self) -> None:
-        """Finds the libraries, and mends their lines in the model."""
+    def fix_libraries(self) -> None:
+        """Finds the libraries, and fixes their lines in the model."""
         self.used = self.names_of_faces()
         lost: list[int] = []
         for i in self.library_lines:
@@ -561,7 +561,7 @@ class Model:
 
 
 def planned(model: Model, target: str) -> dict[str, bytes]:
-    """What is to be written: the mended model, and beside it the libraries that it needs there."""
+    """What is to be written: the fixed model, and beside it the libraries that it needs there."""
     folder, (stem, _) = os.path.dirname(target), os.path.splitext(os.path.basename(target))
     is_same_folder = os.path.realpath(folder or ".") == os.path.realpath(model.folder or ".")
     files: dict[str, bytes] = {}
@@ -623,8 +623,8 @@ def origin_of(value: str) -> tuple[Decimal, ...]:
     return tuple(map(Decimal, parts))
 
 
-def mended(path: str, scale: Decimal = Decimal(1), origin: tuple[Decimal, ...] = (Decimal(0),) * 3, tr: str | None = None) -> Model:
-    """The model of a file, mended."""
+def fixed(path: str, scale: Decimal = Decimal(1), origin: tuple[Decimal, ...] = (Decimal(0),) * 3, tr: str | None = None) -> Model:
+    """The model of a file, fixed."""
     model = Model(path, tr)
     model.place_points(scale, origin)
     for name in sorted(model.missing()):
@@ -636,16 +636,16 @@ def mended(path: str, scale: Decimal = Decimal(1), origin: tuple[Decimal, ...] =
 def main() -> int:
     parser = report.words(__doc__)
     parser.add_argument("model", metavar="MODEL.obj")
-    parser.add_argument("target", metavar="MENDED.obj", nargs="?")
+    parser.add_argument("target", metavar="FIXED.obj", nargs="?")
     parser.add_argument("--scale", type=scale_of, default=Decimal(1), metavar="S")
     parser.add_argument("--origin", type=origin_of, default=(Decimal(0),) * 3, metavar="X,Y,Z")
     parser.add_argument("--tr", choices=["inverted", "alpha"])
     parser.add_argument("--all", action="store_true", help="tell all lines of each change")
     given = parser.parse_args()
-    model = mended(given.model, given.scale, given.origin, given.tr)
-    files = planned(model, given.target or os.path.splitext(given.model)[0] + "-mended.obj")
+    model = fixed(given.model, given.scale, given.origin, given.tr)
+    files = planned(model, given.target or os.path.splitext(given.model)[0] + "-fixed.obj")
     told = [line for changes in (model.changes, *(one.changes for one in model.libraries)) for line in changes.tell(given.all)]
-    print("\n".join(told) if told else f"{os.path.basename(given.model)}: nothing to mend")
+    print("\n".join(told) if told else f"{os.path.basename(given.model)}: nothing to fix")
     for path, data in files.items() if given.target else ():
         with open(path, "wb") as file:
             file.write(data)

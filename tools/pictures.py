@@ -16,8 +16,7 @@ or a path examples/NAME.path of a sequence, which has near its head
 
     # abuf WORDS.. < SCENE.obj > OTHER.pam      those of the moving picture docs/pictures/OTHER.png
 
-The README shows the pictures with the same words. The status is 0 where all is well, and 1 where a
-picture differs.
+examples/draw.sh draws by the same words. The status is 0 where all is well, and 1 where a picture differs.
 """
 
 import io
@@ -32,7 +31,6 @@ from abuflib.program import EXAMPLES, TOP
 from abuflib.report import Fault
 
 PICTURES = os.path.join(TOP, "docs", "pictures")
-README = os.path.join(TOP, "README.md")
 
 
 class Failed(Exception):
@@ -49,13 +47,6 @@ class Picture:
 
     def path(self):
         return os.path.join(PICTURES, self.name + ".png")
-
-    def command(self):
-        """What the README has of the command that draws it."""
-        pipe = f" | pamenlarge {self.times}" if self.times else ""
-        if self.is_moving:
-            pipe = f" > {self.name}.pam"
-        return f"abuf {self.words} < {self.scene}.obj{pipe}"
 
 
 LINE = re.compile(r"(?m)^# abuf (.*?)(?: \| pamenlarge ([0-9]+))?(?: > ([a-z0-9-]+)\.pam)?$")
@@ -90,7 +81,7 @@ def drawn(abuf, picture):
 
 
 def check(abuf, picture):
-    """Failed where the picture isn't what the program draws, or the README has other words."""
+    """Failed where the picture isn't what the program draws."""
     if not os.path.exists(picture.path()):
         raise Failed("there is no picture; 'pictures.py draw' makes it")
     wanted, found = drawn(abuf, picture), images_of(picture)
@@ -103,9 +94,6 @@ def check(abuf, picture):
             count = sum(one.at(i % one.width, i // one.width) != other.at(i % one.width, i // one.width)
                         for i in range(one.width * one.height))
             raise Failed(f"in image {number} {count} of {one.width * one.height} pixels differ")
-    with open(README, encoding="utf-8") as file:
-        if picture.command() not in file.read():
-            raise Failed("README.md doesn't have the words of the example")
     return "the same pixels" + (f" in {len(wanted)} images" if picture.is_moving else "")
 
 

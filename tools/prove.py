@@ -27,8 +27,8 @@ from abuflib.report import Fault
 
 PROVING = os.path.join(TOP, "out", "proving")
 PROGRAM = "abuf"
-# Tests of whole commands, which the program doesn't need.
-TESTS = "abuf_rows"
+# Tests of whole commands, callers, and a program of its own: the program doesn't need them.
+OTHERS = ("abuf_rows", "abuf_uses", "abuf_watch")
 
 # What a check takes at most with one processor, and with each further one, in bytes.
 MEMORY = 4_000_000_000
@@ -232,7 +232,7 @@ def ended(number: int, _: object) -> None:
 
 def main() -> int:
     parser = report.words(__doc__)
-    parser.add_argument("--all", action="store_true", help="the tests of whole commands too")
+    parser.add_argument("--all", action="store_true", help="the tests of whole commands, the callers and abuf_watch too")
     parser.add_argument("--times", action="store_true", help="tell of each crate how long it took")
     parser.add_argument("--processors", type=int, default=len(os.sched_getaffinity(0)), metavar="N", help="use at most so many")
     given = parser.parse_args()
@@ -243,7 +243,8 @@ def main() -> int:
     with open(os.path.join(TOP, "crates.txt"), encoding="utf-8") as file:
         crates = read_crates(file.read())
     if not given.all:
-        crates.pop(TESTS, None)
+        for name in OTHERS:
+            crates.pop(name, None)
     return prove(crates, given.processors, given.times)
 
 

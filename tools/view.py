@@ -12,7 +12,7 @@ elsewhere. Drag to turn the model, drag with shift to shift it, and use the whee
 rest it is drawn at full size with all samples. The command that draws exactly the picture is shown, and a click copies it. A
 click on a pixel shows what `abuf pick` says of it: the layers of each sample from the farthest to the nearest, each with its
 primitive, its line of the file, its material and its alpha, and the colour so far. A refusal is shown with its line and what
-mends it. Control-C ends the program.
+fixes it. Control-C ends the program.
 """
 
 import functools
@@ -36,7 +36,7 @@ PAGE = os.path.join(program.TOOLS, "view.html")
 ADDRESS = "127.0.0.1"
 OPTIONS = ("size", "samples", "turn", "move", "near", "focal", "background")
 LIMIT = 120.0  # seconds that a drawing may take
-# What mends a model that is refused, by the end of the text.
+# What fixes a model that is refused, by the end of the text.
 REMEDIES = {
     "unknown keyword": "an OBJ file of another coding, or with free forms", "bad number": "a number of another form, or beyond 32767",
     "bad index": "a corner that names no point", "too few elements": "an edge or a point in place of a face",
@@ -175,7 +175,7 @@ class Model:
         return answer.out, words
 
     def refusal(self, answer: program.Answer) -> dict[str, Any]:
-        """A refusal with its line of the file and what mends it."""
+        """A refusal with its line of the file and what fixes it."""
         text = answer.text()
         told: dict[str, Any] = {"status": answer.status, "text": text, "file": os.path.basename(self.path)}
         data = self.data
@@ -196,8 +196,8 @@ class Model:
             told["source"] = lines[told["line"] - 1][:200].decode(errors="replace").rstrip("\r") if told["line"] <= len(lines) else ""
         cause = next((remedy for end, remedy in REMEDIES.items() if text.endswith(end)), None)
         if cause:
-            told["remedy"] = f"{cause}; this mends it, and says what it changes:"
-            told["command"] = f"tools/fix_obj.py {shlex.quote(self.path)} mended.obj"
+            told["remedy"] = f"{cause}; this fixes it, and says what it changes:"
+            told["command"] = f"tools/fix_obj.py {shlex.quote(self.path)} fixed.obj"
         return told
 
     def words(self, asked: dict[str, str]) -> list[str]:

@@ -4,7 +4,7 @@ from __future__ import annotations
 
 
 class Unusable(Exception):
-    """Why a run can't be done, in one line that says what to install or mend. The status is 2."""
+    """Why a run can't be done, in one line that says what to install or fix. The status is 2."""
 
 
 def read_text(path: str) -> str:

@@ -103,8 +103,8 @@ def path_of(given: str | None) -> str:
     found = os.path.abspath(wanted) if os.sep in wanted or os.path.exists(wanted) else shutil.which(wanted)
     if found and os.path.isfile(found) and os.access(found, os.X_OK):
         return found
-    mend = "./abuf builds it; --abuf or ABUF names another" if wanted == BUILT else "name another by --abuf or ABUF"
-    raise Fault(f"there is no program {os.path.relpath(wanted) if os.sep in wanted else wanted}: {mend}")
+    fix = "./abuf builds it; --abuf or ABUF names another" if wanted == BUILT else "name another by --abuf or ABUF"
+    raise Fault(f"there is no program {os.path.relpath(wanted) if os.sep in wanted else wanted}: {fix}")
 
 
 def find(given: str | None = None, tunables: str = "") -> Program:

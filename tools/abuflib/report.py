@@ -15,7 +15,7 @@ WELL, WRONG, UNABLE = 0, 1, 2
 
 
 class Fault(Exception):
-    """Why a script can't do its work; the text is one line that says what to mend or install."""
+    """Why a script can't do its work; the text is one line that says what to fix or install."""
 
 
 def name() -> str:

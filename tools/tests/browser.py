@@ -41,11 +41,11 @@ class Browser:
         self.folder = tempfile.TemporaryDirectory(ignore_cleanup_errors=True)
         to_browser, self.writing = os.pipe()
         self.reading, from_browser = os.pipe()
-        # Chromium reads its orders from descriptor 3 and writes to 4.
+        # Chromium reads its orders from descriptor 3 and writes to 4. Debian's sh knows no descriptor above 9.
         words = [path, "--headless=new", "--remote-debugging-pipe", "--no-sandbox", "--disable-gpu", "--no-first-run", "--hide-scrollbars",
                  "--disable-extensions", "--disable-background-networking", f"--user-data-dir={self.folder.name}",
                  f"--window-size={width},{height}", "about:blank"]
-        self.process = subprocess.Popen(["sh", "-c", f'exec "$@" 3<&{to_browser} 4>&{from_browser}', "sh", *words],
+        self.process = subprocess.Popen(["bash", "-c", f'exec "$@" 3<&{to_browser} 4>&{from_browser}', "bash", *words],
                                         pass_fds=(to_browser, from_browser), stdin=subprocess.DEVNULL, stdout=subprocess.DEVNULL,
                                         stderr=subprocess.DEVNULL, start_new_session=True)
         os.close(to_browser)

@@ -1,6 +1,7 @@
 """calling: what is quoted of a small crate, and what is told of pages that have drifted."""
 
 import os
+import re
 import tempfile
 import unittest
 
@@ -231,7 +232,7 @@ class OfACheckout(unittest.TestCase):
 
 class Pages(OfACheckout):
     def test_a_page_is_written_and_then_agrees(self):
-        self.assert_wrong("calling.py --write mends it")
+        self.assert_wrong("calling.py --write fixes it")
         self.assertEqual(self.page(), PAGE)
         status, out = self.call("--write")
         self.assertEqual((status, out), (0, "crates/abuf_one/CALLING.md is written anew\ncalling: 2 pages for callers, 0 failed\n"))
@@ -286,6 +287,14 @@ class Pages(OfACheckout):
         self.assert_wrong("a part that is quoted has no end")
         self.put("README.md", "<!-- quote contracts -->\n<!-- quote words -->\n<!-- end -->\n")
         self.assert_wrong("has no end")
+
+    def test_items_without_use_lines(self):
+        for what, count in (("item abuf_one", 0), ("abuf_one", 2)):
+            self.put("README.md", f"<!-- quote {what}/src/tests.rt: FOUR twice_two -->\n<!-- end -->\n")
+            self.call("--write")
+            written = helping.read(os.path.join(self.top, "README.md")).decode()
+            self.assertIn("fn twice_two", written)
+            self.assertEqual(len(re.findall(r"(?m)^use ", written)), count)
 
     def test_names_that_are_no_crates(self):
         self.assertEqual(self.call("abuf_two")[0], 2)

@@ -82,7 +82,7 @@ class Planted(unittest.TestCase):
         self.assert_found("samples", "docs/FORMATS.md", "`curv2`, ", "", "curv2")
 
     def test_crates(self):
-        self.assert_found("crates", "README.md", "| `abuf_peel` |", "| `abuf_layers` |", "abuf_peel")
+        self.assert_found("crates", "docs/PROOFS.md", "| `abuf_peel` |", "| `abuf_layers` |", "abuf_peel")
         self.assert_found("crates", "docs/ARCHITECTURE.md", "| `abuf_draw` | num, raster, frame |", "| `abuf_draw` | num, raster |", "frame")
 
     def test_edits(self):
@@ -110,7 +110,7 @@ class Planted(unittest.TestCase):
         self.assert_found("links", "docs/FORMATS.md", "(#how-a-command-line-is-read)", "(#how-a-command-is-read)", "no such heading")
 
     def test_names(self):
-        self.assert_found("names", "README.md", "`abuf_top/specs/Verdict.antt`", "`abuf_top/specs/Verdicts.antt`", "Verdicts.antt")
+        self.assert_found("names", "docs/PROOFS.md", "`abuf_top/specs/Verdict.antt`", "`abuf_top/specs/Verdicts.antt`", "Verdicts.antt")
         self.assert_found("names", "docs/CONTRIBUTING.md", "`is_beneath` in", "`is_under` in", "is_under")
         self.assert_found("names", "docs/CONTRIBUTING.md", "`full_text`", "`no_such_name`", "no_such_name")
 

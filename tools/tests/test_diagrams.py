@@ -29,7 +29,7 @@ def texts(name):
 class Files(unittest.TestCase):
     def test_committed_files_are_what_is_drawn(self):
         done = helping.run("diagrams.py", "--check")
-        self.assertEqual((done.returncode, done.stdout), (0, b"diagrams: 6 diagrams, 0 failed\n"))
+        self.assertEqual((done.returncode, done.stdout), (0, b"diagrams: 7 diagrams, 0 failed\n"))
 
     def test_drawing_and_checking(self):
         with tempfile.TemporaryDirectory() as folder:
@@ -42,7 +42,7 @@ class Files(unittest.TestCase):
             os.remove(os.path.join(folder, "words.svg"))
             done = helping.call(diagrams, "--check", "--folder", folder, folder=folder)
             self.assertEqual((done.returncode, done.stdout.decode().splitlines()), (1, [
-                "WRONG frame.svg: isn't what diagrams.py draws", "WRONG words.svg: isn't there", "diagrams: 6 diagrams, 2 failed"]))
+                "WRONG frame.svg: isn't what diagrams.py draws", "WRONG words.svg: isn't there", "diagrams: 7 diagrams, 2 failed"]))
 
     def test_a_folder_that_is_missing(self):
         done = helping.run("diagrams.py", "--folder", "/no/such/folder")
@@ -58,14 +58,14 @@ class Files(unittest.TestCase):
             self.assertIn("prefers-color-scheme:dark", text)
 
     def test_the_documents_show_each(self):
-        page = helping.read(os.path.join(helping.TOP, "docs", "ARCHITECTURE.md")).decode()
-        self.assertEqual(sorted(re.findall(r"!\[[^\]]+\]\(pictures/(\w+)\.svg\)", page)), sorted(diagrams.DIAGRAMS))
+        pages = b"".join(helping.read(os.path.join(helping.TOP, *path)) for path in (("README.md",), ("docs", "ARCHITECTURE.md"))).decode()
+        self.assertEqual(sorted(re.findall(r"!\[[^\]]+\]\((?:docs/)?pictures/(\w+)\.svg\)", pages)), sorted(diagrams.DIAGRAMS))
 
 
 class Pipeline(unittest.TestCase):
     def test_each_crate_is_drawn_once(self):
         crates = diagrams.crates_of(helping.read(os.path.join(helping.TOP, "crates.txt")).decode())
-        self.assertEqual(len(crates), 21)
+        self.assertEqual(len(crates), 23)
         for crate in crates:
             self.assertEqual(sum(crate == text or text.startswith(crate + ":") for text in texts("pipeline")), 1, crate)
 
@@ -191,6 +191,20 @@ class Samples(unittest.TestCase):
                 helping.write(os.path.join(folder, "README.md"), text.encode())
                 with mock.patch.object(diagrams, "TOP", folder), self.assertRaisesRegex(Fault, fault):
                     diagrams.example()
+
+
+class Measured(unittest.TestCase):
+    def test_bars_are_as_long_as_the_times(self):
+        measured, threads = diagrams.times_measured()
+        self.assertEqual(measured[0].name, "abuf")
+        self.assertEqual(measured, sorted(measured, key=lambda it: it.alone))
+        bars = [element for element in ElementTree.fromstring(drawn("times")).iter(SVG + "rect")
+                if float(element.get("x", 0)) == diagrams.BARS[0]]
+        self.assertEqual(len(bars), 2 * len(measured))
+        wide = diagrams.BARS[1] - diagrams.BARS[0]
+        for bar, seconds in zip(bars, (seconds for it in measured for seconds in (it.alone, it.shared))):
+            self.assertAlmostEqual(float(bar.get("width")), max(2, wide * seconds / measured[-1].alone), delta=0.1)
+        self.assertIn(f"{threads} threads", texts("times"))
 
 
 # Where the texts lie, and what has an outline, in the units of the file.

@@ -1,4 +1,4 @@
-"""Mending models. What is mended is read by the reference, which refuses just what abuf refuses."""
+"""Fixing models. What is fixed is read by the reference, which refuses just what abuf refuses."""
 
 import os
 import re
@@ -28,7 +28,7 @@ class Folder(unittest.TestCase):
         for name, data in files.items():
             helping.write(self.path(".".join(name.rsplit("_", 1))), data)
 
-    def fix(self, *words, model="model.obj", target="mended.obj", status=0):
+    def fix(self, *words, model="model.obj", target="fixed.obj", status=0):
         done = helping.call(fix_obj, model, target, *words, folder=self.folder)
         self.assertEqual(done.returncode, status, done.stderr.decode())
         self.told = done.stdout.decode()
@@ -58,8 +58,8 @@ class Folder(unittest.TestCase):
 
 
 class Models(Folder):
-    def mend(self, lines, *words, status=0, points=POINTS):
-        """Mends a model that is refused, and gives its triangles."""
+    def triangles_of(self, lines, *words, status=0, points=POINTS):
+        """Fixes a model that is refused, and gives its triangles."""
         self.put(model_obj=points + lines)
         self.assertTrue(self.is_refused(points + lines), lines)
         return self.drawn(self.fix(*words, status=status))
@@ -71,7 +71,7 @@ class Models(Folder):
             for library in set(re.findall(rb"(?m)^mtllib (.*)$", data)):
                 self.put(**{library.decode().replace(".", "_"): helping.read(os.path.join(helping.EXAMPLES, library.decode()))})
             self.assertEqual(self.fix(), data, name)
-            self.assertIn("nothing to mend", self.told)
+            self.assertIn("nothing to fix", self.told)
 
     def test_a_byte_order_mark(self):
         self.put(model_obj=b"\xef\xbb\xbf" + POINTS + b"f 1 2 3\r\n")
@@ -89,10 +89,10 @@ class Models(Folder):
         self.assertEqual(self.fix(), POINTS + b"f 1 2 3\n")
 
     def test_continued_lines(self):
-        _, triangles = self.mend(b"f 1 2 \\\n  3 \\\r\n 4\nf 1 2 3\n")
+        _, triangles = self.triangles_of(b"f 1 2 \\\n  3 \\\r\n 4\nf 1 2 3\n")
         self.assertEqual(len(triangles), 3)
         self.assertIn("model.obj: line 5: continued", self.told)
-        lines = helping.read(self.path("mended.obj")).split(b"\n")
+        lines = helping.read(self.path("fixed.obj")).split(b"\n")
         self.assertEqual((lines[5], lines[6], lines[7]), (b"", b"", b"f 1 2 3"))
 
     def test_a_backslash_in_a_comment_or_a_path_continues_nothing(self):
@@ -100,15 +100,15 @@ class Models(Folder):
         self.assertIn(b"# C:\\models\\\nv 0 0 0\n", self.fix())
 
     def test_faces_of_few_corners(self):
-        _, triangles = self.mend(b"f 1 2\nf 3//1\nf\nf 1 2 # 3\nf 1 2 3\n")
+        _, triangles = self.triangles_of(b"f 1 2\nf 3//1\nf\nf 1 2 # 3\nf 1 2 3\n")
         self.assertEqual(len(triangles), 1)
         self.assertIn("lines 5-6, 8: a face of fewer than three corners, made an l line", self.told)
-        self.assertIn(b"\nl 1 2\nl 3//1\n# f\nl 1 2\nf 1 2 3\n", helping.read(self.path("mended.obj")))
+        self.assertIn(b"\nl 1 2\nl 3//1\n# f\nl 1 2\nf 1 2 3\n", helping.read(self.path("fixed.obj")))
 
     def test_faces_of_many_corners(self):
         for count in (1025, 1026, 2048, 5000):
             corners = [1 + k % 4 for k in range(count)]
-            _, triangles = self.mend(b"f " + b" ".join(b"%d" % k for k in corners) + b"\nf 1 2 3\n")
+            _, triangles = self.triangles_of(b"f " + b" ".join(b"%d" % k for k in corners) + b"\nf 1 2 3\n")
             self.assertEqual(len(triangles), count - 2 + 1)
             places = [(0.0, 0.0), (1.0, 0.0), (0.0, 1.0), (1.0, 1.0)]
             wanted = [(corners[0], b, c) for b, c in zip(corners[1:], corners[2:])]
@@ -116,52 +116,52 @@ class Models(Folder):
             self.assertEqual(found, wanted, count)
 
     def test_indices(self):
-        _, triangles = self.mend(b"f 1 2 9\nf 1 2 -5\nf 1 2 3\n")
+        _, triangles = self.triangles_of(b"f 1 2 9\nf 1 2 -5\nf 1 2 3\n")
         self.assertEqual(len(triangles), 1)
         self.assertIn("lines 5-6: a face with a point that isn't there", self.told)
-        _, triangles = self.mend(b"f +1 2.0 3/1/1/1\nf 1 2 x\n")
+        _, triangles = self.triangles_of(b"f +1 2.0 3/1/1/1\nf 1 2 x\n")
         self.assertEqual(len(triangles), 1)
 
     def test_points_counted_from_0(self):
-        _, triangles = self.mend(b"f 0 1/0/0 2\nf 1 2 3\n")
+        _, triangles = self.triangles_of(b"f 0 1/0/0 2\nf 1 2 3\n")
         self.assertEqual([tuple(p[:2]) for p in triangles[1][0]], [(65536, 0), (0, 65536), (65536, 65536)])
-        self.assertIn(b"f 1 2/0/0 3\nf 2 3 4\n", helping.read(self.path("mended.obj")))
+        self.assertIn(b"f 1 2/0/0 3\nf 2 3 4\n", helping.read(self.path("fixed.obj")))
 
     def test_a_0_among_points_counted_from_1(self):
-        _, triangles = self.mend(b"f 0 1 2\nf 2 3 4\n")
+        _, triangles = self.triangles_of(b"f 0 1 2\nf 2 3 4\n")
         self.assertEqual(len(triangles), 1)
 
     def test_free_forms_and_odd_keywords(self):
-        self.mend(b"cstype bezier\ncurv2 1 \\\n 2\n\xa0x 1\nf 1 2 3\n")
-        mended = helping.read(self.path("mended.obj"))
-        self.assertIn(b"# cstype bezier\n# curv2 1   2\n\n# \xa0x 1\n", mended)
+        self.triangles_of(b"cstype bezier\ncurv2 1 \\\n 2\n\xa0x 1\nf 1 2 3\n")
+        fixed = helping.read(self.path("fixed.obj"))
+        self.assertIn(b"# cstype bezier\n# curv2 1   2\n\n# \xa0x 1\n", fixed)
 
     def test_numbers(self):
         for old, wanted in ((b"nan", 0), (b"-1.#IND00", 0), (b"inf", 0), (b"0,5", 32768), (b"0." + b"5" * 40, 36409), (b"2e0001", 1310720),
                             (b"1,", 65536), (b"5-e1", 32768), (b"abc", 0)):
-            points, _ = self.mend(b"f 1 2 3\n", points=POINTS.replace(b"v 1 1 0", b"v 1 1 " + old))
+            points, _ = self.triangles_of(b"f 1 2 3\n", points=POINTS.replace(b"v 1 1 0", b"v 1 1 " + old))
             self.assertEqual(points[3], (65536, 65536, wanted), old)
             self.assertIn("line 4: ", self.told)
 
     def test_few_numbers_and_commas(self):
-        points, _ = self.mend(b"f 1 2 3\n", points=POINTS.replace(b"v 1 1 0", b"v 1 1"))
+        points, _ = self.triangles_of(b"f 1 2 3\n", points=POINTS.replace(b"v 1 1 0", b"v 1 1"))
         self.assertEqual(points[3], (65536, 65536, 0))
-        points, _ = self.mend(b"f 1 2 3\n", points=POINTS.replace(b"v 1 1 0", b"v 1.5,1,2"))
+        points, _ = self.triangles_of(b"f 1 2 3\n", points=POINTS.replace(b"v 1 1 0", b"v 1.5,1,2"))
         self.assertEqual(points[3], (98304, 65536, 131072))
 
     def test_the_coordinates_of_a_map_get_another_origin(self):
-        points, _ = self.mend(b"f 1 2 3\n", points=b"v 500000.25 5400000 0\nv 500010 5400000.5 0\nv 500000 5400010 3\n")
+        points, _ = self.triangles_of(b"f 1 2 3\n", points=b"v 500000.25 5400000 0\nv 500010 5400000.5 0\nv 500000 5400010 3\n")
         self.assertEqual([(x - points[2][0], y - points[0][1]) for x, y, _ in points], [(16384, 0), (655360, 32768), (0, 655360)])
         self.assertIn("500005,5400005,2 is the origin now", self.told)
 
     def test_a_large_model_is_scaled(self):
-        points, _ = self.mend(b"f 1 2 3\n", points=b"v -40000 0 0\nv 40000 0 0 1 1 1\nv 0 20 0\n")
+        points, _ = self.triangles_of(b"f 1 2 3\n", points=b"v -40000 0 0\nv 40000 0 0 1 1 1\nv 0 20 0\n")
         self.assertEqual(points, [(-262144000, 0, 0), (262144000, 0, 0), (0, 131072, 0)])
         self.assertIn("scaled by 0.1", self.told)
-        self.assertIn(b"v 4000 0 0 1 1 1\n", helping.read(self.path("mended.obj")))
+        self.assertIn(b"v 4000 0 0 1 1 1\n", helping.read(self.path("fixed.obj")))
 
     def test_a_far_point_that_no_face_has(self):
-        points, _ = self.mend(b"v 1e9 0 0\nf 1 2 3\n")
+        points, _ = self.triangles_of(b"v 1e9 0 0\nf 1 2 3\n")
         self.assertEqual(points[:4] + points[4:], [(0, 0, 0), (65536, 0, 0), (0, 65536, 0), (65536, 65536, 0), (0, 0, 0)])
 
     def test_scale_and_origin_that_are_asked_for(self):
@@ -176,9 +176,9 @@ class Models(Folder):
     def test_what_is_no_model(self):
         for data in (b"\x1f\x8b\x08\x00x", b"PK\x03\x04", b"\x7fELF\x02\x01\x01\0\0\0\0\0\0\0\0\0\x03\0>"):
             self.put(model_obj=data)
-            done = helping.call(fix_obj, "model.obj", "mended.obj", folder=self.folder)
+            done = helping.call(fix_obj, "model.obj", "fixed.obj", folder=self.folder)
             self.assertEqual((done.returncode, done.stderr.count(b"\n")), (2, 1), done.stderr)
-            self.assertFalse(os.path.exists(self.path("mended.obj")))
+            self.assertFalse(os.path.exists(self.path("fixed.obj")))
 
 
 class Materials(Folder):
@@ -187,15 +187,15 @@ class Materials(Folder):
 
     def test_no_library(self):
         self.put(model_obj=POINTS + b"usemtl red\nf 1 2 3\nusemtl (null)\nf 1 2 4\n")
-        mended = self.fix()
-        self.assertEqual(self.colours(mended), [((65535,) * 3, 65535)] * 2)
-        self.assertTrue(mended.startswith(POINTS + b"usemtl red\nf 1 2 3\n"))
+        fixed = self.fix()
+        self.assertEqual(self.colours(fixed), [((65535,) * 3, 65535)] * 2)
+        self.assertTrue(fixed.startswith(POINTS + b"usemtl red\nf 1 2 3\n"))
         self.assertEqual(self.told.count("is in no library"), 2)
 
     def test_a_name_that_no_face_has_isnt_missed(self):
         self.put(model_obj=POINTS + b"usemtl lost\nusemtl red\nf 1 2 3\nmtllib a.mtl\n", a_mtl=RED)
         self.assertEqual(self.colours(self.fix()), [((65535, 0, 0), 65535)])
-        self.assertFalse(os.path.exists(self.path("mended-new.mtl")))
+        self.assertFalse(os.path.exists(self.path("fixed-new.mtl")))
 
     def test_a_name_that_edges_alone_have_isnt_missed(self):
         self.put(model_obj=POINTS + b"usemtl lost\nf 1 2\nf 1 2 9\nusemtl red\nf 1 2 3\nmtllib a.mtl\n", a_mtl=RED)
@@ -205,9 +205,9 @@ class Materials(Folder):
     def test_several_libraries_on_a_line(self):
         self.put(model_obj=b"mtllib a.mtl b.mtl\n" + POINTS + b"usemtl red\nf 1 2 3\nusemtl blue\nf 1 2 3\n",
                  a_mtl=RED, b_mtl=b"newmtl blue\nKd 0 0 1\n")
-        mended = self.fix()
-        self.assertEqual(self.colours(mended), [((65535, 0, 0), 65535), ((0, 0, 65535), 65535)])
-        self.assertTrue(mended.startswith(b"mtllib a.mtl\nmtllib b.mtl\n"))
+        fixed = self.fix()
+        self.assertEqual(self.colours(fixed), [((65535, 0, 0), 65535), ((0, 0, 65535), 65535)])
+        self.assertTrue(fixed.startswith(b"mtllib a.mtl\nmtllib b.mtl\n"))
 
     def test_a_library_whose_name_has_a_blank(self):
         self.put(model_obj=b"mtllib a b.mtl\n" + POINTS + b"usemtl red\nf 1 2 3\n")
@@ -217,17 +217,17 @@ class Materials(Folder):
     def test_paths_and_capitals(self):
         for name in (b"C:\\work\\a.mtl", b"A.MTL", b"/home/someone/a.mtl", b"..\\x\\a.mtl", b'"a.mtl"'):
             self.put(model_obj=b"mtllib " + name + b"\n" + POINTS + b"usemtl red\nf 1 2 3\n", a_mtl=RED)
-            mended = self.fix()
-            self.assertTrue(mended.startswith(b"mtllib a.mtl\n"), name)
+            fixed = self.fix()
+            self.assertTrue(fixed.startswith(b"mtllib a.mtl\n"), name)
             self.assertIn("line 1: names the library a.mtl now", self.told)
-            self.assertEqual(self.colours(mended), [((65535, 0, 0), 65535)])
+            self.assertEqual(self.colours(fixed), [((65535, 0, 0), 65535)])
 
     def test_a_missing_library_for_which_another_stands(self):
         self.put(model_obj=b"mtllib lost.mtl\n" + POINTS + b"usemtl red\nf 1 2 3\n", a_mtl=RED, b_mtl=b"newmtl blue\n")
         self.assertEqual(self.colours(self.fix()), [((65535, 0, 0), 65535)])
         self.put(model_obj=b"mtllib lost.mtl\n" + POINTS + b"usemtl green\nf 1 2 3\n")
         self.assertEqual(self.colours(self.fix()), [((65535,) * 3, 65535)])
-        self.assertTrue(helping.read(self.path("mended.obj")).startswith(b"# mtllib lost.mtl\n"))
+        self.assertTrue(helping.read(self.path("fixed.obj")).startswith(b"# mtllib lost.mtl\n"))
 
     def test_names_that_are_missing(self):
         self.put(model_obj=b"mtllib a.mtl\nmtllib\n" + POINTS + b"usemtl \nf 1 2 3\n", a_mtl=b"newmtl \nKd 0 1 0\n")
@@ -251,19 +251,19 @@ class Materials(Folder):
     def test_another_folder(self):
         os.mkdir(self.path("to"))
         self.put(model_obj=b"mtllib a.mtl\n" + POINTS + b"usemtl red\nf 1 2 3\n", a_mtl=RED)
-        self.fix(target="to/mended.obj")
-        self.assertEqual(sorted(os.listdir(self.path("to"))), ["mended-a.mtl", "mended.obj"])
-        self.assertEqual(helping.read(self.path("to/mended-a.mtl")), RED)
+        self.fix(target="to/fixed.obj")
+        self.assertEqual(sorted(os.listdir(self.path("to"))), ["fixed-a.mtl", "fixed.obj"])
+        self.assertEqual(helping.read(self.path("to/fixed-a.mtl")), RED)
 
     def test_nothing_is_written_over_what_was_read(self):
-        model = b"mtllib mended-a.mtl\n" + POINTS + b"usemtl\nf 1 2 3\n"
+        model = b"mtllib fixed-a.mtl\n" + POINTS + b"usemtl\nf 1 2 3\n"
         helping.write(self.path("model.obj"), model)
-        helping.write(self.path("mended-a.mtl"), RED)
+        helping.write(self.path("fixed-a.mtl"), RED)
         os.symlink("model.obj", self.path("link.obj"))
-        for target in ("model.obj", "./model.obj", "link.obj", "mended-a.mtl"):
+        for target in ("model.obj", "./model.obj", "link.obj", "fixed-a.mtl"):
             done = helping.call(fix_obj, "model.obj", target, folder=self.folder)
             self.assertEqual(done.returncode, 2, target)
-        self.assertEqual((helping.read(self.path("model.obj")), helping.read(self.path("mended-a.mtl"))), (model, RED))
+        self.assertEqual((helping.read(self.path("model.obj")), helping.read(self.path("fixed-a.mtl"))), (model, RED))
 
     def test_without_a_target_nothing_is_written(self):
         self.put(model_obj=b"mtllib lost.mtl\n" + POINTS + b"usemtl red\nf 1 2 3\n")

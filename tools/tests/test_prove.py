@@ -28,7 +28,7 @@ class Crates(unittest.TestCase):
     def test_those_of_the_repository(self):
         with open(os.path.join(TOP, "crates.txt"), encoding="utf-8") as file:
             crates = prove.read_crates(file.read())
-        self.assertEqual(prove.all_below(crates, prove.PROGRAM), set(crates) - {prove.PROGRAM, prove.TESTS})
+        self.assertEqual(prove.all_below(crates, prove.PROGRAM), set(crates) - {prove.PROGRAM, *prove.OTHERS})
         self.assertGreater(prove.count_lines("abuf_raster"), prove.count_lines("abuf_pam"))
 
 

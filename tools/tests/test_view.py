@@ -126,7 +126,7 @@ class Models(Server):
             self.start(self.model(path))
             refusal = self.told("/state")["refusal"]
             self.assertEqual((refusal["status"], refusal["text"], refusal["line"], refusal["source"]), (3, "line 2: bad number", 2, "v nan 0 0"))
-            self.assertEqual(refusal["command"], f"tools/fix_obj.py '{path}' mended.obj")
+            self.assertEqual(refusal["command"], f"tools/fix_obj.py '{path}' fixed.obj")
             self.assertEqual(self.told("/image", 409, size="4x4")["text"], "line 2: bad number")
 
     def test_a_refusal_of_a_library(self):
@@ -266,7 +266,7 @@ class Chromium(unittest.TestCase):
             self.show("bad.obj", folder=folder)
             self.page.wait("shown.kind === 'refusal'")
             text = self.page.value("document.querySelector('#refusal').textContent")
-            for part in ("line 2: bad index", "f 1 2 <b>", "tools/fix_obj.py bad.obj mended.obj"):
+            for part in ("line 2: bad index", "f 1 2 <b>", "tools/fix_obj.py bad.obj fixed.obj"):
                 self.assertIn(part, text)
 
     def test_images_are_compared(self):

@@ -29,7 +29,7 @@ impl Side {
 /// A gate for tests of workers that draw at once: each of them draws its first part, and goes on once it sees that all others have
 /// drawn theirs, so that none takes a second part before. That a worker has drawn its part is told from the credit of its pass,
 /// which is less by as many fragments at its second call than at its first. A worker that doesn't see another looks for it during
-/// some 2^28 loads, and goes on.
+/// 2^32 loads, which take some 20 seconds, and goes on.
 #[derive(Drop)]
 pub struct MeetingGate {
     part: u64,
@@ -41,13 +41,13 @@ pub struct MeetingGate {
 }
 
 /// Looks for a flag, for so many turns at most. On a machine with more to do, whoever is to raise it needs the processor too, so
-/// that it is let go now and then.
+/// that it is let go often.
 fn look_for(flag: &AtomicBool, turns: u32) -> bool {
     for turn in 0..turns {
         if flag.load(Ordering::SeqCst) {
             return true;
         }
-        if turn % 1024 == 0 {
+        if turn % 64 == 0 {
             yield_now();
         }
     }
@@ -57,7 +57,7 @@ fn look_for(flag: &AtomicBool, turns: u32) -> bool {
 impl MeetingGate {
     /// A gate of so many workers, each of which is to draw so many fragments in its first part.
     pub fn new(alloc: Global, workers: u32, part: u64) -> Result<MeetingGate, NoMemory> {
-        MeetingGate::of_turns(alloc, workers, part, 1 << 28)
+        MeetingGate::of_turns(alloc, workers, part, u32::MAX)
     }
 
     /// A gate whose workers look for each other during so many turns.

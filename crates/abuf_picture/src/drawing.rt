@@ -78,7 +78,8 @@ pub(crate) fn draw_into<R: Threads + Sync, G: Gate + Sync>(
 const MANY_WORDS: usize = 1048576;
 
 /// The words of the frame at its start. While one thread lays them out, another takes as much memory, writes it and lets it go: into
-/// this they will be copied, and the kernel has cleared it by then. Nothing hangs on whether there was so much.
+/// this they will be copied, and the kernel has cleared it by then. What it writes isn't zero, since memory that is to hold zeros and
+/// is new isn't touched. Nothing hangs on whether there was so much.
 fn blank_for<R: Threads + Sync>(
     rt: &R,
     alloc: Global,
@@ -99,7 +100,7 @@ fn blank_for<R: Threads + Sync>(
             requires { Sized pixels room }
             ensures { IfOk result (λ b. (b.pixels ≡ pixels) × (b.nodes ≡ room)) }
         { Blank::new(alloc, pixels, room) },
-        move || -> Result<Vec<u64>, NoMemory> { Ok(vec![in alloc; 0; words]?) },
+        move || -> Result<Vec<u64>, NoMemory> { Ok(vec![in alloc; u64::MAX; words]?) },
     );
     drop(warmed);
     blank

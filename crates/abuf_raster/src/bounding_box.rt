@@ -2,6 +2,7 @@
 ghost use Rattle.std.specs.Prelude.{◌≡◌, ℕ, ◌+◌, ◌*◌, ◌^◌, ◌<◌, ◌≤◌, pos, ◌+ℤ◌, ◌-ℤ◌, ◌≤ℤ◌, ◌<ℤ◌, unsigned_abs, max, IsTrue, ◌↔◌, ◌⊎◌, false};
 ghost use Rattle.abuf_num.specs.declared.limits.TheConstants.{MAX_SIDE};
 ghost use Rattle.abuf_raster.specs.Samples.{offsets_of};
+ghost use Rattle.abuf_raster.specs.Coverage.{mask};
 ghost use Rattle.abuf_raster.specs.BoundingBox.{IsBefore, IsBehind, IsBoxOf, CoversNone};
 
 use crate::pattern::Pattern;
@@ -205,4 +206,14 @@ pub fn meets(t: &ScreenTri, region: Region, pattern: Pattern) -> bool
         return false;
     }
     box_meets(t, region, pattern)
+}
+
+/// The first row of the region in which the triangle may cover a sample, by the box around it, or the one behind the last row. It
+/// takes next to nothing.
+#[inline(always)]
+pub fn first_row(t: &ScreenTri, region: Region, pattern: Pattern) -> u32
+    ensures within { (region.y0 ≤ result) × (result ≤ region.y0 + region.h) }
+    ensures above { (x y : ℕ) → region.y0 ≤ y → y < result → mask t.now (offsets_of pattern) x y ≡ 0 }
+{
+    BoundingBox::of(t, region, pattern).top
 }

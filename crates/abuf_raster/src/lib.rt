@@ -35,7 +35,7 @@ mod upper_bound;
 mod walk;
 mod width;
 
-pub use bounding_box::meets;
+pub use bounding_box::{first_row, meets};
 pub use coverage::mask_at;
 pub use depth::{depth_at, depth_bounds};
 pub use fragment::{Fragment, pack, unpack};

@@ -14,7 +14,7 @@ use crate::faces::project_run;
 use crate::point_table::PointTable;
 use crate::primitive_lists::PrimitiveLists;
 use crate::projection::Projected;
-use crate::runs::put_together;
+use crate::runs::{put_together, room_for};
 use abuf_mtl::Materials;
 use abuf_num::NoMemory;
 use abuf_obj::Obj;
@@ -85,8 +85,9 @@ pub fn all_faces<R: Threads + Sync>(
     if faces.len() <= per_run {
         return project_run(alloc, table, obj, materials, faces);
     }
+    let room = room_for(alloc, faces)?;
     let runs = project_runs(rt, alloc, table, obj, materials, per_run)?;
-    put_together(alloc, runs)
+    put_together(room, runs)
 }
 
 /// What [`assemble`](abuf_scene::assemble) and then [`project`](crate::project) give: the primitives of the faces' triangles, in

@@ -1,0 +1,3 @@
+mod Lowest
+mod Payloads
+mod Told

@@ -1,0 +1,4 @@
+pub mod Masks
+pub mod Seen
+pub mod Lowest
+pub mod Running

@@ -1,0 +1,30 @@
+// A scene before a camera.
+ghost use Rattle.std.specs.Prelude.{◌≡◌, ◌-◌, ◌^◌, ◌<◌, IfErr, IfOk, length, map};
+ghost use Rattle.abuf_uses.specs.Seen.{IsFault, seen};
+
+use crate::fault::NoImage;
+use abuf_mtl::{Materials, read_mtl};
+use abuf_obj::read_obj;
+use abuf_view::{Camera, Projected, project_faces};
+use std::alloc::Global;
+use std::thread::Threads;
+
+/// The primitives of a scene that has one library, from the bytes of both files.
+pub fn seen_by<R: Threads + Sync>(
+    rt: &R,
+    alloc: Global,
+    scene: &[u8],
+    library: &[u8],
+    camera: &Camera,
+) -> Result<Projected, NoImage>
+    requires sizes { (length scene.now < 2 ^ 32 - 1) × (length library.now < 2 ^ 32 - 1) }
+    ensures tris { IfOk result (λ p. p.tris ≡ map (λ q. q.triangle) (seen camera.now scene.now library.now)) }
+    ensures paints { IfOk result (λ p. p.paints ≡ map (λ q. q.paint) (seen camera.now scene.now library.now)) }
+    ensures fault { IfErr result (IsFault scene.now library.now) }
+{
+    let obj = read_obj(alloc, scene)?;
+    let mut materials = Materials::new(alloc);
+    read_mtl(alloc, library, &mut materials)?;
+    let shown = project_faces(rt, alloc, &obj, &materials, camera, 2)?;
+    Ok(shown)
+}

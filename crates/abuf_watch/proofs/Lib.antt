@@ -1,0 +1,4 @@
+pub mod Around
+pub mod LastLooks
+pub mod Gathered
+pub mod Zipped

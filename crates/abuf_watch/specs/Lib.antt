@@ -1,0 +1,5 @@
+pub mod Grid
+pub mod Looking
+pub mod Watching
+pub mod Report
+pub mod Show
