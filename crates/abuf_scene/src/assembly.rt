@@ -1,6 +1,6 @@
 // The scene of a file's faces.
 ghost use Rattle.std.specs.Prelude.{◌≡◌, ◌+◌, ◌-◌, ◌++◌, All, List as Items, ℕ, length, None, OnOk, IfOk, IfErr};
-ghost use Rattle.abuf_obj.specs.Sound.{IsFace, IsInRange, IsScene, triangles_in};
+ghost use Rattle.abuf_obj.specs.Sound.{IsFace, IsInRange, triangles_in};
 ghost use Rattle.abuf_mtl.specs.StandsFor.{StandsFor};
 ghost use Rattle.abuf_scene.specs.Triangles.{paint_by, triangles_of, triangles_by, unknown_by, triangles, unknown, Tells, IsTriangleInRange};
 ghost use Rattle.abuf_scene.specs.Lookup.{look_up, line_if_none};
@@ -78,8 +78,11 @@ fn all_fans(alloc: Global, obj: &Obj, materials: &Materials) -> Result<List<Tria
 /// first three clauses speak of the materials by their names and paints alone, the next three of every list
 /// of libraries that they stand for. A face without a name has the paint of a new material: a colour and an
 /// alpha of 65535.
+///
+/// No more is asked than that each face has three corners or more, each of them one of the points, and that its name, if it has one,
+/// is one of the names. Points that are in range give triangles that are.
 pub fn assemble(alloc: Global, obj: &Obj, materials: &Materials) -> Result<Scene, SceneFault>
-    requires { IsScene obj.now }
+    requires { All (IsFace (length obj.now.points) (length obj.now.names)) obj.now.faces }
     ensures fault_by_name { IfErr result (Tells (unknown_by (look_up materials.now) obj.now)) }
     ensures known_by_name { OnOk result (unknown_by (look_up materials.now) obj.now ≡ None) }
     ensures triangles_by_name { IfOk result (λ s. s.triangles ≡ triangles_by (look_up materials.now) obj.now) }
@@ -87,6 +90,7 @@ pub fn assemble(alloc: Global, obj: &Obj, materials: &Materials) -> Result<Scene
     ensures known { (libraries : Items (Items ℕ)) → StandsFor libraries materials.now → OnOk result (unknown libraries obj.now ≡ None) }
     ensures triangles { (libraries : Items (Items ℕ)) → StandsFor libraries materials.now → IfOk result (λ s. s.triangles ≡ triangles libraries obj.now) }
     ensures count { IfOk result (λ scene. length scene.triangles ≡ triangles_in obj.now.faces) }
+    ensures near { All IsInRange obj.now.points → IfOk result (λ scene. All IsTriangleInRange scene.triangles) }
 {
     let list = all_fans(alloc, obj, materials)?;
     Ok(Scene { triangles: list })

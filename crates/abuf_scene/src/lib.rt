@@ -2,7 +2,7 @@
 //!
 //! [`assemble`] turns each face into a fan of triangles with the paint of its material. Its contract gives
 //! the camera exactly the triangles of the definition, or the line of the first face whose name has no
-//! material. A [`Scene`] says how many there are at most, and how far their coordinates reach.
+//! material.
 #![tactic(auto)]
 
 mod assembly;

@@ -1,9 +1,13 @@
 // Each call once with ample memory.
+ghost use Rattle.std.specs.Prelude.{All, IfOk, length};
+ghost use Rattle.abuf_obj.specs.Sound.{IsFace};
+
 use crate::{Scene, SceneFault, assemble, make};
 use abuf_mtl::{Materials, read_mtl};
-use abuf_num::Paint;
-use abuf_obj::read_obj;
+use abuf_num::{List, NoMemory, Paint};
+use abuf_obj::{Face, Obj, read_obj};
 use std::alloc::Global;
+use std::test::Fail;
 
 const OBJ: &[u8] = b"v 0 0 0\nv 1 0 0\nv 1 1 0\nv 0 1 0\nf 4 3 2 1\nusemtl red\nf 1 2 3";
 
@@ -53,6 +57,48 @@ fn unknown_material_is_refused(rt: HostRuntime) {
         Some(Err(fault)) => assert!(rt; fault == SceneFault::UnknownMaterial { line: 7 }),
         _ => assert!(rt; false),
     }
+}
+
+// A point further out than any that is read from a file.
+const FAR: [i64; 3] = [1 << 40, -(1 << 40), 0];
+
+// A face with that point in each of its three corners, and without a name.
+fn far_face(alloc: Global) -> Result<Obj, NoMemory>
+    ensures { IfOk result (λ obj. All (IsFace (length obj.points) (length obj.names)) obj.faces) }
+{
+    let mut points = List::new(alloc);
+    points.push(FAR)?;
+    let mut corners = List::new(alloc);
+    corners.push(0)?;
+    corners.push(0)?;
+    corners.push(0)?;
+    let mut faces = List::new(alloc);
+    faces.push(Face {
+        line: 1,
+        corners,
+        name: None,
+    })?;
+    Ok(Obj {
+        points,
+        faces,
+        names: List::new(alloc),
+        libraries: List::new(alloc),
+    })
+}
+
+#[test]
+fn points_past_the_limits_of_a_camera_are_kept(rt: HostRuntime) -> Result<(), Fail> {
+    let alloc = rt.alloc();
+    let obj = far_face(alloc)?;
+    match assemble(alloc, &obj, &Materials::new(alloc)) {
+        Ok(scene) => {
+            let triangles = scene.triangles.as_slice();
+            assert!(rt; triangles.len() == 1);
+            assert!(rt; triangles[0].c == FAR);
+        }
+        Err(_) => assert!(rt; false),
+    }
+    Ok(())
 }
 
 #[test]

@@ -4,6 +4,7 @@ use Rattle.std.specs.List.{All, concat}
 use Rattle.std.specs.Io.KnownBytes.{Appends}
 use Rattle.abuf_num.specs.declared.limits.TheConstants.{MAX_THREADS}
 use Rattle.abuf_scene.specs.declared.triangles.Triangle.{Triangle}
+use Rattle.abuf_view.specs.Primitives.{AreInLimits}
 use Rattle.abuf_sequence.specs.declared.fault.SequenceFault.{SequenceFault}
 use Rattle.abuf_sequence.specs.declared.job.Drawn.{Drawn}
 use Rattle.abuf_sequence.specs.declared.job.Job.{Job}
@@ -17,9 +18,9 @@ use Rattle.abuf_sequence.specs.Single.{AreBytes, IsDrawAnswer}
 abbrev pub shot_of : Job → Shot
 shot_of job = job.shot
 
--- What the drawing of a shot by so many threads asks.
-abbrev pub MayDraw : Plan → ℕ → Shot → Type 0
-MayDraw plan threads shot = IsShot shot × IsPlan plan × (1 ≤ threads) × (threads ≤ MAX_THREADS)
+-- What the drawing of a shot of these triangles by so many threads asks.
+abbrev pub MayDraw : Plan → List Triangle → ℕ → Shot → Type 0
+MayDraw plan triangles threads shot = AreInLimits triangles × IsShot shot × IsPlan plan × (1 ≤ threads) × (threads ≤ MAX_THREADS)
 
 module _ (plan : Plan) (triangles : List Triangle) (shots : List Shot) where
   -- What drawing gives for each of these shots, in their order.

@@ -3,6 +3,7 @@ ghost use Rattle.std.specs.Prelude.{◌≡◌, ◌≤◌, MatchOption};
 ghost use Rattle.std.specs.List.{All};
 ghost use Rattle.abuf_num.specs.declared.limits.TheConstants.{MAX_NODES, MAX_THREADS};
 ghost use Rattle.abuf_raster.specs.Region.{whole_image};
+ghost use Rattle.abuf_view.specs.Primitives.{AreInLimits};
 ghost use Rattle.abuf_sequence.specs.Paths.{IsShot};
 ghost use Rattle.abuf_sequence.specs.Sequences.{IsPlan, camera_of};
 ghost use Rattle.abuf_sequence.specs.Single.{AreBytes, AreSums, IsDrawAnswer};
@@ -71,6 +72,7 @@ fn sums_of<R: Threads + Sync>(
     plan: &Plan,
     threads: u32,
 ) -> Result<(List<PixelSum>, Closed), ImageFault>
+    requires scene { AreInLimits scene.now.triangles }
     requires plan { IsPlan plan.now }
     requires shot { IsShot job.shot }
     requires threads { (1 ≤ threads) × (threads ≤ MAX_THREADS) }
@@ -103,6 +105,7 @@ fn image_of<R: Threads + Sync>(
     plan: &Plan,
     threads: u32,
 ) -> Result<(List<u8>, Closed), ImageFault>
+    requires scene { AreInLimits scene.now.triangles }
     requires plan { IsPlan plan.now }
     requires shot { IsShot job.shot }
     requires threads { (1 ≤ threads) × (threads ≤ MAX_THREADS) }
@@ -129,6 +132,7 @@ pub(crate) fn draw_image<R: Threads + Sync>(
     plan: &Plan,
     threads: u32,
 ) -> Drawn
+    requires scene { AreInLimits scene.now.triangles }
     requires plan { IsPlan plan.now }
     requires shot { IsShot job.shot }
     requires threads { (1 ≤ threads) × (threads ≤ MAX_THREADS) }

@@ -4,6 +4,7 @@ ghost use Rattle.std.specs.List.{All};
 ghost use Rattle.abuf_num.specs.declared.limits.TheConstants.{MAX_NODES, MAX_THREADS};
 ghost use Rattle.abuf_io.specs.Plans.{IsPlan as IsSinkPlan};
 ghost use Rattle.abuf_sequence.specs.Sequences.{IsPlan};
+ghost use Rattle.abuf_view.specs.Primitives.{AreInLimits};
 
 use crate::{PathFault, PathWhy, Plan, SequenceFault, Shot, read_path, sequence};
 use abuf_io::{MemSink, Step};
@@ -95,7 +96,9 @@ fn the_image_past_the_last_is_refused(rt: HostRuntime) -> Result<(), Fail> {
 }
 
 // A white triangle over the upper left half of the screen.
-fn scene(alloc: Global) -> Result<Scene, NoMemory> {
+fn scene(alloc: Global) -> Result<Scene, NoMemory>
+    ensures { IfOk result (λ scene. AreInLimits scene.triangles) }
+{
     let mut triangles = List::new(alloc);
     triangles.push(Triangle {
         a: [-262144, 262144, 0],

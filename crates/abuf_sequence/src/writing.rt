@@ -7,6 +7,7 @@ ghost use Rattle.abuf_io.specs.Sinks.{sink_change};
 ghost use Rattle.abuf_sequence.specs.Sequences.{IsPlan, IsSequenceAnswer};
 ghost use Rattle.abuf_sequence.specs.Single.{WritesDrawn};
 ghost use Rattle.abuf_sequence.specs.Batches.{AreDrawn, Continues, MayDraw, shot_of};
+ghost use Rattle.abuf_view.specs.Primitives.{AreInLimits};
 ghost use denote.Param.Send.{IsSync};
 
 use crate::fault::{ImageFault, SequenceFault};
@@ -82,6 +83,7 @@ fn draw_batch<R: Threads + Sync>(
     plan: &Plan,
     written: Vec<Drawn>,
 ) -> Result<Vec<Drawn>, NoMemory>
+    requires scene { AreInLimits scene.now.triangles }
     requires shots { All IsShot shots.now }
     requires some { (1 ≤ length shots.now) × (length shots.now ≤ plan.now.threads) }
     requires plan { IsPlan plan.now }
@@ -93,7 +95,7 @@ fn draw_batch<R: Threads + Sync>(
         rt,
         jobs,
         &|job|
-            requires { IsSync R.row × MayDraw plan.now threads job.shot }
+            requires { IsSync R.row × MayDraw plan.now scene.now.triangles threads job.shot }
         { draw_image(rt, alloc, scene, job, plan, threads) },
     )?;
     Ok(drawn)
@@ -143,6 +145,7 @@ pub fn sequence<R: Threads + Sync, O: Sink>(
     plan: &Plan,
     out: &mut O,
 ) -> Result<(), SequenceFault>
+    requires scene { AreInLimits scene.now.triangles }
     requires shots { (length shots.now ≤ MAX_IMAGES) × All IsShot shots.now }
     requires plan { IsPlan plan.now }
     ensures answer { IsSequenceAnswer plan.now scene.now.triangles shots.now (sink_change O.taken O.faults out.old out.new) result }

@@ -6,6 +6,7 @@ use Rattle.abuf_sequence.specs.declared.path.Shot.{Shot}
 use Rattle.abuf_sequence.specs.declared.plan.Plan.{Plan}
 use Rattle.abuf_sequence.specs.Paths.{IsShot}
 use Rattle.abuf_sequence.specs.Sequences.{totals, IsPlan}
+use Rattle.abuf_view.specs.Primitives.{AreInLimits}
 use Rattle.abuf_cli.specs.Job.{Job}
 use Rattle.abuf_top.specs.declared.stop.FullPool.{FullPool}
 use Rattle.abuf_top.specs.declared.stop.FullPool.TheVariants as full
@@ -16,9 +17,9 @@ pub record Images : Type 0 where
   pub triangles : List Triangle
   pub shots : List Shot
 
--- Shots and a plan of which images can be made.
-abbrev pub AreSound : Plan → List Shot → Type 0
-AreSound plan shots = All IsShot shots × (length shots ≤ MAX_IMAGES) × IsPlan plan
+-- Triangles, shots and a plan of which images can be made.
+abbrev pub AreSound : Plan → List Triangle → List Shot → Type 0
+AreSound plan triangles shots = AreInLimits triangles × All IsShot shots × (length shots ≤ MAX_IMAGES) × IsPlan plan
 
 -- The plan of a job: its shots have turns and shifts of their own in place of the camera's.
 abbrev pub plan_of : Job → Plan

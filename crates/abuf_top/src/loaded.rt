@@ -16,9 +16,10 @@ pub struct Loaded {
 }
 
 impl Loaded {
-    ghost use Rattle.std.specs.Prelude.{List as Items, ℕ, IfErr};
+    ghost use Rattle.std.specs.Prelude.{List as Items, ℕ, IfErr, IfOk};
     ghost use Rattle.abuf_obj.specs.Sound.{IsScene};
     ghost use Rattle.abuf_mtl.specs.StandsFor.{StandsFor};
+    ghost use Rattle.abuf_view.specs.Primitives.{AreInLimits};
     ghost use Rattle.abuf_top.specs.Prepared.{Prepares, Assembles};
     ghost use Rattle.abuf_top.specs.Stopped.{HasReadCause};
     ghost use Rattle.abuf_top.specs.Verdict.{material_verdict, drawing_verdict};
@@ -51,6 +52,7 @@ impl Loaded {
         requires scene { IsScene self.obj }
         ensures told { (libraries : Items (Items ℕ)) → StandsFor libraries self.materials → Assembles (material_verdict self.obj libraries) ⊥ result }
         ensures cause { IfErr result (HasReadCause ⊥) }
+        ensures limits { IfOk result (λ scene. AreInLimits scene.triangles) }
     {
         let scene = assemble(alloc, &self.obj, &self.materials)?;
         Ok(scene)

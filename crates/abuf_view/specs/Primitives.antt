@@ -1,13 +1,20 @@
 -- The primitives of a scene's triangles. The place of one in the list is its number.
-use Rattle.std.specs.Prelude.{◌≡◌, List, map, flat_map, Result, IfOk}
+use Rattle.std.specs.Prelude.{◌≡◌, ◌≤◌, All, List, length, map, flat_map, Result, IfOk}
+use Rattle.abuf_num.specs.declared.limits.TheConstants.{MAX_TRIANGLES}
 use Rattle.abuf_num.specs.declared.plain.Paint.{Paint}
 use Rattle.abuf_scene.specs.declared.triangles.Triangle.{Triangle}
+use Rattle.abuf_scene.specs.Triangles.{IsTriangleInRange}
 use Rattle.abuf_raster.specs.Triangle.{Triangle as OnScreen}
 use Rattle.abuf_view.specs.declared.projection.Projected.{Projected}
 use Rattle.abuf_view.specs.Camera.{Camera, point_of, eye_point, plane}
 use Rattle.abuf_view.specs.NearPlane.{clipped}
 use Rattle.abuf_view.specs.Screen.{on_screen}
 use Rattle.abuf_view.specs.declared.near_plane.EyeTriangle.{EyeTriangle}
+
+-- What every camera can project: at most 1048576 triangles, with coordinates of at most 2147483647 either way.
+pub record AreInLimits (triangles : List Triangle) : Type 0 where
+  pub few : length triangles ≤ MAX_TRIANGLES
+  pub near : All IsTriangleInRange triangles
 
 -- A triangle on the screen, and what it is drawn in.
 pub record Primitive : Type 0 where

@@ -1,5 +1,5 @@
 // The camera.
-ghost use Rattle.std.specs.Prelude.{◌≡◌, ◌≤◌, ◌*◌, ◌↔◌, pos, ◌≤ℤ◌, unsigned_abs, IsTrue, MatchOption};
+ghost use Rattle.std.specs.Prelude.{◌≡◌, ◌≤◌, ◌*◌, ◌↔◌, ◌∷◌, [], pos, ◌≤ℤ◌, unsigned_abs, IsTrue, MatchOption};
 ghost use Rattle.abuf_num.specs.declared.limits.TheConstants.{MAX_COORDINATE};
 ghost use Rattle.abuf_view.specs.Eye.{eye_of, IsEye};
 ghost use Rattle.abuf_view.specs.Camera.{Camera as Viewpoint, camera, camera_of, IsMade, IsCamera, IsSize, IsTurn, IsBounded, IsFrom, IsLens};
@@ -154,6 +154,20 @@ impl Camera {
         ensures { result ≡ self.now.height }
     {
         self.height
+    }
+
+    /// The four parts of its turn, a quaternion.
+    pub fn turn(&self) -> [i32; 4]
+        ensures { result ≡ self.now.turn.a ∷ self.now.turn.b ∷ self.now.turn.c ∷ self.now.turn.d ∷ [] }
+    {
+        [self.turn.a, self.turn.b, self.turn.c, self.turn.d]
+    }
+
+    /// The three parts of its shift, in units of 1/65536.
+    pub fn shift(&self) -> [i64; 3]
+        ensures { result ≡ self.now.shift.x ∷ self.now.shift.y ∷ self.now.shift.z ∷ [] }
+    {
+        [self.shift.x, self.shift.y, self.shift.z]
     }
 
     /// Its focal length, in units of 1/65536.

@@ -1,7 +1,6 @@
 // Whole scenes before a camera, and the camera's bounds.
-ghost use Rattle.std.specs.Prelude.{◌≤◌, All, IfOk, length, unsigned_abs};
+ghost use Rattle.std.specs.Prelude.{◌≤◌, unsigned_abs};
 ghost use Rattle.abuf_obj.specs.Sound.{IsInRange};
-ghost use Rattle.abuf_scene.specs.Triangles.{IsTriangleInRange};
 
 use crate::point_table::PointTable;
 use crate::primitive_lists::PrimitiveLists;
@@ -354,4 +353,18 @@ fn cameras_at_their_bounds_and_past_them(rt: HostRuntime) {
     ] {
         assert!(rt; Camera::new(width, height, turn, shift, focal, near).is_some() == made);
     }
+}
+
+#[test]
+fn a_camera_tells_what_it_was_made_of(rt: HostRuntime) -> Result<(), Fail> {
+    let camera = Camera::new(4, 3, [1, -2, 1024, 0], [5, -6, 2147483647], 65536, 8192).ok_or(
+        "camera",
+    )?;
+    assert_eq!(rt; camera.width(), 4);
+    assert_eq!(rt; camera.height(), 3);
+    assert!(rt; camera.turn() == [1, -2, 1024, 0]);
+    assert!(rt; camera.shift() == [5, -6, 2147483647]);
+    assert_eq!(rt; camera.focal(), 65536);
+    assert_eq!(rt; camera.near(), 8192);
+    Ok(())
 }

@@ -44,7 +44,7 @@ impl Model for Images {
 
     ghost view = { λ i. record { plan = i.plan; triangles = i.scene.triangles; shots = i.shots } };
 
-    ghost invariant = { λ i. AreSound i.plan i.shots };
+    ghost invariant = { λ i. AreSound i.plan i.scene.triangles i.shots };
 }
 
 impl Images {
@@ -52,10 +52,12 @@ impl Images {
     ghost use Rattle.abuf_num.specs.declared.limits.TheConstants.{MAX_IMAGES};
     ghost use Rattle.abuf_sequence.specs.Paths.{IsShot};
     ghost use Rattle.abuf_sequence.specs.Sequences.{IsPlan, IsSequenceAnswer};
+    ghost use Rattle.abuf_view.specs.Primitives.{AreInLimits};
     ghost use Rattle.abuf_io.specs.Sinks.{sink_change};
 
     /// The images of these shots.
     fn new(scene: Scene, shots: List<Shot>, plan: Plan) -> Images
+        requires scene { AreInLimits scene.triangles }
         requires shots { All IsShot shots }
         requires few_shots { length shots ≤ MAX_IMAGES }
         requires plan { IsPlan plan }

@@ -1,4 +1,4 @@
-use Rattle.std.proofs.Common.{◌≡◌, ◌∙◌, ap, subst, None, arith}
+use Rattle.std.proofs.Common.{◌≡◌, ◌∙◌, ap, subst, None}
 use Rattle.std.proofs.lemmas.Result.{err_from_is_err_and}
 use Rattle.abuf_mtl.specs.Material.{material}
 use Rattle.abuf_scene.specs.Triangles.{Look, triangles, unknown, triangles_by, unknown_by}
@@ -21,9 +21,3 @@ pub returns-clause-triangles : goal.returns-clause-triangles
 unfolding triangles
 returns-clause-triangles c = λ libraries stands.
     c.in_ok-list.ensures.triangles ∙ ap (λ (look : Look). triangles_by look c.args.obj.now) (look_up-material libraries c.args.materials.now stands)
-
-pub invariant_of-result : goal.invariant_of-result
-invariant_of-result c = record {
-  few = omega (arith, c.in_ok-list.ensures.count, c.requires.few);
-  near = c.in_ok-list.ensures.near c.requires.near;
-}

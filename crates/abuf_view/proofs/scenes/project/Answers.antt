@@ -6,7 +6,7 @@ pub into_projected-requires-clause-few : goal.into_projected-requires-clause-few
 into_projected-requires-clause-few c =
     let scene = c.args.scene.now in
     let few = tris_few c.args.camera.now scene.triangles _ c.in_ok-made.ensures.tris in
-    omega (arith, few, scene.few)
+    omega (arith, few, c.requires.few)
 
 pub into_projected-requires-clause-painted : goal.into_projected-requires-clause-painted
 into_projected-requires-clause-painted c =

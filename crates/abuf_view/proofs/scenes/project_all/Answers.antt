@@ -13,5 +13,5 @@ returns-clause-paints c =
 
 pub push_triangle-requires-clause-range : goal.push_triangle-requires-clause-range
 push_triangle-requires-clause-range c =
-    let near : All IsTriangleInRange c.as_slice-triangle-items.result.now = subst (All IsTriangleInRange) (sym c.as_slice-triangle-items.ensures) c.args.scene.now.near in
+    let near : All IsTriangleInRange c.as_slice-triangle-items.result.now = subst (All IsTriangleInRange) (sym c.as_slice-triangle-items.ensures) c.requires in
     near c.loop-triangle.triangle-index _ (omega arith)
