@@ -1,2 +1,3 @@
 pub mod Credit
 pub mod Sights
+pub mod Missing
