@@ -43,7 +43,7 @@ adds_but xs rest es n s m k = record {
 -- An entry that carries an item has the pair of it, or is lost and leaves it.
 carried_pair : (p y : ℕ) (x : Stage) (ps rest xs : List (ℕ × ℕ)) → CarriesItem p y x → IsPermutation (ps ++ rest) xs
     → (left : List (ℕ × ℕ)) × (length left ≡ cond (is_lost x) 1 0 + length rest) × IsPermutation (with_pair x ps ++ left) ((p, y) ∷ xs)
-carried_pair p y (Linked q z o) ps rest xs c k = (rest, refl, subst (λ (i : ℕ × ℕ). IsPermutation (i ∷ (ps ++ rest)) ((p, y) ∷ xs)) (sym (λ i. (c.0 i, c.1 i))) (IsPermutation-cons (p, y) (ps ++ rest) xs k))
+carried_pair p y (Linked q z o) ps rest xs c k = (rest, omega arith, subst (λ (i : ℕ × ℕ). IsPermutation (i ∷ (ps ++ rest)) ((p, y) ∷ xs)) (sym (λ i. (c.0 i, c.1 i))) (IsPermutation-cons (p, y) (ps ++ rest) xs k))
 carried_pair p y Lost ps rest xs c k = ((p, y) ∷ rest, omega arith,
     IsPermutation-trans (ps ++ (p, y) ∷ rest) ((p, y) ∷ (ps ++ rest)) ((p, y) ∷ xs) (IsPermutation-middle ps (p, y) rest) (IsPermutation-cons (p, y) (ps ++ rest) xs k))
 carried_pair p y Claimed ps rest xs c k = absurd c
@@ -92,12 +92,12 @@ pairs-append [] fs = refl
 pairs-append (e ∷ es) fs = ap (with_pair e.stage) (pairs-append es fs) ∙ with_pair-append e.stage (pairs es) (pairs fs)
 
 -- Of four lists, the middle two may change places.
-middle_swapped : (as bs cs ds : List (ℕ × ℕ)) → IsPermutation ((as ++ bs) ++ (cs ++ ds)) ((as ++ cs) ++ (bs ++ ds))
-middle_swapped as bs cs ds =
-    let two : IsPermutation ((bs ++ cs) ++ ds) ((cs ++ bs) ++ ds) = IsPermutation-append_left ds (bs ++ cs) (cs ++ bs) (IsPermutation-append_comm bs cs) in
-    let three : IsPermutation (bs ++ (cs ++ ds)) (cs ++ (bs ++ ds)) = subst (λ (l : List (ℕ × ℕ)). IsPermutation l (cs ++ (bs ++ ds))) (append_assoc bs cs ds) (subst (IsPermutation ((bs ++ cs) ++ ds)) (append_assoc cs bs ds) two) in
-    let four : IsPermutation (as ++ (bs ++ (cs ++ ds))) (as ++ (cs ++ (bs ++ ds))) = IsPermutation-append_right as (bs ++ (cs ++ ds)) (cs ++ (bs ++ ds)) three in
-    subst (λ (l : List (ℕ × ℕ)). IsPermutation l ((as ++ cs) ++ (bs ++ ds))) (sym (append_assoc as bs (cs ++ ds))) (subst (IsPermutation (as ++ (bs ++ (cs ++ ds)))) (sym (append_assoc as cs (bs ++ ds))) four)
+middle_swapped : (ws xs ys zs : List (ℕ × ℕ)) → IsPermutation ((ws ++ xs) ++ (ys ++ zs)) ((ws ++ ys) ++ (xs ++ zs))
+middle_swapped ws xs ys zs =
+    let two : IsPermutation ((xs ++ ys) ++ zs) ((ys ++ xs) ++ zs) = IsPermutation-append_left zs (xs ++ ys) (ys ++ xs) (IsPermutation-append_comm xs ys) in
+    let three : IsPermutation (xs ++ (ys ++ zs)) (ys ++ (xs ++ zs)) = subst (λ (l : List (ℕ × ℕ)). IsPermutation l (ys ++ (xs ++ zs))) (append_assoc xs ys zs) (subst (IsPermutation ((xs ++ ys) ++ zs)) (append_assoc ys xs zs) two) in
+    let four : IsPermutation (ws ++ (xs ++ (ys ++ zs))) (ws ++ (ys ++ (xs ++ zs))) = IsPermutation-append_right ws (xs ++ (ys ++ zs)) (ys ++ (xs ++ zs)) three in
+    subst (λ (l : List (ℕ × ℕ)). IsPermutation l ((ws ++ ys) ++ (xs ++ zs))) (sym (append_assoc ws xs (ys ++ zs))) (subst (IsPermutation (ws ++ (xs ++ (ys ++ zs)))) (sym (append_assoc ws ys (xs ++ zs))) four)
 
 -- Entries of two lists add the items of both.
 pub adds-append : (xs ys : List (ℕ × ℕ)) (es fs : List Entry) → Adds xs es → Adds ys fs → Adds (xs ++ ys) (es ++ fs)

@@ -36,7 +36,7 @@ firsts (suc c) = c ∷ firsts c
 -- Each stands there once.
 firsts_once : (n c : ℕ) → times n (firsts c) ≡ below n c
 firsts_once n zero = sym (below_no n 0 (omega arith))
-firsts_once n (suc c) = let r = firsts_once n c in let m = below_more n c in omega arith
+firsts_once n (suc c) = let r = firsts_once n c in let m = below_more n c in let same : c + 1 ≡ suc c = omega arith in let e = ap (below n) same in omega arith
 
 -- As many of them have no node as they are more than the nodes.
 firsts_over : (nodes c : ℕ) → sum_by (over nodes) (firsts c) ≡ c - nodes
