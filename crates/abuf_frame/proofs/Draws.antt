@@ -44,8 +44,11 @@ adds_but xs rest es n s m k = record {
 carried_pair : (p y : ℕ) (x : Stage) (ps rest xs : List (ℕ × ℕ)) → CarriesItem p y x → IsPermutation (ps ++ rest) xs
     → (left : List (ℕ × ℕ)) × (length left ≡ cond (is_lost x) 1 0 + length rest) × IsPermutation (with_pair x ps ++ left) ((p, y) ∷ xs)
 carried_pair p y (Linked q z o) ps rest xs c k = (rest, omega arith, subst (λ (i : ℕ × ℕ). IsPermutation (i ∷ (ps ++ rest)) ((p, y) ∷ xs)) (sym (λ i. (c.0 i, c.1 i))) (IsPermutation-cons (p, y) (ps ++ rest) xs k))
-carried_pair p y Lost ps rest xs c k = ((p, y) ∷ rest, omega arith,
-    IsPermutation-trans (ps ++ (p, y) ∷ rest) ((p, y) ∷ (ps ++ rest)) ((p, y) ∷ xs) (IsPermutation-middle ps (p, y) rest) (IsPermutation-cons (p, y) (ps ++ rest) xs k))
+carried_pair p y Lost ps rest xs c k = (
+  (p, y) ∷ rest,
+  omega arith,
+  IsPermutation-trans (ps ++ (p, y) ∷ rest) ((p, y) ∷ (ps ++ rest)) ((p, y) ∷ xs) (IsPermutation-middle ps (p, y) rest) (IsPermutation-cons (p, y) (ps ++ rest) xs k),
+)
 carried_pair p y Claimed ps rest xs c k = absurd c
 carried_pair p y (Filled q z) ps rest xs c k = absurd c
 carried_pair p y (Swapped q z o) ps rest xs c k = absurd c
@@ -103,7 +106,7 @@ middle_swapped ws xs ys zs =
 pub adds-append : (xs ys : List (ℕ × ℕ)) (es fs : List Entry) → Adds xs es → Adds ys fs → Adds (xs ++ ys) (es ++ fs)
 adds-append xs ys es fs a b = let ca = a.count in let cb = b.count in let sa = a.settled in let sb = b.settled in let ma = a.missing in let mb = b.missing in
     let both : IsPermutation ((pairs es ++ pairs fs) ++ (a.rest ++ b.rest)) (xs ++ ys) = IsPermutation-trans _ ((pairs es ++ a.rest) ++ (pairs fs ++ b.rest)) (xs ++ ys) (middle_swapped (pairs es) (pairs fs) a.rest b.rest)
-        (IsPermutation-append (pairs es ++ a.rest) xs (pairs fs ++ b.rest) ys a.kept b.kept) in
+    (IsPermutation-append (pairs es ++ a.rest) xs (pairs fs ++ b.rest) ys a.kept b.kept) in
     adds_but (xs ++ ys) (a.rest ++ b.rest) (es ++ fs) (omega (arith, length-append es fs, length-append xs ys)) (omega (arith, loose-append es fs)) (omega (arith, lost-append es fs, length-append a.rest b.rest))
     (subst (λ (ps : List (ℕ × ℕ)). IsPermutation (ps ++ (a.rest ++ b.rest)) (xs ++ ys)) (sym (pairs-append es fs)) both)
 

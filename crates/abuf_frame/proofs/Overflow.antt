@@ -1,5 +1,5 @@
 -- How many entries of a whole pass are lost: as many as there are more entries than nodes.
-use Rattle.std.proofs.Common.{◌≡◌, ℕ, zero, suc, ◌+◌, ◌-◌, ◌<◌, ◌≤◌, Bool, cond, nat_lt, List, [], ◌∷◌, map, length, sym, refl, ap, ◌∙◌, arith, ⊎_elim, slice_index, IsPermutation, sum_by}
+use Rattle.std.proofs.Common.{◌≡◌, ℕ, zero, suc, ◌+◌, ◌-◌, ◌<◌, ◌≤◌, cond, nat_lt, List, [], ◌∷◌, map, length, sym, refl, ap, ◌∙◌, arith, ⊎_elim, slice_index, IsPermutation, sum_by}
 use Rattle.std.proofs.lemmas.Bool.{cases_lt}
 use Rattle.std.proofs.lemmas.Bool.Decides.{nat_tests}
 use Rattle.std.proofs.lemmas.List.Sums.{sum_by-cons}

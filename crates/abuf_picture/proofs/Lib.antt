@@ -1,3 +1,2 @@
 pub mod Credit
 pub mod Sights
-pub mod Missing
