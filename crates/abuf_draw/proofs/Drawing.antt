@@ -61,6 +61,22 @@ midway_ends waited came waits v w m = record {
 pub passes_none : (waited : List (ℕ × ℕ)) (v : View) → Passes waited [] waited v v
 passes_none waited v = record { out = []; drawn = draws_none v; same = subst (IsPermutation waited) (sym (append-nil waited)) (IsPermutation-refl waited) }
 
+-- More came, and nothing was drawn.
+pub passes_waiting : (waited came waits : List (ℕ × ℕ)) (v w : View) → waits ≡ waited ++ came → w ≡ v → Passes waited came waits v w
+passes_waiting waited came waits v w is same = record {
+  out = [];
+  drawn = subst (Draws [] v) (sym same) (draws_none v);
+  same = subst (λ (l : List (ℕ × ℕ)). IsPermutation l (waited ++ came)) (sym is) (IsPermutation-refl (waited ++ came));
+}
+
+-- Those that waited were drawn, and those that came wait.
+pub passes_flushed : (waited came waits : List (ℕ × ℕ)) (v w u : View) → waits ≡ came → Draws waited v w → u ≡ w → Passes waited came waits v u
+passes_flushed waited came waits v w u is d same = record {
+  out = waited;
+  drawn = subst (Draws waited v) (sym same) d;
+  same = subst (λ (l : List (ℕ × ℕ)). IsPermutation (waited ++ l) (waited ++ came)) (sym is) (IsPermutation-refl (waited ++ came));
+}
+
 -- One after another.
 pub passes_then : (a xs b ys d : List (ℕ × ℕ)) (v w u : View) → Passes a xs b v w → Passes b ys d w u → Passes a (xs ++ ys) d v u
 passes_then a xs b ys d v w u p q =

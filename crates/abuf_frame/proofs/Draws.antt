@@ -1,7 +1,8 @@
 -- What drawing adds, in one call and in several.
 use Rattle.std.proofs.Common.{◌≡◌, ℕ, ◌+◌, ◌-◌, ◌≤◌, cond, List, [], ◌∷◌, ◌++◌, length, sym, refl, ap, ◌∙◌, subst, arith, IsPermutation, length-append, append_assoc, append-nil}
 use Rattle.std.proofs.lemmas.List.Sums.{sum_by-append}
-use Rattle.std.proofs.lemmas.List.Sorted.{IsPermutation-append, IsPermutation-refl, IsPermutation-trans, length_permutation}
+use Rattle.std.proofs.lemmas.List.{nil_from_length}
+use Rattle.std.proofs.lemmas.List.Sorted.{IsPermutation-append, IsPermutation-append_comm, IsPermutation-append_left, IsPermutation-append_right, IsPermutation-cons, IsPermutation-middle, IsPermutation-refl, IsPermutation-trans, length_permutation}
 use Rattle.abuf_frame.specs.declared.view.Stage.{Stage}
 use Rattle.abuf_frame.specs.declared.view.Stage.TheVariants.{Claimed, Filled, Swapped, Linked, Lost}
 use Rattle.abuf_frame.specs.declared.view.Entry.{Entry}
@@ -28,28 +29,41 @@ carry_settled first [] (e ∷ es) c = absurd c
 carry_settled first (x ∷ xs) [] c = absurd c
 carry_settled first (x ∷ xs) (e ∷ es) c = let r = carry_settled (first + 1) xs es c.2 in let s = carried_settled x.0 x.1 e.stage c.1 in omega (arith, count_by-cons (λ (f : Entry). is_loose f.stage) e es)
 
--- An entry that carries an item and isn't lost has the pair of it.
-carried_pair : (p y : ℕ) (x : Stage) (rest : List (ℕ × ℕ)) → CarriesItem p y x → cond {A = ℕ} (is_lost x) 1 0 ≡ 0 → with_pair x rest ≡ (p, y) ∷ rest
-carried_pair p y (Linked q z o) rest c l = λ i. (c.0 i, c.1 i) ∷ rest
-carried_pair p y Lost rest c l = absurd (omega arith)
-carried_pair p y Claimed rest c l = absurd c
-carried_pair p y (Filled q z) rest c l = absurd c
-carried_pair p y (Swapped q z o) rest c l = absurd c
+-- Entries whose pairs, with a rest of as many as are lost, are the items in some order. Where none is lost, nothing is left of them.
+adds_but : (xs rest : List (ℕ × ℕ)) (es : List Entry) → length es ≡ length xs → loose es ≡ 0 → length rest ≡ lost es → IsPermutation (pairs es ++ rest) xs → Adds xs es
+adds_but xs rest es n s m k = record {
+  count = n;
+  settled = s;
+  carried = λ l. subst (λ (ps : List (ℕ × ℕ)). IsPermutation ps xs) (ap (λ (r : List (ℕ × ℕ)). pairs es ++ r) (nil_from_length rest (m ∙ l)) ∙ append-nil (pairs es)) k;
+  rest = rest;
+  missing = m;
+  kept = k;
+}
 
--- Entries that carry items in order, none lost, have these as their pairs.
-carry_pairs : (first : ℕ) (xs : List (ℕ × ℕ)) (es : List Entry) → CarryInOrder first xs es → lost es ≡ 0 → pairs es ≡ xs
-carry_pairs first [] [] c l = refl
-carry_pairs first [] (e ∷ es) c l = absurd c
-carry_pairs first (x ∷ xs) [] c l = absurd c
-carry_pairs first (x ∷ xs) (e ∷ es) c l = let m = count_by-cons (λ (f : Entry). is_lost f.stage) e es in carried_pair x.0 x.1 e.stage (pairs es) c.1 (omega arith) ∙ ap (λ (ys : List (ℕ × ℕ)). x ∷ ys) (carry_pairs (first + 1) xs es c.2 (omega arith))
+-- An entry that carries an item has the pair of it, or is lost and leaves it.
+carried_pair : (p y : ℕ) (x : Stage) (ps rest xs : List (ℕ × ℕ)) → CarriesItem p y x → IsPermutation (ps ++ rest) xs
+    → (left : List (ℕ × ℕ)) × (length left ≡ cond (is_lost x) 1 0 + length rest) × IsPermutation (with_pair x ps ++ left) ((p, y) ∷ xs)
+carried_pair p y (Linked q z o) ps rest xs c k = (rest, omega arith, subst (λ (i : ℕ × ℕ). IsPermutation (i ∷ (ps ++ rest)) ((p, y) ∷ xs)) (sym (λ i. (c.0 i, c.1 i))) (IsPermutation-cons (p, y) (ps ++ rest) xs k))
+carried_pair p y Lost ps rest xs c k = (
+  (p, y) ∷ rest,
+  omega arith,
+  IsPermutation-trans (ps ++ (p, y) ∷ rest) ((p, y) ∷ (ps ++ rest)) ((p, y) ∷ xs) (IsPermutation-middle ps (p, y) rest) (IsPermutation-cons (p, y) (ps ++ rest) xs k),
+)
+carried_pair p y Claimed ps rest xs c k = absurd c
+carried_pair p y (Filled q z) ps rest xs c k = absurd c
+carried_pair p y (Swapped q z o) ps rest xs c k = absurd c
+
+-- Entries that carry items in order have these as their pairs, but for a rest of as many as are lost.
+carry_pairs : (first : ℕ) (xs : List (ℕ × ℕ)) (es : List Entry) → CarryInOrder first xs es → (rest : List (ℕ × ℕ)) × (length rest ≡ lost es) × IsPermutation (pairs es ++ rest) xs
+carry_pairs first [] [] c = ([], refl, IsPermutation-refl [])
+carry_pairs first [] (e ∷ es) c = absurd c
+carry_pairs first (x ∷ xs) [] c = absurd c
+carry_pairs first (x ∷ xs) (e ∷ es) c = let r = carry_pairs (first + 1) xs es c.2 in let m = r.1 in let s = carried_pair x.0 x.1 e.stage (pairs es) r.0 xs c.1 r.2 in let n = s.1 in
+    (s.0, omega (arith, count_by-cons (λ (f : Entry). is_lost f.stage) e es), s.2)
 
 -- Entries that carry items in order add them.
 pub carry_adds : (first : ℕ) (xs : List (ℕ × ℕ)) (es : List Entry) → CarryInOrder first xs es → Adds xs es
-carry_adds first xs es c = record {
-  count = carry_length first xs es c;
-  settled = carry_settled first xs es c;
-  carried = λ l. subst (λ (ys : List (ℕ × ℕ)). IsPermutation ys xs) (sym (carry_pairs first xs es c l)) (IsPermutation-refl xs);
-}
+carry_adds first xs es c = let r = carry_pairs first xs es c in adds_but xs r.0 es (carry_length first xs es c) (carry_settled first xs es c) r.1 r.2
 
 -- A view that has grown by entries which carry the items has drawn them.
 pub draws_from : (items : List (ℕ × ℕ)) (v w : View) → length items ≤ v.credit → (first : ℕ) × (es : List Entry) × CarryInOrder first items es × (w ≡ grown es v) → Draws items v w
@@ -80,27 +94,31 @@ pub pairs-append : (es fs : List Entry) → pairs (es ++ fs) ≡ pairs es ++ pai
 pairs-append [] fs = refl
 pairs-append (e ∷ es) fs = ap (with_pair e.stage) (pairs-append es fs) ∙ with_pair-append e.stage (pairs es) (pairs fs)
 
+-- Of four lists, the middle two may change places.
+middle_swapped : (ws xs ys zs : List (ℕ × ℕ)) → IsPermutation ((ws ++ xs) ++ (ys ++ zs)) ((ws ++ ys) ++ (xs ++ zs))
+middle_swapped ws xs ys zs =
+    let two : IsPermutation ((xs ++ ys) ++ zs) ((ys ++ xs) ++ zs) = IsPermutation-append_left zs (xs ++ ys) (ys ++ xs) (IsPermutation-append_comm xs ys) in
+    let three : IsPermutation (xs ++ (ys ++ zs)) (ys ++ (xs ++ zs)) = subst (λ (l : List (ℕ × ℕ)). IsPermutation l (ys ++ (xs ++ zs))) (append_assoc xs ys zs) (subst (IsPermutation ((xs ++ ys) ++ zs)) (append_assoc ys xs zs) two) in
+    let four : IsPermutation (ws ++ (xs ++ (ys ++ zs))) (ws ++ (ys ++ (xs ++ zs))) = IsPermutation-append_right ws (xs ++ (ys ++ zs)) (ys ++ (xs ++ zs)) three in
+    subst (λ (l : List (ℕ × ℕ)). IsPermutation l ((ws ++ ys) ++ (xs ++ zs))) (sym (append_assoc ws xs (ys ++ zs))) (subst (IsPermutation (ws ++ (xs ++ (ys ++ zs)))) (sym (append_assoc ws ys (xs ++ zs))) four)
+
 -- Entries of two lists add the items of both.
 pub adds-append : (xs ys : List (ℕ × ℕ)) (es fs : List Entry) → Adds xs es → Adds ys fs → Adds (xs ++ ys) (es ++ fs)
-adds-append xs ys es fs a b = let le = length-append es fs in let lx = length-append xs ys in let ca = a.count in let cb = b.count in let k = lost-append es fs in record {
-  count = omega arith;
-  settled = let s = loose-append es fs in let sa = a.settled in let sb = b.settled in omega arith;
-  carried = λ l. subst (λ (ps : List (ℕ × ℕ)). IsPermutation ps (xs ++ ys)) (sym (pairs-append es fs)) (IsPermutation-append (pairs es) xs (pairs fs) ys (a.carried (omega arith)) (b.carried (omega arith)));
-}
+adds-append xs ys es fs a b = let ca = a.count in let cb = b.count in let sa = a.settled in let sb = b.settled in let ma = a.missing in let mb = b.missing in
+    let both : IsPermutation ((pairs es ++ pairs fs) ++ (a.rest ++ b.rest)) (xs ++ ys) = IsPermutation-trans _ ((pairs es ++ a.rest) ++ (pairs fs ++ b.rest)) (xs ++ ys) (middle_swapped (pairs es) (pairs fs) a.rest b.rest)
+    (IsPermutation-append (pairs es ++ a.rest) xs (pairs fs ++ b.rest) ys a.kept b.kept) in
+    adds_but (xs ++ ys) (a.rest ++ b.rest) (es ++ fs) (omega (arith, length-append es fs, length-append xs ys)) (omega (arith, loose-append es fs)) (omega (arith, lost-append es fs, length-append a.rest b.rest))
+    (subst (λ (ps : List (ℕ × ℕ)). IsPermutation (ps ++ (a.rest ++ b.rest)) (xs ++ ys)) (sym (pairs-append es fs)) both)
 
 -- What adds items adds any permutation of them.
 pub adds_permuted : (xs ys : List (ℕ × ℕ)) (es : List Entry) → IsPermutation xs ys → Adds xs es → Adds ys es
-adds_permuted xs ys es p a = record {
-  count = a.count ∙ sym (length_permutation xs ys p);
-  settled = a.settled;
-  carried = λ l. IsPermutation-trans (pairs es) xs ys (a.carried l) p;
-}
+adds_permuted xs ys es p a = adds_but ys a.rest es (a.count ∙ sym (length_permutation xs ys p)) a.settled a.missing (IsPermutation-trans (pairs es ++ a.rest) xs ys a.kept p)
 
 -- drawing nothing, drawing more, and drawing in another order
 pub draws_none : (v : View) → Draws [] v v
 draws_none v = let c : v.credit ≡ v.credit - 0 = omega arith in record {
   added = [];
-  adds = record { count = refl; settled = refl; carried = λ l. IsPermutation-refl [] };
+  adds = adds_but [] [] [] refl refl refl (IsPermutation-refl []);
   fits = omega arith;
   after = λ i. record { credit = c i; entries = sym (append-nil v.entries) i; told = v.told; seen = v.seen; walks = v.walks };
 }

@@ -6,6 +6,7 @@ pub mod Inserts
 pub mod Ends
 pub mod Chains
 pub mod Closes
+pub mod Overflow
 pub mod Shares
 pub mod Runs
 pub mod Looks

@@ -1,5 +1,5 @@
 -- What drawing adds to a pass: for each item, which is a pixel and a payload, an entry that is Linked with it or Lost.
-use Rattle.std.specs.Prelude.{◌≡◌, ℕ, ◌+◌, ◌≤◌, ◌==◌, List, [], ◌∷◌, length, map, filter, IsPermutation}
+use Rattle.std.specs.Prelude.{◌≡◌, ℕ, ◌+◌, ◌≤◌, ◌==◌, List, [], ◌∷◌, ◌++◌, length, map, filter, IsPermutation}
 use Rattle.abuf_frame.specs.declared.view.Stage.{Stage}
 use Rattle.abuf_frame.specs.declared.view.Stage.TheVariants.{Linked, Lost}
 use Rattle.abuf_frame.specs.declared.view.Entry.{Entry}
@@ -21,11 +21,15 @@ pairs (e ∷ es) = with_pair e.stage (pairs es)
 abbrev pub payloads_at : ℕ → List (ℕ × ℕ) → List ℕ
 payloads_at p items = map (λ x. x.1) (filter (λ x. x.0 == p) items)
 
--- There are as many entries as items, each Linked or Lost. Where none is Lost, their pairs are the items in some order.
+-- There are as many entries as items, each Linked or Lost. The pairs of the Linked ones are items, each at most as often as it
+-- stands there: with a rest, of as many as are Lost, they are the items in some order. Where none is Lost, they are so alone.
 pub record Adds (items : List (ℕ × ℕ)) (es : List Entry) : Type 0 where
   pub count : length es ≡ length items
   pub settled : loose es ≡ 0
   pub carried : lost es ≡ 0 → IsPermutation (pairs es) items
+  pub rest : List (ℕ × ℕ)
+  pub missing : length rest ≡ lost es
+  pub kept : IsPermutation (pairs es ++ rest) items
 
 -- From v to w these items were drawn: there are new entries for them, as much credit was spent, and nothing else has changed.
 pub record Draws (items : List (ℕ × ℕ)) (v w : View) : Type 0 where

@@ -1,5 +1,5 @@
 // A frame that is drawn.
-ghost use Rattle.std.specs.Prelude.{◌≡◌, ℕ, ◌+◌, ◌*◌, ◌<◌, ◌≤◌, ◌^◌, IfOk, IfSome, IfNone, IsPermutation, List, length, slice_index, slice_index_or, []};
+ghost use Rattle.std.specs.Prelude.{◌≡◌, ℕ, ◌+◌, ◌-◌, ◌*◌, ◌<◌, ◌≤◌, ◌^◌, IfOk, IfSome, IfNone, IsPermutation, List, length, slice_index, slice_index_or, []};
 ghost use Rattle.abuf_num.specs.declared.limits.TheConstants.{MAX_NODES};
 ghost use Rattle.abuf_frame.specs.Chains.{IsListAt};
 ghost use Rattle.abuf_frame.specs.Closing.{AllSeen, list_at};
@@ -55,6 +55,7 @@ impl Frame {
         ensures fragments { result.fragments ≡ length pass.view.entries }
         ensures lists { (p : ℕ) → p < self.pixels → IsPermutation (list_at result p) (payloads_at p (pairs pass.view.entries)) }
         ensures kept { length pass.view.entries ≤ self.nodes → lost pass.view.entries ≡ 0 }
+        ensures lost { lost pass.view.entries ≡ length pass.view.entries - self.nodes }
         ensures walks { AllSeen result.lists pass.view.walks }
         ensures chains { (p : ℕ) → p < self.pixels → IsListAt p pass.view.entries (list_at result p) }
         ensures only { (p : ℕ) → p < self.pixels → (l : List ℕ) → IsListAt p pass.view.entries l → l ≡ list_at result p }

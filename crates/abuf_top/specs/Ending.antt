@@ -18,7 +18,8 @@ use Rattle.abuf_top.specs.declared.stop.Stop.TheVariants as stop
 use Rattle.abuf_top.specs.declared.top.Ran.{Ran}
 
 -- The closed frame into which a drawing was drawn: it has a list for each pixel of the image, the job's nodes, and as many
--- entries as there are fragments. Where these aren't more than the nodes, its lists are those of the fragments.
+-- entries as there are fragments. Where these aren't more than the nodes, its lists are those of the fragments. Where they are, the
+-- pool was full, and the lists are those of all fragments but as many as find no node.
 abbrev pub IsFrameOf : Drawing → Ended → Type 0
 IsFrameOf d closed = picture.IsFrameOf d.triangles d.job.pattern (region_of d.job) d.job.nodes closed
 

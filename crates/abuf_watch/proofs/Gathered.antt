@@ -1,5 +1,5 @@
 -- What a drawing and its watcher give together.
-use Rattle.std.proofs.Common.{◌≡◌, ℕ, ◌+◌, ◌*◌, ◌≤◌, ◌<◌, max, List, [], ◌∷◌, ◌++◌, length, refl, sym, ap, ap₂, subst, ◌∙◌, arith, append-nil}
+use Rattle.std.proofs.Common.{◌≡◌, ℕ, ◌+◌, ◌-◌, ◌*◌, ◌≤◌, ◌<◌, max, List, [], ◌∷◌, ◌++◌, length, refl, sym, ap, ap₂, subst, ◌∙◌, arith, append-nil}
 use Rattle.std.specs.List.{AllByRecursion, AllZip}
 use Rattle.std.specs.List.Sorted.{IsPermutation}
 use Rattle.abuf_frame.specs.declared.view.Entry.{Entry}
@@ -74,7 +74,7 @@ module _ (items : List (ℕ × ℕ)) (room : ℕ) (places : List ℕ) (looks : L
 module _ (triangles : List Triangle) (pattern : Pattern) (r : Region) (nodes : ℕ) (z : View) (closed : Ended)
     (pixels_are : closed.pixels ≡ r.w * r.h) (nodes_are : closed.nodes ≡ nodes) (each : length closed.lists ≡ r.w * r.h) (adds : Adds (fragments triangles pattern r) z.entries)
     (count : closed.fragments ≡ length z.entries) (lists : (p : ℕ) → p < r.w * r.h → IsPermutation (list_at closed p) (payloads_at p (pairs z.entries)))
-    (kept : length z.entries ≤ nodes → lost z.entries ≡ 0) where
+    (kept : length z.entries ≤ nodes → lost z.entries ≡ 0) (short : lost z.entries ≡ length z.entries - nodes) where
   -- Where the fragments fit, all are there.
   pub all_there : total triangles pattern r ≤ nodes → IsPermutation (pairs z.entries) (fragments triangles pattern r)
   all_there fit = adds.carried (kept (subst (λ (n : ℕ). n ≤ nodes) (sym adds.count) fit))
@@ -91,6 +91,13 @@ module _ (triangles : List Triangle) (pattern : Pattern) (r : Region) (nodes : �
       drawn = all_there fit;
       each = λ p within. lists p (subst (λ (n : ℕ). p < n) each within);
     };
+    kept = record {
+      entries = pairs z.entries;
+      rest = adds.rest;
+      many = adds.missing ∙ (short ∙ ap (λ (n : ℕ). n - nodes) adds.count);
+      drawn = adds.kept;
+      each = λ p within. lists p (subst (λ (n : ℕ). p < n) each within);
+    };
   }
 
 -- All together.
@@ -98,14 +105,14 @@ pub watched : (room : ℕ) (triangles : List Triangle) (pattern : Pattern) (r : 
     → v ≡ whole_view → v1 ≡ split_left 0 v → w1 ≡ split_right 0 v → (g : Grows (fragments triangles pattern r) v1 v2) → (l : LooksAround room places w1 w2 looks) → (j : u ≡ united v2 w2) → (h : HasLooked u z)
     → AllZip (IsSight (fragments triangles pattern r) u.entries) places words
     → closed.pixels ≡ r.w * r.h → closed.nodes ≡ nodes → length closed.lists ≡ r.w * r.h → closed.fragments ≡ length z.entries
-    → ((p : ℕ) → p < r.w * r.h → IsPermutation (list_at closed p) (payloads_at p (pairs z.entries))) → (length z.entries ≤ nodes → lost z.entries ≡ 0) → AllSeen closed.lists z.walks
+    → ((p : ℕ) → p < r.w * r.h → IsPermutation (list_at closed p) (payloads_at p (pairs z.entries))) → (length z.entries ≤ nodes → lost z.entries ≡ 0) → lost z.entries ≡ length z.entries - nodes → AllSeen closed.lists z.walks
     → IsWatched room triangles pattern r nodes places looks words closed
-watched room triangles pattern r nodes places looks words closed v v1 v2 w1 w2 u z fresh left right g l joined last sights pixels_are nodes_are each count lists kept seen =
+watched room triangles pattern r nodes places looks words closed v v1 v2 w1 w2 u z fresh left right g l joined last sights pixels_are nodes_are each count lists kept short seen =
     let items = fragments triangles pattern r in
     let adds : Adds items z.entries = end_adds items room places looks v v1 v2 w1 w2 u z fresh left right g l joined last in
     let walks : z.walks ≡ l.walks ++ last.walks = end_walks items room places looks v v1 v2 w1 w2 u z fresh left right g l joined last in
     record {
-      frame = frame_of triangles pattern r nodes z closed pixels_are nodes_are each adds count lists kept;
+      frame = frame_of triangles pattern r nodes z closed pixels_are nodes_are each adds count lists kept short;
       walks = l.walks;
       turns = l.turns;
       counts = l.counts;
@@ -113,6 +120,6 @@ watched room triangles pattern r nodes places looks words closed v v1 v2 w1 w2 u
       between = l.between;
       before = end_seen items room places looks v v1 v2 w1 w2 u z fresh left right g l joined last;
       last = λ fit. all_then (IsSight items u.entries) (AreWordsAt items)
-          (sight_words items u.entries (subst (λ (es : List Entry). IsPermutation (pairs es) items) last.saw.entries (all_there triangles pattern r nodes z closed pixels_are nodes_are each adds count lists kept fit)))
+          (sight_words items u.entries (subst (λ (es : List Entry). IsPermutation (pairs es) items) last.saw.entries (all_there triangles pattern r nodes z closed pixels_are nodes_are each adds count lists kept short fit)))
           places words sights;
     }

@@ -1,4 +1,4 @@
-use Rattle.std.proofs.Common.{◌≡◌, ◌∙◌, ◌*◌, ◌<◌, ◌≤◌, ℕ, length, Ok, IfOk, OnOk, ap, sym, subst}
+use Rattle.std.proofs.Common.{◌≡◌, ◌∙◌, ◌-◌, ◌*◌, ◌<◌, ◌≤◌, ℕ, length, Ok, IfOk, OnOk, ap, sym, subst}
 use Rattle.std.specs.List.{AllZip}
 use Rattle.abuf_frame.specs.declared.view.View.{View}
 use Rattle.abuf_frame.specs.Pass.{PassState}
@@ -33,6 +33,7 @@ returns g c =
           (closed.ensures.sizes.0 ∙ pixels) (closed.ensures.sizes.1 ∙ c.in_ok-frame.ensures.1) (closed.ensures.sizes.2 ∙ pixels) closed.ensures.fragments
           (λ p within. closed.ensures.lists p (subst (λ (n : ℕ). p < n) (sym pixels) within))
           (λ few. closed.ensures.kept (subst (λ (n : ℕ). length z.entries ≤ n) (sym c.in_ok-frame.ensures.1) few))
+          (closed.ensures.lost ∙ ap (λ (n : ℕ). length z.entries - n) c.in_ok-frame.ensures.1)
           closed.ensures.walks
       | in-Err w ↦ absurd (subst (λ x. OnOk x ⊥) (sym w.words-is ∙ c.in_ok-words.was) tt)
     ]

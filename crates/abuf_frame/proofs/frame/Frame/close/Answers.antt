@@ -1,4 +1,4 @@
-use Rattle.std.proofs.Common.{rules, ℕ, ◌≡◌, ◌∙◌, ap, sym, subst, length, List, [], IsPermutation, slice_index_or, arith}
+use Rattle.std.proofs.Common.{rules, ℕ, ◌≡◌, ◌-◌, ◌∙◌, ap, sym, subst, length, List, [], IsPermutation, slice_index_or, arith}
 use Rattle.std.specs.Mem.Slots.{slots_items}
 use Rattle.atomic_table.specs.Table.{Final, Seen}
 use Rattle.abuf_frame.specs.declared.view.Entry.{Entry}
@@ -11,6 +11,7 @@ use Rattle.abuf_frame.specs.Lawful.{Lawful}
 use Rattle.abuf_frame.specs.Pass.{AllInRange}
 use Rattle.abuf_frame.specs.Views.{IsSettled, IsWhole, lost}
 use Rattle.abuf_frame.proofs.Closes.{Good, closes, lists_length}
+use Rattle.abuf_frame.proofs.Overflow.{lost_of_whole}
 use Rattle.abuf_frame.proofs.frame.Frame.close.Goals as goal
 
 -- what the words of the closed table are good for
@@ -35,6 +36,14 @@ returns-clause-lists c = let e = ap (λ h. h.view.entries) c.pass.view_is in let
 pub returns-clause-kept : goal.returns-clause-kept
 returns-clause-kept c = let e = ap (λ h. h.view.entries) c.pass.view_is in let n = ap (λ h. h.nodes) c.self.view_is in
     λ few. subst (λ (es : List Entry). lost es ≡ 0) e ((good c).2 (let l = ap (λ (es : List Entry). length es) e in omega arith))
+
+pub returns-clause-lost : goal.returns-clause-lost
+returns-clause-lost c = let k : Size = record { pixels = c.self.inside.pixels; nodes = c.self.inside.nodes } in let id = c.pass.inside.seat.id in let v = c.pass.inside.seat.me.0 in
+    let whole : IsWhole v = search rules in let sound : AllInRange c.self.inside.pixels c.self.inside.nodes v.entries = search rules in
+    let table = c.close_with.result in let words : List ℕ = slots_items table.words in let slots : List (Unit {0}) = slots_items table.slots in
+    let final = subst (λ (z : Size). Final (Seen (Lawful z) id v) words slots) c.self.invariant.key_is c.close_with.ensures.values.2 in
+    let over : lost v.entries ≡ length v.entries - c.self.inside.nodes = lost_of_whole k id v whole sound words slots final in
+    let e = ap (λ h. h.view.entries) c.pass.view_is in let n = ap (λ h. h.nodes) c.self.view_is in let m = ap (λ (es : List Entry). lost es) e in let l = ap (λ (es : List Entry). length es) e in omega arith
 
 pub returns-clause-walks : goal.returns-clause-walks
 returns-clause-walks c = let e = ap (λ h. h.view.walks) c.pass.view_is in subst (λ (walks : List Walk). AllSeen (lists_from c.new.result c.self.inside.pixels c.self.inside.nodes 0 c.self.inside.pixels) walks) e (good c).3
