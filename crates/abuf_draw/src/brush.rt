@@ -60,6 +60,7 @@ impl Brush {
 
     /// Lets the first `count` hits wait for their claim. Those that wait already are put into the frame first where there is no room
     /// for both.
+    #[tactic(auto, using(crate::proofs::Drawing::passes_flushed, crate::proofs::Drawing::passes_waiting))]
     fn add(&mut self, frame: &Frame, pass: &mut Pass, count: usize)
         requires frame { pass.old.frame ≡ frame.now }
         requires count { count ≤ 64 }
