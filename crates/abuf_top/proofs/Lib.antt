@@ -11,3 +11,5 @@ pub mod Sums
 pub mod Lines
 pub mod Running
 pub mod Taking
+pub mod Starting
+pub mod Arguments
