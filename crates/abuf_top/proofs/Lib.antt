@@ -10,3 +10,6 @@ pub mod Storing
 pub mod Sums
 pub mod Lines
 pub mod Running
+pub mod Taking
+pub mod Starting
+pub mod Arguments

@@ -1,6 +1,7 @@
 -- What a run promises, from what its parts do.
 use Rattle.std.proofs.Common.{◌≡◌, ◌≤◌, ◌+◌, ℕ, ◌⊎◌, inl, inr, Bool, true, false, true≢false, List, Option, Some, None, Result, Ok, Err, IfSome, IfErr, refl, sym, ap, ◌∙◌, subst, arith}
 use Rattle.std.specs.Prelude.{IsSome, IsOk, ◌↔◌}
+use Rattle.abuf_num.specs.declared.limits.TheConstants.{MAX_BYTES}
 use Rattle.abuf_frame.specs.Closing.{Ended}
 use Rattle.abuf_cli.specs.Jobs.{job}
 use Rattle.abuf_cli.specs.Job.{Job}
@@ -18,7 +19,7 @@ use Rattle.abuf_top.specs.Images.{Images}
 use Rattle.abuf_top.specs.Outside.{Outside, ReadFailed, told}
 use Rattle.abuf_top.specs.Prepared.{PreparesTask, AskOnce, IsTaskOf}
 use Rattle.abuf_top.specs.Stopped.{HasCause, RefusesFor, IsOfWords, IsAfterWords, IsOfPath, IsOfDrawing, StopsByPath}
-use Rattle.abuf_top.specs.Reads.{CallsShelf, IsUncalled}
+use Rattle.abuf_top.specs.Reads.{CallsShelf, IsUncalled, TakesAtMost}
 use Rattle.abuf_top.specs.Verdict.{task, final_verdict, pool_verdict, pools_verdict}
 use Rattle.abuf_top.specs.declared.task.Task.{Task}
 use Rattle.abuf_top.specs.declared.task.Task.TheVariants.{Draw, Sequence}
@@ -167,6 +168,7 @@ stop_decides words rose stop.Memory closed ran err cause c = memory_decides word
 
 module _ (words : List (List ℕ)) (o : Outside)
     (source : NeedsNoSource (job words) (told o.shelf) → IsUncalled o.source)
+    (taken : TakesAtMost (MAX_BYTES + 1) o.source)
     (calls : CallsShelf (fetches words) o.source o.shelf)
     (most : IfSome (most_fetches (job words) o.source.left_old) (λ n. o.shelf.calls_new ≤ o.shelf.calls_old + n)) where
   -- A run that drew.
@@ -193,6 +195,7 @@ module _ (words : List (List ℕ)) (o : Outside)
         closed = frame r closed ran o.err (IsFrameOf d) c frames;
         size = frame r closed ran o.err _ c (sizes (job words) d closed is.0 frames);
         source = source;
+        taken = taken;
         calls = calls;
         most = most;
       }
@@ -230,6 +233,7 @@ module _ (words : List (List ℕ)) (o : Outside)
         closed = frame r closed ran o.err (IsFrameOfTask (Ok (Sequence i))) c (subst (λ (x : Option Ended). IfSome x (IsFrameOfTask (Ok (Sequence i)))) (sym none) tt);
         size = frame r closed ran o.err _ c (subst (λ (x : Option Ended). IfSome x (HasSizeOf (job words))) (sym none) tt);
         source = source;
+        taken = taken;
         calls = calls;
         most = most;
       }
@@ -274,6 +278,7 @@ module _ (words : List (List ℕ)) (o : Outside)
         closed = frame (Err s) closed ran o.err (IsFrameOfTask found) c (subst (λ (x : Option Ended). IfSome x (IsFrameOfTask found)) (sym none) tt);
         size = frame (Err s) closed ran o.err _ c (subst (λ (x : Option Ended). IfSome x (HasSizeOf (job words))) (sym none) tt);
         source = source;
+        taken = taken;
         calls = calls;
         most = most;
       }

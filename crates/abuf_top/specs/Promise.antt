@@ -1,6 +1,7 @@
 -- What a run promises.
 use Rattle.std.specs.Prelude.{◌≡◌, ◌≤◌, ◌+◌, ◌*◌, ◌⊎◌, ◌↔◌, Bool, true, false, ℕ, List, IfSome, IsSome, Result, Ok, Err}
 use Rattle.std.specs.Io.KnownBytes.{Keeps}
+use Rattle.abuf_num.specs.declared.limits.TheConstants.{MAX_BYTES}
 use Rattle.abuf_frame.specs.Closing.{Ended}
 use Rattle.abuf_cli.specs.Jobs.{job}
 use Rattle.abuf_cli.specs.Job.{Job}
@@ -12,7 +13,7 @@ use Rattle.abuf_top.specs.Fetches.{fetches, most_fetches, NeedsNoSource}
 use Rattle.abuf_top.specs.Image.{has_one_frame}
 use Rattle.abuf_top.specs.Outside.{Outside, told}
 use Rattle.abuf_top.specs.Prepared.{AskOnce, IsTaskOf}
-use Rattle.abuf_top.specs.Reads.{CallsShelf, IsUncalled}
+use Rattle.abuf_top.specs.Reads.{CallsShelf, IsUncalled, TakesAtMost}
 use Rattle.abuf_top.specs.Table.{IsAnswer, IsComplete}
 use Rattle.abuf_top.specs.Verdict.{verdict, task, final_verdict}
 use Rattle.abuf_top.specs.declared.stop.Refusal.{Refusal}
@@ -63,8 +64,9 @@ WordsDecide (Err why) number = (number ≡ 2) ⊎ (number ≡ 8)
 -- verdict, or memory ran out. `two`: when status 2 comes, whatever is told. `nine`: with status 9 the source isn't called, whatever
 -- is told. `unwritten`: but for a sequence, something is written
 -- with the statuses 0 and 7 alone. `handed`: when the closed frame is handed back. `closed`: its lists are those of the drawing's
--- fragments. `size`: what it has room for. `source`: when the source isn't called. `calls`: how often the shelf is, where what that
--- hangs on is told, and `most`: how often at most, where the source alone tells.
+-- fragments. `size`: what it has room for. `source`: when the source isn't called. `taken`: at most one byte more is taken from it
+-- than the longest scene has, whatever becomes of the run. `calls`: how often the shelf is called, where what that hangs on is
+-- told, and `most`: how often at most, where the source alone tells.
 pub record IsRun (words : List (List ℕ)) (ran : Ran) (o : Outside) : Type 0 where
   pub found : Result Task Refusal
   pub as_told : IfSome (task words o.source.left_old (told o.shelf)) (λ t. t ≡ found)
@@ -78,5 +80,6 @@ pub record IsRun (words : List (List ℕ)) (ran : Ran) (o : Outside) : Type 0 wh
   pub closed : IfSome ran.closed (IsFrameOfTask found)
   pub size : IfSome ran.closed (HasSizeOf (job words))
   pub source : NeedsNoSource (job words) (told o.shelf) → IsUncalled o.source
+  pub taken : TakesAtMost (MAX_BYTES + 1) o.source
   pub calls : CallsShelf (fetches words) o.source o.shelf
   pub most : IfSome (most_fetches (job words) o.source.left_old) (λ n. o.shelf.calls_new ≤ o.shelf.calls_old + n)

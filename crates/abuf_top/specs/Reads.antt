@@ -1,5 +1,6 @@
 -- What a call does that reads: a scene from the source, and its libraries or a path from the shelf.
-use Rattle.std.specs.Prelude.{◌≡◌, ℕ, List, Option, IfSome}
+use Rattle.std.specs.Prelude.{◌≡◌, ◌≤◌, ℕ, List, length, Option, IfSome}
+use Rattle.std.specs.Io.KnownBytes.{Consumes}
 use Rattle.abuf_io.specs.Causes.{Rose}
 use Rattle.abuf_top.specs.Fetches.{CallsAtMost}
 use Rattle.abuf_top.specs.Libraries.{Holdings}
@@ -24,3 +25,7 @@ CallsHeld fetches shelf = IfSome (fetches (told shelf)) (CallsAtMost shelf.calls
 -- It doesn't call the source.
 abbrev pub IsUncalled : SourceChange → Type 0
 IsUncalled source = (source.left_new ≡ source.left_old) × (source.faults_new ≡ source.faults_old)
+
+-- It takes at most so many bytes from the source, from the front of what that has left, where that is told.
+abbrev pub TakesAtMost : ℕ → SourceChange → Type 0
+TakesAtMost most source = (taken : List ℕ) × Consumes source.left_old source.left_new taken × (length taken ≤ most)

@@ -4,7 +4,7 @@
 //! [`run`] has the contract that the whole program rests on. What it answers is the verdict (`specs/Verdict.antt`), a chain of
 //! verdicts in the order of refusals; `specs/Table.antt` says what each status means for what was written, `specs/Output.antt`
 //! what is written, `specs/Image.antt` what the image is, sample by sample, and `specs/Fetches.antt` how often the shelf is
-//! asked.
+//! asked. [`start`] is all that the program does: it has the same contract, of the words that the arguments of a process give.
 #![tactic(auto)]
 
 mod commands;
@@ -17,6 +17,7 @@ mod loaded;
 mod outcome;
 mod output;
 mod prepare;
+mod process;
 mod report;
 mod status;
 mod stop;
@@ -25,6 +26,7 @@ mod task;
 mod top;
 mod whole;
 
+pub use process::start;
 pub use status::Status;
 pub use stop::{FullPool, Refusal, Stop};
 pub use top::{Ran, run, run_with};

@@ -8,7 +8,7 @@ ghost use Rattle.abuf_obj.specs.Faults.{TellsFirst};
 ghost use Rattle.abuf_top.specs.Fetches.{fault_fetches, scene_fetches, load_fetches, most_for_libraries, most_for_load, LoadNeedsNoSource};
 ghost use Rattle.abuf_top.specs.Libraries.{asked};
 ghost use Rattle.abuf_top.specs.Outside.{source_change, shelf_change};
-ghost use Rattle.abuf_top.specs.Reads.{AnswersAs, AnswersAsHeld, CallsShelf, CallsHeld, IsUncalled};
+ghost use Rattle.abuf_top.specs.Reads.{AnswersAs, AnswersAsHeld, CallsShelf, CallsHeld, IsUncalled, TakesAtMost};
 ghost use Rattle.abuf_top.specs.Prepared.{Loads};
 ghost use Rattle.abuf_top.specs.Stopped.{HasReadCause};
 ghost use Rattle.abuf_top.specs.Verdict.{material_verdict, library_verdict, fault_verdict, scene_verdict, scene_of, loaded};
@@ -139,6 +139,7 @@ pub fn read_text<H: Shelf>(alloc: Global, bytes: List<u8>, shelf: &mut H) -> Res
 }
 
 // The scene that the source has left, and its libraries.
+#[tactic(auto, using(crate::proofs::Taking::takes))]
 fn read_scene<S: Source, H: Shelf>(
     alloc: Global,
     scene: &mut S,
@@ -152,12 +153,14 @@ fn read_scene<S: Source, H: Shelf>(
     ensures calls { CallsShelf (λ left held. option_and_then (scene_fetches held) left)
         (source_change S.left S.faults scene.old scene.new) (shelf_change H.tells H.holds H.calls H.faults shelf.old shelf.new) }
     ensures most { IfSome (most_for_libraries (S.left scene.old)) (λ n. H.calls shelf.new ≤ H.calls shelf.old + n) }
+    ensures taken { TakesAtMost (MAX_BYTES + 1) (source_change S.left S.faults scene.old scene.new) }
 {
     let bytes = read_all(alloc, scene, MAX_BYTES)?;
     read_bytes(alloc, bytes, shelf)
 }
 
 /// The scene of a job, and its libraries: `demo` has its own, and calls neither the source nor the shelf.
+#[tactic(auto, using(crate::proofs::Taking::takes_none))]
 pub fn load<S: Source, H: Shelf>(
     alloc: Global,
     job: &Job,
@@ -173,6 +176,7 @@ pub fn load<S: Source, H: Shelf>(
     ensures later { H.faults shelf.old ≤ H.faults shelf.new }
     ensures most { IfSome (most_for_load job.now.what (S.left scene.old)) (λ n. H.calls shelf.new ≤ H.calls shelf.old + n) }
     ensures source { LoadNeedsNoSource job.now.what → IsUncalled (source_change S.left S.faults scene.old scene.new) }
+    ensures taken { TakesAtMost (MAX_BYTES + 1) (source_change S.left S.faults scene.old scene.new) }
 {
     match *job.what() {
         What::Render | What::Pick { .. } | What::Sequence { .. } => {

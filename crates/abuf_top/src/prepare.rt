@@ -1,6 +1,7 @@
 // What is to be drawn: all that comes before the drawing.
 ghost use Rattle.std.specs.Prelude.{◌≡◌, ◌⊎◌, ◌≤◌, ◌+◌, map, option_map, IfOk, IfErr, IfSome, MatchOption, Ok};
 ghost use Rattle.std.specs.String.{string_bytes};
+ghost use Rattle.abuf_num.specs.declared.limits.TheConstants.{MAX_BYTES};
 ghost use Rattle.abuf_io.specs.Causes.{Rose};
 ghost use Rattle.abuf_cli.specs.Jobs.{job};
 ghost use Rattle.abuf_cli.specs.declared.job.What.TheVariants as what;
@@ -10,7 +11,7 @@ ghost use Rattle.abuf_top.specs.Stopped.{HasReadCause, HasTaskCause, HasCause, S
 ghost use Rattle.abuf_top.specs.Fetches.{load_fetches, command_fetches, fetches, most_for_load, most_for_command, most_fetches};
 ghost use Rattle.abuf_top.specs.Fetches.{LoadNeedsNoSource, CommandNeedsNoSource, NeedsNoSource};
 ghost use Rattle.abuf_top.specs.Outside.{source_change, shelf_change, ReadFailed};
-ghost use Rattle.abuf_top.specs.Reads.{AnswersAs, CallsShelf, IsUncalled};
+ghost use Rattle.abuf_top.specs.Reads.{AnswersAs, CallsShelf, IsUncalled, TakesAtMost};
 ghost use Rattle.abuf_top.specs.Verdict.{drawing_verdict, loaded, command_verdict, task};
 ghost use Rattle.abuf_top.specs.Prepared.{Prepares, PreparesTask, IsTaskOf};
 
@@ -41,6 +42,7 @@ fn primitives_of<R: Threads + Sync, S: Source, H: Shelf>(
         (source_change S.left S.faults scene.old scene.new) (shelf_change H.tells H.holds H.calls H.faults shelf.old shelf.new) }
     ensures most { IfSome (most_for_load job.now.what (S.left scene.old)) (λ n. H.calls shelf.new ≤ H.calls shelf.old + n) }
     ensures source { LoadNeedsNoSource job.now.what → IsUncalled (source_change S.left S.faults scene.old scene.new) }
+    ensures taken { TakesAtMost (MAX_BYTES + 1) (source_change S.left S.faults scene.old scene.new) }
 {
     let loaded = load(alloc, job, scene, shelf)?;
     loaded.project(rt, alloc, job)
@@ -73,6 +75,7 @@ fn task_of<R: Threads + Sync, S: Source, H: Shelf>(
     ensures source { CommandNeedsNoSource job.what (told_by (H.tells shelf.old) (H.holds shelf.old))
         → IsUncalled (source_change S.left S.faults scene.old scene.new) }
     ensures path { IfErr result (λ stop. StopsByPath stop → IsUncalled (source_change S.left S.faults scene.old scene.new)) }
+    ensures taken { TakesAtMost (MAX_BYTES + 1) (source_change S.left S.faults scene.old scene.new) }
     ensures job { IfOk result (IsTaskOf (Ok job)) }
 {
     if let Some(name) = path_of(&job) {
@@ -85,7 +88,7 @@ fn task_of<R: Threads + Sync, S: Source, H: Shelf>(
 
 /// Reads the words, the path of a sequence, the scene and its libraries: all that comes before the drawing, up to the first
 /// refusal. Where the words give no job, for `demo`, and where a path is refused, the source isn't called.
-#[tactic(auto, unfolding(crate::specs::Verdict::task, crate::specs::Fetches::fetches))]
+#[tactic(auto, unfolding(crate::specs::Verdict::task, crate::specs::Fetches::fetches), using(crate::proofs::Taking::takes_none))]
 pub fn prepare<R: Threads + Sync, S: Source, H: Shelf>(
     rt: &R,
     alloc: Global,
@@ -103,6 +106,7 @@ pub fn prepare<R: Threads + Sync, S: Source, H: Shelf>(
     ensures source { NeedsNoSource (job (map string_bytes words.now)) (told_by (H.tells shelf.old) (H.holds shelf.old))
         → IsUncalled (source_change S.left S.faults scene.old scene.new) }
     ensures path { IfErr result (λ stop. StopsByPath stop → IsUncalled (source_change S.left S.faults scene.old scene.new)) }
+    ensures taken { TakesAtMost (MAX_BYTES + 1) (source_change S.left S.faults scene.old scene.new) }
     ensures words { IfOk result (IsTaskOf (job (map string_bytes words.now))) }
 {
     let job = read_words(alloc, words)?;

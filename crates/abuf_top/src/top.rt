@@ -100,7 +100,7 @@ fn handed_back(status: Status, closed: Option<Closed>) -> Option<Closed>
 }
 
 // The end of a run: what it says, and the frame.
-fn conclude<E: Sink>(alloc: Global, outcome: Outcome<()>, err: &mut E) -> Ran
+pub(crate) fn conclude<E: Sink>(alloc: Global, outcome: Outcome<()>, err: &mut E) -> Ran
     ensures { Concludes outcome.result outcome.closed result (sink_change E.taken E.faults err.old err.new) }
 {
     let status = tell(alloc, err, outcome.result);

@@ -1,6 +1,6 @@
 // `sequence`: an image for each shot of a path.
 ghost use Rattle.std.specs.Prelude.{◌≡◌, ◌⊎◌, ◌≤◌, ◌+◌, All, List as Items, ℕ, length, true, option_map, IfOk, IfErr, IfSome, Some};
-ghost use Rattle.abuf_num.specs.declared.limits.TheConstants.{MAX_PATH_BYTES, MAX_IMAGES};
+ghost use Rattle.abuf_num.specs.declared.limits.TheConstants.{MAX_BYTES, MAX_PATH_BYTES, MAX_IMAGES};
 ghost use Rattle.abuf_io.specs.Causes.{Rose};
 ghost use Rattle.abuf_sequence.specs.Paths.{path, IsShot};
 ghost use Rattle.abuf_sequence.specs.Sequences.{IsPlan};
@@ -11,7 +11,7 @@ ghost use Rattle.abuf_top.specs.Images.{plan_of};
 ghost use Rattle.abuf_top.specs.Libraries.{told_by};
 ghost use Rattle.abuf_io.specs.Sinks.{sink_change};
 ghost use Rattle.abuf_top.specs.Outside.{source_change, shelf_change};
-ghost use Rattle.abuf_top.specs.Reads.{AnswersAs, CallsShelf, IsUncalled};
+ghost use Rattle.abuf_top.specs.Reads.{AnswersAs, CallsShelf, IsUncalled, TakesAtMost};
 ghost use Rattle.abuf_top.specs.Paths.{path_verdict, shots_by};
 ghost use Rattle.abuf_top.specs.Prepared.{LoadsPath, PreparesImages};
 ghost use Rattle.abuf_top.specs.Stopped.{HasTaskCause, IsOfDrawing, StopsByPath};
@@ -142,6 +142,7 @@ fn plan_of(job: &Job) -> Plan
 
 /// The images of a job's path. The path comes first: where it is refused, the scene isn't read. The scene and its libraries
 /// are read and refused by also where the path has no shots.
+#[tactic(auto, using(crate::proofs::Taking::takes_none))]
 pub fn prepare_images<S: Source, H: Shelf>(
     alloc: Global,
     job: &Job,
@@ -159,6 +160,7 @@ pub fn prepare_images<S: Source, H: Shelf>(
     ensures source { PathIsRefused name.now (told_by (H.tells shelf.old) (H.holds shelf.old))
         → IsUncalled (source_change S.left S.faults scene.old scene.new) }
     ensures path { IfErr result (λ stop. StopsByPath stop → IsUncalled (source_change S.left S.faults scene.old scene.new)) }
+    ensures taken { TakesAtMost (MAX_BYTES + 1) (source_change S.left S.faults scene.old scene.new) }
     ensures plan { IfOk result (λ images. images.plan ≡ plan_of job.now) }
 {
     let shots = fetch_path(alloc, shelf, name)?;

@@ -12,7 +12,7 @@ pub returns-in-Ok-Draw : goal.returns-in-Ok-Draw
 returns-in-Ok-Draw g c =
     let from = c.in-Ok-Draw.ensures in
     let drew = c.write_output-outcome in
-    run_drew _ _ from.source from.calls from.most _ c.in-Ok-Draw.drawing c.in-Ok-Draw.field-0-is drew.result.result drew.result.closed c.conclude.result from.told from.words
+    run_drew _ _ from.source from.taken from.calls from.most _ c.in-Ok-Draw.drawing c.in-Ok-Draw.field-0-is drew.result.result drew.result.closed c.conclude.result from.told from.words
     drew.ensures.ends drew.ensures.last drew.ensures.closed drew.ensures.handed drew.ensures.stops c.conclude.ensures
 
 pub returns-in-Ok-Sequence : goal.returns-in-Ok-Sequence
@@ -22,7 +22,7 @@ returns-in-Ok-Sequence g c =
     let ends = subst (λ (r : Result (Unit {0}) Stop). Ends (pools_verdict c.in-Ok-Sequence.images) ⊥ (sink_change g.O.Sink.taken g.O.Sink.faults c.args.out.now c.write_images-result.new.out) r)
     (sym ended.ensures.result) c.write_images-result.ensures.ends in
     let stops = subst (λ (r : Result (Unit {0}) Stop). IfErr r IsOfDrawing) (sym ended.ensures.result) c.write_images-result.ensures.stops in
-    run_wrote _ _ from.source from.calls from.most _ c.in-Ok-Sequence.images c.in-Ok-Sequence.field-0-is ended.result.result ended.result.closed c.conclude-in-Ok-Sequence.result from.told from.words
+    run_wrote _ _ from.source from.taken from.calls from.most _ c.in-Ok-Sequence.images c.in-Ok-Sequence.field-0-is ended.result.result ended.result.closed c.conclude-in-Ok-Sequence.result from.told from.words
     ends stops ended.ensures.closed c.conclude-in-Ok-Sequence.ensures
 
 pub returns-in-Err : goal.returns-in-Err
@@ -31,4 +31,4 @@ returns-in-Err g c =
     let ended = c.without_frame-in-Err in
     let ran = c.conclude-in-Err in
     let concludes = subst (λ (r : Result (Unit {0}) Stop). Concludes r ended.result.closed ran.result (sink_change g.E.Sink.taken g.E.Sink.faults c.args.err.now ran.new.err)) ended.ensures.result ran.ensures in
-    run_stopped _ _ from.source from.calls from.most c.in-Err.stop ended.result.closed ran.result from.told from.cause from.path (Keeps-refl (g.O.Sink.taken c.args.out.now)) ended.ensures.closed concludes
+    run_stopped _ _ from.source from.taken from.calls from.most c.in-Err.stop ended.result.closed ran.result from.told from.cause from.path (Keeps-refl (g.O.Sink.taken c.args.out.now)) ended.ensures.closed concludes

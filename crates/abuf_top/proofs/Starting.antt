@@ -1,0 +1,39 @@
+-- A run whose memory runs out before it reads.
+use Rattle.std.proofs.Common.{◌≡◌, ◌≤◌, ◌+◌, ℕ, List, Option, Some, None, Err, IfSome, arith}
+use Rattle.std.specs.Io.KnownBytes.{Keeps}
+use Rattle.abuf_num.specs.declared.limits.TheConstants.{MAX_BYTES}
+use Rattle.abuf_frame.specs.Closing.{Ended}
+use Rattle.abuf_top.specs.Ending.{Concludes}
+use Rattle.abuf_top.specs.Fetches.{CallsAtMost, fetches, most_fetches}
+use Rattle.abuf_top.specs.Outside.{Outside, told}
+use Rattle.abuf_top.specs.Promise.{IsRun}
+use Rattle.abuf_top.specs.Reads.{IsUncalled, TakesAtMost}
+use Rattle.abuf_top.specs.Verdict.{task}
+use Rattle.abuf_top.specs.declared.stop.Stop.TheVariants as stop
+use Rattle.abuf_top.specs.declared.top.Ran.{Ran}
+use Rattle.abuf_cli.specs.Jobs.{job}
+use Rattle.abuf_top.proofs.Running.{run_stopped}
+
+-- Nothing is asked of what stops a run for want of memory.
+any : {T : Type 0} (line : Option T) → IfSome line (λ _. Unit {0})
+any None = tt
+any (Some l) = tt
+
+-- A shelf that isn't called is called as often as it may be.
+uncalled : (n : Option ℕ) (a b c d : ℕ) → b ≡ a → d ≡ c → IfSome n (CallsAtMost a b c d)
+uncalled None a b c d e f = tt
+uncalled (Some n) a b c d e f = record { most = omega (arith, e); none = λ _. (e, f) }
+
+few : (n : Option ℕ) (a b : ℕ) → b ≡ a → IfSome n (λ m. b ≤ a + m)
+few None a b e = tt
+few (Some n) a b e = omega (arith, e)
+
+-- It is a run of any words.
+pub ran_out : (words : List (List ℕ)) (o : Outside) (closed : Option Ended) (ran : Ran)
+    → IsUncalled o.source → TakesAtMost (MAX_BYTES + 1) o.source → o.shelf.calls_new ≡ o.shelf.calls_old → o.shelf.faults_new ≡ o.shelf.faults_old
+    → Keeps o.out.old o.out.new → closed ≡ None → Concludes (Err stop.Memory) closed ran o.err → IsRun words ran o
+ran_out words o closed ran still taken calls faults kept none c =
+    run_stopped words o (λ _. still) taken
+    (uncalled (fetches words o.source.left_old (told o.shelf)) _ _ _ _ calls faults)
+    (few (most_fetches (job words) o.source.left_old) _ _ calls)
+    stop.Memory closed ran (any (task words o.source.left_old (told o.shelf))) tt (λ _. still) kept none c
