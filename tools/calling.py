@@ -30,7 +30,7 @@ from abuflib.program import TOP
 from abuflib.report import Fault, Report
 
 CRATES = os.path.join(TOP, "crates")
-NO_LIBRARY = ("abuf", "abuf_rows", "abuf_uses", "abuf_watch")  # the programs, tests alone, and callers
+NO_LIBRARY = ("abuf", "abuf_refused", "abuf_rows", "abuf_uses", "abuf_watch")  # the programs, tests alone, and callers
 PART = re.compile(r"(?ms)^<!-- quote ([^\n]*?) -->\n(.*?)^<!-- (end|quote[^\n]*) -->$")
 
 

@@ -214,6 +214,7 @@ ASIDE = [  # rows below
     },
     {
         "A": ("abuf_watch", ("looks while", "others draw")),
+        "B": ("abuf_refused", ("main, where the", "scene is refused")),
         "C": ("abuf_uses", ("callers of the", "crates")),
     },
 ]

@@ -27,8 +27,8 @@ from abuflib.report import Fault
 
 PROVING = os.path.join(TOP, "out", "proving")
 PROGRAM = "abuf"
-# Tests of whole commands, callers, and a program of its own: the program doesn't need them.
-OTHERS = ("abuf_rows", "abuf_uses", "abuf_watch")
+# Tests of whole commands, callers, and programs of their own: the program doesn't need them.
+OTHERS = ("abuf_refused", "abuf_rows", "abuf_uses", "abuf_watch")
 
 # What a check takes at most with one processor, and with each further one, in bytes.
 MEMORY = 4_000_000_000
@@ -232,7 +232,7 @@ def ended(number: int, _: object) -> None:
 
 def main() -> int:
     parser = report.words(__doc__)
-    parser.add_argument("--all", action="store_true", help="the tests of whole commands, the callers and abuf_watch too")
+    parser.add_argument("--all", action="store_true", help="the tests of whole commands, the callers, abuf_refused and abuf_watch too")
     parser.add_argument("--times", action="store_true", help="tell of each crate how long it took")
     parser.add_argument("--processors", type=int, default=len(os.sched_getaffinity(0)), metavar="N", help="use at most so many")
     given = parser.parse_args()
