@@ -8,9 +8,9 @@ use crate::{
 };
 use abuf_num::List;
 use std::alloc::Global;
-use std::io;
 use std::io::{BufWriter, ErrorKind, Read, Write};
 use std::test::Fail;
+use std::{fs, io};
 
 fn bytes(alloc: Global, text: &[u8]) -> Result<List<u8>, Fail> {
     Ok(List::from_vec(text.to_vec(alloc)?))
@@ -146,6 +146,23 @@ fn the_folder_tells_a_missing_file_from_a_fault(rt: HostRuntime) {
     for (name, fetch) in rows {
         assert!(rt; folder.fetch(alloc, name, 9).err() == Some(fetch));
     }
+}
+
+#[test]
+fn the_folder_gives_what_a_file_holds(rt: HostRuntime) -> Result<(), Fail> {
+    let alloc = rt.alloc();
+    let mut content = Vec::new(alloc);
+    for number in 0..40000u32 {
+        content.push((number % 251) as u8)?;
+    }
+    fs::write(&rt, "abuf_io_test.mtl", content.as_slice())?;
+    let mut folder = FolderShelf::new(&rt);
+    let name = b"abuf_io_test.mtl".as_slice();
+    assert!(rt; gave(folder.fetch(alloc, name, 40000), content.as_slice()));
+    assert!(rt; folder.fetch(alloc, name, 39999).err() == Some(Fetch::TooLong));
+    fs::remove_file(&rt, "abuf_io_test.mtl")?;
+    assert!(rt; folder.fetch(alloc, name, 40000).err() == Some(Fetch::Missing));
+    Ok(())
 }
 
 #[test]
