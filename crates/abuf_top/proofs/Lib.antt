@@ -10,3 +10,4 @@ pub mod Storing
 pub mod Sums
 pub mod Lines
 pub mod Running
+pub mod Listing

@@ -19,3 +19,4 @@ pub mod Table
 pub mod Ending
 pub mod Promise
 pub mod Drawn
+pub mod Listed
