@@ -60,10 +60,15 @@ abbrev pub MayComeFrom : Way → Drawing → Result (List ℕ) Stop → Option E
 MayComeFrom way d (Ok bytes) closed = ComesFrom way d closed bytes
 MayComeFrom way d (Err s) closed = Unit {0}
 
--- The bytes that a drawing writes, or how it stops, and its closed frame, whatever the way. `produced`: where the way gives what the
--- definition says for all lists of the fragments, it is what the verdict says.
+-- What is produced: where the way gives what the definition says for all lists of the fragments, the bytes are what the verdict says.
+-- How a drawing stops doesn't hang on the way.
+abbrev pub ProducesBy : Way → Drawing → Result (List ℕ) Stop → Type 0
+ProducesBy way d (Ok bytes) = Agrees way (subject_of d) → Produces (pool_verdict d) (Ok bytes)
+ProducesBy way d (Err s) = Produces (pool_verdict d) (Err s)
+
+-- The bytes that a drawing writes, or how it stops, and its closed frame, whatever the way.
 pub record IsOutputBy (way : Way) (d : Drawing) (bytes : Result (List ℕ) Stop) (closed : Option Ended) : Type 0 where
-  pub produced : Agrees way (subject_of d) → Produces (pool_verdict d) bytes
+  pub produced : ProducesBy way d bytes
   pub listed : MayComeFrom way d bytes closed
   pub frame : IfSome closed (IsFrameOf d)
   pub handed : HandsBack (has_one_frame d.job) bytes closed

@@ -13,7 +13,11 @@ use std::alloc::Global;
 
 /// The bytes of an image of these sums over the samples of each pixel. An error means that memory ran out.
 #[tactic(auto, unfolding(crate::specs::Listed::image_from))]
-pub fn image_from(alloc: Global, drawing: &Drawing, pixels: &[PixelSum]) -> Result<List<u8>, NoMemory>
+pub fn image_from(
+    alloc: Global,
+    drawing: &Drawing,
+    pixels: &[PixelSum],
+) -> Result<List<u8>, NoMemory>
     requires pixels { length pixels.now ≡ drawing.now.job.camera.width * drawing.now.job.camera.height }
     requires small { All (IsSmall (length (offsets_of drawing.now.job.pattern))) pixels.now }
     ensures bytes { IfOk result (λ bytes. bytes ≡ image_from drawing.now pixels.now) }

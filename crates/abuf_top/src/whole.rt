@@ -2,8 +2,7 @@
 ghost use Rattle.std.specs.Prelude.{◌≡◌, MatchResult, Err, None, Some, false};
 ghost use Rattle.abuf_top.specs.declared.stop.FullPool.TheVariants as full;
 ghost use Rattle.abuf_top.specs.declared.stop.Stop.TheVariants as stop;
-ghost use Rattle.abuf_top.specs.Drawn.{IsOutputOf};
-ghost use Rattle.abuf_top.specs.Listed.{IsWholeBy};
+ghost use Rattle.abuf_top.specs.Listed.{IsOutputBy, IsWholeBy};
 
 use crate::drawing::Drawing;
 use crate::outcome::Outcome;
@@ -46,23 +45,17 @@ pub fn resolve_whole<R: Threads + Sync, W: Resolve, G: Gate + Sync>(
 ) -> Result<Whole, Outcome<List<u8>>>
     requires not_banded { drawing.now.job.bands ≡ None }
     requires not_peeled { drawing.now.job.peel ≡ false }
-    ensures { MatchResult result (IsWholeBy (W.gives way.now) drawing.now) (λ early. IsOutputOf drawing.now early.result early.closed) }
+    ensures { MatchResult result (IsWholeBy (W.gives way.now) drawing.now)
+        (λ early. IsOutputBy (W.gives way.now) drawing.now early.result early.closed) }
 {
     let primitives = drawing.primitives();
     let target = drawing.target();
-    match draw_and_resolve(rt, alloc, &primitives, &target, way, gate) {
-        Ok(
-            Rendering {
-                closed,
-                resolved: Some(resolved),
-            },
-        ) => Ok(Whole { closed, resolved }),
-        Ok(
-            Rendering {
-                closed,
-                resolved: None,
-            },
-        ) => Err(full_image(closed)),
-        Err(_) => Err(Outcome::out_of_memory()),
+    let Ok(rendering) = draw_and_resolve(rt, alloc, &primitives, &target, way, gate) else {
+        return Err(Outcome::out_of_memory());
+    };
+    let Rendering { closed, resolved } = rendering;
+    match resolved {
+        Some(resolved) => Ok(Whole { closed, resolved }),
+        None => Err(full_image(closed)),
     }
 }
