@@ -153,18 +153,22 @@ module _ (way : Way) (d : Drawing) where
       → out ≡ Ok bytes → MayComeFrom way d out closed → slice ≡ bytes → new ≡ now → Appends old now slice → r ≡ q → q ≡ Ok tt
       → WritesFrom way d (record { old = old; new = new; faults_old = faults_old; faults_new = faults_new }) r closed
   wrote-all old new now faults_old faults_new bytes slice out closed r q is from same to appends ended ok =
-      subst (λ (x : Result (Unit {0}) Stop). WritesFrom way d (record { old = old; new = new; faults_old = faults_old; faults_new = faults_new }) x closed) (sym (ended ∙ ok))
-      (bytes, subst (λ (x : Result (List ℕ) Stop). MayComeFrom way d x closed) is from,
-      subst (λ (x : List ℕ). Appends old new x) same (subst (λ (x : Option (List ℕ)). Appends old x slice) (sym to) appends))
+      subst (λ (x : Result (Unit {0}) Stop). WritesFrom way d (record { old = old; new = new; faults_old = faults_old; faults_new = faults_new }) x closed) (sym (ended ∙ ok)) (
+        bytes,
+        subst (λ (x : Result (List ℕ) Stop). MayComeFrom way d x closed) is from,
+        subst (λ (x : List ℕ). Appends old new x) same (subst (λ (x : Option (List ℕ)). Appends old x slice) (sym to) appends),
+      )
 
   -- that of which a prefix was written,
   pub wrote-part : (old new now : Option (List ℕ)) (faults_old faults_new : ℕ) (bytes slice : List ℕ) (out : Result (List ℕ) Stop) (closed : Option Ended) (r q : Result (Unit {0}) Stop)
       → out ≡ Ok bytes → MayComeFrom way d out closed → slice ≡ bytes → new ≡ now → ((count : ℕ) × Appends old now (take count slice)) → r ≡ q → q ≡ Err stop.WriteFault
       → WritesFrom way d (record { old = old; new = new; faults_old = faults_old; faults_new = faults_new }) r closed
   wrote-part old new now faults_old faults_new bytes slice out closed r q is from same to part ended failed =
-      subst (λ (x : Result (Unit {0}) Stop). WritesFrom way d (record { old = old; new = new; faults_old = faults_old; faults_new = faults_new }) x closed) (sym (ended ∙ failed))
-      (bytes, subst (λ (x : Result (List ℕ) Stop). MayComeFrom way d x closed) is from,
-      (part.0, subst (λ (x : List ℕ). Appends old new (take part.0 x)) same (subst (λ (x : Option (List ℕ)). Appends old x (take part.0 slice)) (sym to) part.1)))
+      subst (λ (x : Result (Unit {0}) Stop). WritesFrom way d (record { old = old; new = new; faults_old = faults_old; faults_new = faults_new }) x closed) (sym (ended ∙ failed)) (
+        bytes,
+        subst (λ (x : Result (List ℕ) Stop). MayComeFrom way d x closed) is from,
+        (part.0, subst (λ (x : List ℕ). Appends old new (take part.0 x)) same (subst (λ (x : Option (List ℕ)). Appends old x (take part.0 slice)) (sym to) part.1)),
+      )
 
   stopped : (out : Taken) (closed : Option Ended) (s : Stop) → ProducesBy way d (Err s) → WritesFrom way d out (Err s) closed
   stopped out closed (stop.Refused r) p = tt

@@ -51,7 +51,8 @@ pub fn write_resolved<R: Threads + Sync, O: Sink, W: Resolve, G: Gate + Sync>(
     way: &W,
     gate: &G,
 ) -> Outcome<()>
-    ensures ends { Agrees (W.gives way.now) (subject_of drawing.now) → Ends (pool_verdict drawing.now) ⊥ (sink_change O.taken O.faults out.old out.new) result.result }
+    ensures ends { Agrees (W.gives way.now) (subject_of drawing.now)
+        → Ends (pool_verdict drawing.now) ⊥ (sink_change O.taken O.faults out.old out.new) result.result }
     ensures listed { WritesFrom (W.gives way.now) drawing.now (sink_change O.taken O.faults out.old out.new) result.result result.closed }
     ensures last { WritesLast (sink_change O.taken O.faults out.old out.new) result.result }
     ensures stops { IfErr result.result IsOfDrawing }

@@ -11,9 +11,9 @@ returns-in-Ok g c =
     let way = g.W.Resolve.gives c.args.way.now in
     let d = c.args.drawing.now in
     let w = c.in-Ok.ensures in
-    let frame = subst (IsFrameOf d) (sym c.in-Ok.closed-is) w.frame in
-    let fit = subst (λ (k : Ended). k.fragments ≤ k.nodes) (sym c.in-Ok.closed-is) w.not_full in
-    let all = c.in-Ok.resolved-is ∙ (w.resolved ∙ ap (λ (k : Ended). way (subject_of d) k.lists) (sym c.in-Ok.closed-is)) in
+    let frame = subst (IsFrameOf d) c.in-Ok.closed-is w.frame in
+    let fit = subst (λ (k : Ended). k.fragments ≤ k.nodes) c.in-Ok.closed-is w.not_full in
+    let all = sym c.in-Ok.resolved-is ∙ (w.resolved ∙ ap (λ (k : Ended). way (subject_of d) k.lists) c.in-Ok.closed-is) in
     rendered way d c.in-Ok.closed frame fit c.requires.what c.requires.not_banded c.requires.not_peeled
     c.image_from-bytes.result c.as_slice.result.now (c.as_slice.ensures ∙ ap (λ (x : Resolved). x.sums) all) c.image_from-bytes.ensures.bytes
     c.of.result.result c.of.result.closed c.of.ensures.bytes
