@@ -1,3 +1,4 @@
 pub mod Picture
 pub mod Drawn
 pub mod Redrawing
+pub mod Resolving

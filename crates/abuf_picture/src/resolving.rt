@@ -1,19 +1,45 @@
 // The sums of a closed frame.
 ghost use Rattle.std.specs.Prelude.{◌≡◌, ◌≤◌, length, IfOk};
 ghost use Rattle.std.specs.List.{All};
+ghost use denote.Param.Send.{IsSync};
 ghost use Rattle.abuf_raster.specs.Samples.{offsets_of};
 ghost use Rattle.abuf_resolve.specs.Sums.{IsSmall, region_sums};
 ghost use Rattle.abuf_picture.specs.Picture.{IsFrameOf, longest};
+ghost use Rattle.abuf_picture.specs.Resolving.{composited, subject, Agrees, FitsIn, IsResolvable, Way};
 
 use crate::primitives::Primitives;
 use crate::target::Target;
 use abuf_frame::Closed;
 use abuf_num::NoMemory;
-use abuf_raster::ScreenTri;
+use abuf_raster::{ScreenTri, region_law};
 use abuf_resolve::laws::{lengths_law, sums_law, words_law};
 use abuf_resolve::{Planes, Resolved, Scene, resolve_counted};
 use std::alloc::Global;
 use std::thread::Threads;
+
+/// A way to resolve the lists of a closed frame, each of which has the words of fragments in its pixel, in any order.
+pub trait Resolve {
+    /// What it gives for lists. It doesn't depend on the number of threads, nor on anything else of the frame.
+    ghost gives: { Self → Way };
+
+    /// Resolves the lists, on the target's number of threads. An error means that memory ran out.
+    fn resolve<R: Threads + Sync>(
+        &self,
+        rt: &R,
+        alloc: Global,
+        primitives: &Primitives,
+        target: &Target,
+        closed: &Closed,
+    ) -> Result<Resolved, NoMemory>
+        requires sync { IsSync R.row }
+        requires lists { IsResolvable (subject primitives.now target.now) closed.now }
+        ensures value { IfOk result (λ all. all ≡ gives self.now (subject primitives.now target.now) closed.now.lists) }
+        ensures fits { IfOk result (FitsIn (subject primitives.now target.now)) };
+}
+
+/// The way of this renderer: in each sample the paints of the fragments that have it, laid over the background in the order of their
+/// depth keys there. The sums don't depend on the order of the lists.
+pub struct Compositing;
 
 /// The triangles for the keys of so many fragments: made ready, unless most of them have none.
 fn planes_for<'a>(
@@ -28,6 +54,45 @@ fn planes_for<'a>(
     } else {
         Planes::new(alloc, triangles)
     }
+}
+
+impl Resolve for Compositing {
+    ghost use Rattle.abuf_picture.specs.Resolving.{composited};
+
+    ghost gives = { λ _. composited };
+
+    fn resolve<R: Threads + Sync>(
+        &self,
+        rt: &R,
+        alloc: Global,
+        primitives: &Primitives,
+        target: &Target,
+        closed: &Closed,
+    ) -> Result<Resolved, NoMemory> {
+        let Target {
+            region,
+            pattern,
+            background,
+            threads,
+            ..
+        } = *target;
+        let scene = Scene {
+            planes: planes_for(alloc, primitives.triangles, closed.fragments())?,
+            paints: primitives.paints,
+            pattern,
+            background,
+        };
+        let all = resolve_counted(rt, alloc, closed, region, &scene, threads)?;
+        Ok(all)
+    }
+}
+
+/// The law of compositing. Where lists hold all fragments of the primitives, in any order, it gives the sums of the definition, and the
+/// length of the longest list.
+pub fn compositing_law(primitives: &Primitives, target: &Target)
+    ensures { Agrees composited (subject primitives.now target.now) }
+{
+    region_law(target.region);
 }
 
 /// For each pixel of the region, in order, the sums over its samples, and the length of the longest list, from the closed
@@ -54,17 +119,10 @@ pub fn resolve_drawn<R: Threads + Sync>(
         region,
         pattern,
         background,
-        threads,
         ..
     } = *target;
     words_law(closed, triangles, pattern, region);
     sums_law(closed, triangles, paints, pattern, background, region);
     lengths_law(closed, triangles, pattern, region);
-    let scene = Scene {
-        planes: planes_for(alloc, triangles, closed.fragments())?,
-        paints,
-        pattern,
-        background,
-    };
-    resolve_counted(rt, alloc, closed, region, &scene, threads)
+    Compositing.resolve(rt, alloc, primitives, target, closed)
 }

@@ -2,7 +2,9 @@
 ghost use Rattle.std.specs.Prelude.{◌≤◌};
 ghost use Rattle.abuf_num.specs.declared.limits.TheConstants.{MAX_NODES};
 
-use crate::{Primitives, Target, draw, draw_and_look, resolve_drawn};
+use crate::{
+    Compositing, Primitives, Target, draw, draw_and_look, draw_and_resolve, resolve_drawn,
+};
 use abuf_fan::OpenGate;
 use abuf_num::Paint;
 use abuf_raster::{Pattern, Region, ScreenTri};
@@ -36,6 +38,13 @@ fn a_square_is_drawn_looked_at_and_resolved(rt: HostRuntime) -> Result<(), Fail>
     let sums = resolve_drawn(&rt, alloc, &primitives, &target, &closed)?;
     assert_eq!(rt; sums.longest, 1);
     for sum in sums.sums.as_slice() {
+        assert_eq!(rt; sum.channels, [65535; 3]);
+    }
+    let rendering = draw_and_resolve(&rt, alloc, &primitives, &target, &Compositing, &OpenGate)?;
+    let resolved = rendering.resolved.ok_or("full")?;
+    assert_eq!(rt; rendering.closed.fragments(), 16);
+    assert_eq!(rt; resolved.longest, 1);
+    for sum in resolved.sums.as_slice() {
         assert_eq!(rt; sum.channels, [65535; 3]);
     }
     let sight = draw_and_look(&rt, alloc, &primitives, &target, 0, &OpenGate)?;

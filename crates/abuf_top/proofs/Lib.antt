@@ -13,3 +13,4 @@ pub mod Running
 pub mod Taking
 pub mod Starting
 pub mod Arguments
+pub mod Listing

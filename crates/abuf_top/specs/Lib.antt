@@ -20,3 +20,4 @@ pub mod Ending
 pub mod Promise
 pub mod Drawn
 pub mod Process
+pub mod Listed

@@ -1,9 +1,11 @@
 // What is drawn, once the words, the scene and its libraries are read.
 ghost use Rattle.std.specs.Prelude.{◌≡◌};
+ghost use Rattle.abuf_picture.specs.Resolving.{composited, Agrees};
 ghost use Rattle.abuf_top.specs.Image.{region_of, DrawsOnce};
+ghost use Rattle.abuf_top.specs.Listed.{subject_of};
 
 use abuf_cli::Job;
-use abuf_picture::{Primitives, Target};
+use abuf_picture::{Primitives, Target, compositing_law};
 use abuf_raster::Region;
 use abuf_view::Projected;
 use std::marker::Model;
@@ -80,5 +82,12 @@ impl Drawing {
             nodes: job.nodes(),
             threads: job.threads(),
         }
+    }
+
+    /// Where lists hold all fragments of the drawing, compositing gives what the definition says.
+    pub fn compositing_law(&self)
+        ensures { Agrees composited (subject_of self.now) }
+    {
+        compositing_law(&self.primitives(), &self.target());
     }
 }

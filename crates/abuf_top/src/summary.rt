@@ -2,16 +2,16 @@
 ghost use Rattle.std.specs.Prelude.{◌≡◌, ◌≤◌, ◌+◌, ◌*◌, ◌-◌, ◌++◌, length, drop, sum, IfOk};
 ghost use Rattle.std.specs.String.{string_bytes};
 ghost use Rattle.abuf_top.specs.Image.{total, size_of};
-ghost use Rattle.abuf_top.specs.Ending.{IsFrameOf};
-ghost use Rattle.abuf_top.specs.Summary.{summary_text, summary, values_in};
+ghost use Rattle.abuf_top.specs.Listed.{subject_of, summary_from};
+ghost use Rattle.abuf_top.specs.Summary.{summary_text, values_in};
+ghost use Rattle.abuf_picture.specs.Resolving.{FitsIn};
 
 use crate::drawing::Drawing;
-use crate::whole::{Image, image_in};
-use abuf_frame::Closed;
+use crate::image::image_from;
 use abuf_num::{List, NoMemory};
 use abuf_pam::pixel_size;
+use abuf_resolve::Resolved;
 use std::alloc::{AllocError, Global};
-use std::thread::Threads;
 
 // The sum of so many bytes.
 fn sum_of(bytes: &[u8]) -> u64
@@ -49,25 +49,25 @@ fn text_of(
     )
 }
 
-/// The summary of a drawing, from its closed frame. An error means that memory ran out.
-#[tactic(auto, unfolding(crate::specs::Summary::summary, crate::specs::Summary::values))]
-pub fn summary_of<R: Threads + Sync>(
-    rt: &R,
+/// The summary of a drawing that has so many fragments, from what was resolved of its frame. An error means that memory ran out.
+#[tactic(auto, unfolding(crate::specs::Listed::summary_from))]
+pub fn summary_from(
     alloc: Global,
     drawing: &Drawing,
-    closed: &Closed,
+    fragments: u64,
+    resolved: &Resolved,
 ) -> Result<List<u8>, NoMemory>
-    requires frame { IsFrameOf drawing.now closed.now }
-    requires not_full { closed.now.fragments ≤ closed.now.nodes }
-    ensures { IfOk result (λ bytes. bytes ≡ summary drawing.now) }
+    requires fragments { fragments ≡ total drawing.now }
+    requires fits { FitsIn (subject_of drawing.now) resolved.now }
+    ensures { IfOk result (λ bytes. bytes ≡ summary_from drawing.now resolved.now) }
 {
-    let Image { bytes, longest } = image_in(rt, alloc, drawing, closed)?;
+    let bytes = image_from(alloc, drawing, resolved.sums.as_slice())?;
     let sum = sum_of_values(drawing, bytes.as_slice());
     let text = text_of(
         alloc,
         drawing.shown().tris.as_slice().len(),
-        closed.fragments(),
-        longest,
+        fragments,
+        resolved.longest,
         sum,
     )?;
     Ok(List::from_vec(text.into_bytes()))

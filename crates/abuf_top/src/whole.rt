@@ -1,76 +1,61 @@
-// The image of a scene whose fragments are all in one frame.
-ghost use Rattle.std.specs.Prelude.{◌≡◌, ◌≤◌, length, IfOk, MatchResult, None, false};
-ghost use Rattle.abuf_top.specs.Image.{image, size_of};
-ghost use Rattle.abuf_top.specs.Summary.{longest};
-ghost use Rattle.abuf_top.specs.Ending.{IsFrameOf};
-ghost use Rattle.abuf_top.specs.Drawn.{IsWholeFrameOf, IsOutputOf};
+// A scene whose fragments are all in one frame.
+ghost use Rattle.std.specs.Prelude.{◌≡◌, MatchResult, Err, None, Some, false};
+ghost use Rattle.abuf_top.specs.declared.stop.FullPool.TheVariants as full;
+ghost use Rattle.abuf_top.specs.declared.stop.Stop.TheVariants as stop;
+ghost use Rattle.abuf_top.specs.Listed.{IsOutputBy, IsWholeBy};
 
 use crate::drawing::Drawing;
-use crate::image::image_of;
 use crate::outcome::Outcome;
 use crate::stop::FullPool;
 use abuf_fan::Gate;
 use abuf_frame::Closed;
-use abuf_num::{List, NoMemory};
-use abuf_picture::{draw, resolve_drawn};
+use abuf_num::List;
+use abuf_picture::{Rendering, Resolve, draw_and_resolve};
 use abuf_resolve::Resolved;
 use std::alloc::Global;
 use std::thread::Threads;
 
-/// The closed frame of a drawing whose fragments all have nodes, or how it stops.
-pub fn draw_whole<R: Threads + Sync, G: Gate + Sync>(
+/// A closed frame in which every fragment has a node, and what was resolved of its lists.
+#[derive(Drop)]
+pub struct Whole {
+    pub closed: Closed,
+    pub resolved: Resolved,
+}
+
+/// A drawing stops since its pool is full.
+fn full_image(closed: Closed) -> Outcome<List<u8>>
+    ensures result { result.result ≡ Err (stop.PoolFull (full.Image closed.fragments closed.nodes)) }
+    ensures closed { result.closed ≡ Some closed }
+{
+    let pool = FullPool::Image {
+        fragments: closed.fragments(),
+        nodes: closed.nodes(),
+    };
+    Outcome::full(pool, Some(closed))
+}
+
+/// The closed frame of a drawing whose fragments all have nodes, with what the way gives for its lists, or how it stops. The lists are
+/// walked once.
+pub fn resolve_whole<R: Threads + Sync, W: Resolve, G: Gate + Sync>(
     rt: &R,
     alloc: Global,
     drawing: &Drawing,
+    way: &W,
     gate: &G,
-) -> Result<Closed, Outcome<List<u8>>>
+) -> Result<Whole, Outcome<List<u8>>>
     requires not_banded { drawing.now.job.bands ≡ None }
     requires not_peeled { drawing.now.job.peel ≡ false }
-    ensures { MatchResult result (IsWholeFrameOf drawing.now) (λ early. IsOutputOf drawing.now early.result early.closed) }
+    ensures { MatchResult result (IsWholeBy (W.gives way.now) drawing.now)
+        (λ early. IsOutputBy (W.gives way.now) drawing.now early.result early.closed) }
 {
-    let Ok(closed) = draw(rt, alloc, &drawing.primitives(), &drawing.target(), gate) else {
+    let primitives = drawing.primitives();
+    let target = drawing.target();
+    let Ok(rendering) = draw_and_resolve(rt, alloc, &primitives, &target, way, gate) else {
         return Err(Outcome::out_of_memory());
     };
-    match closed.full() {
-        Some(full) => Err(Outcome::full(
-            FullPool::Image {
-                fragments: full.fragments,
-                nodes: full.nodes,
-            },
-            Some(closed),
-        )),
-        None => Ok(closed),
+    let Rendering { closed, resolved } = rendering;
+    match resolved {
+        Some(resolved) => Ok(Whole { closed, resolved }),
+        None => Err(full_image(closed)),
     }
-}
-
-/// An image, and the length of the longest list of its frame.
-#[derive(Drop)]
-pub struct Image {
-    pub bytes: List<u8>,
-    pub longest: usize,
-}
-
-/// What the lists of a closed frame give. They are walked once for both. An error means that memory ran out.
-#[tactic(auto, unfolding(crate::specs::Summary::longest))]
-pub fn image_in<R: Threads + Sync>(
-    rt: &R,
-    alloc: Global,
-    drawing: &Drawing,
-    closed: &Closed,
-) -> Result<Image, NoMemory>
-    requires frame { IsFrameOf drawing.now closed.now }
-    requires not_full { closed.now.fragments ≤ closed.now.nodes }
-    ensures bytes { IfOk result (λ i. i.bytes ≡ image drawing.now) }
-    ensures size { IfOk result (λ i. length i.bytes ≡ size_of drawing.now.job) }
-    ensures longest { IfOk result (λ i. i.longest ≡ longest drawing.now) }
-{
-    let Resolved { sums, longest } = resolve_drawn(
-        rt,
-        alloc,
-        &drawing.primitives(),
-        &drawing.target(),
-        closed,
-    )?;
-    let bytes = image_of(alloc, drawing, sums.as_slice())?;
-    Ok(Image { bytes, longest })
 }

@@ -2,37 +2,37 @@
 ghost use Rattle.std.specs.Prelude.{◌≡◌, None, Some, true, false};
 ghost use Rattle.abuf_cli.specs.declared.job.What.TheVariants as what;
 ghost use Rattle.abuf_top.specs.Drawn.{IsOutputOf};
+ghost use Rattle.abuf_top.specs.Listed.{IsOutputBy};
 
 use crate::drawing::Drawing;
-use crate::image::image_of;
+use crate::image::{image_from, image_of};
 use crate::outcome::Outcome;
 use crate::stop::FullPool;
-use crate::whole::{draw_whole, image_in};
+use crate::whole::{Whole, resolve_whole};
 use abuf_band::{BandFault, render_bands};
 use abuf_fan::Gate;
-use abuf_num::{List, NoMemory};
+use abuf_num::List;
 use abuf_peel::peel;
+use abuf_picture::Resolve;
 use std::alloc::Global;
 use std::thread::Threads;
 
 /// All fragments in one frame.
-fn render_whole<R: Threads + Sync, G: Gate + Sync>(
+fn render_whole<R: Threads + Sync, W: Resolve, G: Gate + Sync>(
     rt: &R,
     alloc: Global,
     drawing: &Drawing,
+    way: &W,
     gate: &G,
 ) -> Outcome<List<u8>>
     requires what { drawing.now.job.what ≡ what.Render }
     requires not_banded { drawing.now.job.bands ≡ None }
     requires not_peeled { drawing.now.job.peel ≡ false }
-    ensures { IsOutputOf drawing.now result.result result.closed }
+    ensures { IsOutputBy (W.gives way.now) drawing.now result.result result.closed }
 {
-    match draw_whole(rt, alloc, drawing, gate) {
-        Ok(closed) => {
-            let bytes = match image_in(rt, alloc, drawing, &closed) {
-                Ok(image) => Ok(image.bytes),
-                Err(_) => Err(NoMemory),
-            };
+    match resolve_whole(rt, alloc, drawing, way, gate) {
+        Ok(Whole { closed, resolved }) => {
+            let bytes = image_from(alloc, drawing, resolved.sums.as_slice());
             Outcome::of(bytes, Some(closed))
         }
         Err(early) => early,
@@ -107,21 +107,22 @@ fn render_peeled<R: Threads + Sync>(rt: &R, alloc: Global, drawing: &Drawing) ->
     }
 }
 
-/// The image. Bands and layers are drawn over no gate of the caller's.
-pub fn render<R: Threads + Sync, G: Gate + Sync>(
+/// The image. Bands and layers are drawn over no gate of the caller's, and resolved by no way of the caller's.
+pub fn render<R: Threads + Sync, W: Resolve, G: Gate + Sync>(
     rt: &R,
     alloc: Global,
     drawing: &Drawing,
+    way: &W,
     gate: &G,
 ) -> Outcome<List<u8>>
     requires { drawing.now.job.what ≡ what.Render }
-    ensures { IsOutputOf drawing.now result.result result.closed }
+    ensures { IsOutputBy (W.gives way.now) drawing.now result.result result.closed }
 {
     if drawing.job().peel() {
         return render_peeled(rt, alloc, drawing);
     }
     match drawing.job().bands() {
         Some(bands) => render_banded(rt, alloc, drawing, bands),
-        None => render_whole(rt, alloc, drawing, gate),
+        None => render_whole(rt, alloc, drawing, way, gate),
     }
 }

@@ -1,14 +1,7 @@
-use Rattle.std.proofs.Common.{◌∙◌, ◌*◌, ℕ, List, length, ap, ap₂, sym}
+use Rattle.std.proofs.Common.{◌∙◌, List, length, ap}
 use Rattle.abuf_num.specs.declared.plain.PixelSum.{PixelSum}
-use Rattle.abuf_view.specs.Camera.{Camera}
-use Rattle.abuf_cli.specs.Job.{Job}
 use Rattle.abuf_top.proofs.Sums.{sums_long}
 use Rattle.abuf_top.proofs.image.image_of.Goals as goal
 
-pub image_bytes-requires-clause-pixels : goal.image_bytes-requires-clause-pixels
-image_bytes-requires-clause-pixels c =
-    ap (λ (xs : List PixelSum). length xs) c.requires.sums
-    ∙ sums_long c.args.drawing.now
-    ∙ sym (ap₂ (λ (a b : ℕ). a * b)
-    (c.width.ensures ∙ ap (λ (k : Camera). k.width) (c.camera.ensures.value ∙ ap (λ (j : Job). j.camera) c.job-job.ensures.value))
-    (c.height.ensures ∙ ap (λ (k : Camera). k.height) (c.camera-2.ensures.value ∙ ap (λ (j : Job). j.camera) c.job-job.ensures.value)))
+pub image_from-requires-clause-pixels : goal.image_from-requires-clause-pixels
+image_from-requires-clause-pixels c = ap (λ (xs : List PixelSum). length xs) c.requires.sums ∙ sums_long c.args.drawing.now
