@@ -32,6 +32,8 @@ mod scenes;
 #[cfg(test)]
 mod sequences;
 #[cfg(test)]
+mod started;
+#[cfg(test)]
 mod stored;
 #[cfg(test)]
 mod table;
