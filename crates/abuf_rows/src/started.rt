@@ -38,7 +38,7 @@ impl Env for Given<'_> {
     }
 }
 
-fn given(alloc: Global, args: &[&[u8]]) -> io::Result<env::Args> {
+fn arguments(alloc: Global, args: &[&[u8]]) -> io::Result<env::Args> {
     env::args(&(Given { args }, alloc))
 }
 
@@ -65,12 +65,12 @@ fn words_come_after_the_name(rt: HostRuntime) -> Result<(), Fail> {
     let alloc = rt.alloc();
     let black = image(alloc, "..")?;
     let named: [&[u8]; 4] = [b"abuf", b"render", b"--size", b"2x1"];
-    assert!(rt; ends(&rt, given(alloc, &named), 0, black.as_slice(), b"")?);
+    assert!(rt; ends(&rt, arguments(alloc, &named), 0, black.as_slice(), b"")?);
     let nameless: [&[u8]; 3] = [b"render", b"--size", b"2x1"];
     assert!(rt;
         ends(
             &rt,
-            given(alloc, &nameless),
+            arguments(alloc, &nameless),
             2,
             b"",
             b"words not understood\n"
@@ -79,13 +79,21 @@ fn words_come_after_the_name(rt: HostRuntime) -> Result<(), Fail> {
     assert!(rt;
         ends(
             &rt,
-            given(alloc, &named[..1]),
+            arguments(alloc, &named[..1]),
             2,
             b"",
             b"words not understood\n"
         )?
     );
-    assert!(rt; ends(&rt, given(alloc, &[]), 2, b"", b"words not understood\n")?);
+    assert!(rt;
+        ends(
+            &rt,
+            arguments(alloc, &[]),
+            2,
+            b"",
+            b"words not understood\n"
+        )?
+    );
     Ok(())
 }
 
@@ -94,9 +102,17 @@ fn words_come_after_the_name(rt: HostRuntime) -> Result<(), Fail> {
 fn words_that_are_no_text(rt: HostRuntime) -> Result<(), Fail> {
     let alloc = rt.alloc();
     let text: [&[u8]; 5] = [b"abuf", b"sequence", b"p\xc3\xbf", b"--size", b"2x1"];
-    assert!(rt; ends(&rt, given(alloc, &text), 9, b"", b"path missing\n")?);
+    assert!(rt; ends(&rt, arguments(alloc, &text), 9, b"", b"path missing\n")?);
     let bytes: [&[u8]; 5] = [b"abuf", b"sequence", b"p\xff", b"--size", b"2x1"];
-    assert!(rt; ends(&rt, given(alloc, &bytes), 2, b"", b"words not understood\n")?);
+    assert!(rt;
+        ends(
+            &rt,
+            arguments(alloc, &bytes),
+            2,
+            b"",
+            b"words not understood\n"
+        )?
+    );
     Ok(())
 }
 
