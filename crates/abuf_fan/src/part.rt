@@ -29,7 +29,8 @@ fn draw_one(work: &Work, brush: &mut Brush, pass: &mut Pass, number: u32)
     requires credit { length brush.old.batch + work.now.region.w * work.now.region.h ≤ pass.old.view.credit }
     ensures brush { (brush.new.region ≡ work.now.region) × (brush.new.pattern ≡ work.now.pattern) }
     ensures frame { pass.new.frame ≡ pass.old.frame }
-    ensures passes { Passes brush.old.batch (fragments_of work.now.tris.now (offsets_of work.now.pattern) work.now.region number) brush.new.batch pass.old.view pass.new.view }
+    ensures passes { Passes brush.old.batch (fragments_of work.now.tris.now (offsets_of work.now.pattern) work.now.region number)
+        brush.new.batch pass.old.view pass.new.view }
     ensures few { pass.old.view.credit + length brush.new.batch ≤ pass.new.view.credit + length brush.old.batch + work.now.region.w * work.now.region.h }
 {
     let triangle = &work.tris[number as usize];

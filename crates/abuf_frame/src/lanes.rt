@@ -77,7 +77,7 @@ impl Closed {
     /// The lists of the eight pixels from this one on, each in the order of its walk, and an empty one for each pixel past
     /// the last. A walk along one list waits for memory at each node. Eight are walked here side by side, so that their waits
     /// overlap, and neighbouring nodes are read while they are in the cache. The cost grows with the longest list and with the
-    /// sum of the eight. After want of memory the buffers hold some of the payloads.
+    /// sum of the eight. Where memory runs out, the buffers hold some of the payloads.
     pub(crate) fn copy_eight(&self, pixel: u32, lists: &mut [Vec<u64>; 8]) -> Result<(), NoMemory>
         requires { pixel < self.now.pixels }
         ensures length { length lists.new ≡ 8 }

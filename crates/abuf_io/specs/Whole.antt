@@ -5,7 +5,7 @@ use Rattle.abuf_io.specs.declared.whole.ReadEnd.{ReadEnd}
 use Rattle.abuf_io.specs.declared.whole.ReadEnd.TheVariants.{ReadFault, TooLong, Memory}
 
 -- Under this limit it gives up after n bytes. They are limit + 1 exactly where the answer is
--- `TooLong`; want of memory may come at any number.
+-- `TooLong`; memory may run out at any number.
 abbrev pub StopsAfter : ReadEnd → ℕ → ℕ → Type 0
 StopsAfter ReadFault limit n = n ≤ limit
 StopsAfter TooLong limit n = n ≡ limit + 1

@@ -57,12 +57,12 @@ abbrev pub fault_from : List (List ℕ) → List (List ℕ) → Option (ℕ × W
 fault_from before [] = None
 fault_from before (line ∷ later) = fault_or (length before + 1) (why (above_of before) line) (fault_from (before ++ line ∷ []) later)
 
--- the fault is want of memory, or this line's cause
+-- the fault is that memory ran out, or this line's cause
 abbrev pub TellsWhy : ℕ → Option Why → ObjFault → Type 0
 TellsWhy number why Memory = Unit {0}
 TellsWhy number why (Line line cause) = (line ≡ number) × (why ≡ Some cause)
 
--- the fault is want of memory, or the first one
+-- the fault is that memory ran out, or the first one
 abbrev pub TellsFirst : Option (ℕ × Why) → ObjFault → Type 0
 TellsFirst first Memory = Unit {0}
 TellsFirst first (Line line cause) = first ≡ Some (line, cause)

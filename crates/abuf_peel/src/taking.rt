@@ -34,7 +34,8 @@ fn painted(paints: &[Paint], word: u64, under: [u16; 3]) -> [u16; 3]
 /// Every sample lays the paint of the primitive of its word over its colour.
 pub(crate) fn take_colours(paints: &[Paint], best: &[u64], colours: &mut [[u16; 3]])
     requires size { length best.now ≡ length colours.old }
-    requires known { (j : ℕ) → j < length best.now → (slice_index_or best.now j 0 ≡ no_word) ⊎ (prim_of (slice_index_or best.now j 0) < length paints.now) }
+    requires known { (j : ℕ) → j < length best.now → (slice_index_or best.now j 0 ≡ no_word)
+        ⊎ (prim_of (slice_index_or best.now j 0) < length paints.now) }
     ensures { Rewrites (λ j under. painted paints.now (slice_index_or best.now j 0) under) 0 (length colours.old) colours.old colours.new }
 {
     for i in 0..best.len() {

@@ -163,7 +163,8 @@ fn all_behind(start: u32, z: i64) -> bool
 #[inline(always)]
 fn rows_before(t: &ScreenTri, region: Region, margin: u32) -> bool
     requires { margin ≤ 128 }
-    ensures { IsTrue result → (p : ℕ) → p < region.y0 + region.h → IsBefore p margin t.now.a.y × IsBefore p margin t.now.b.y × IsBefore p margin t.now.c.y }
+    ensures { IsTrue result → (p : ℕ) → p < region.y0 + region.h →
+        IsBefore p margin t.now.a.y × IsBefore p margin t.now.b.y × IsBefore p margin t.now.c.y }
 {
     let top = lowered(least(t.a.y, t.b.y, t.c.y), margin);
     all_before(region.y0() + region.h(), top)

@@ -88,7 +88,8 @@ impl Tally {
     #[inline(always)]
     pub(crate) fn all_with(self, colour: [u16; 3]) -> PixelSum
         requires { IsFair self }
-        ensures value { (colours : ℕ → Items ℕ) → Holds colours self → HaveColour colours self self.rest colour → result ≡ summed colours self.samples }
+        ensures value { (colours : ℕ → Items ℕ) → Holds colours self → HaveColour colours self self.rest colour →
+            result ≡ summed colours self.samples }
         ensures small { IsSmall self.samples result }
     {
         self.with(self.rest, colour).all()

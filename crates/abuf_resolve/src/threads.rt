@@ -188,7 +188,8 @@ impl<'a, 'b> Scene<'a, 'b> {
             alloc,
             threads as usize,
             &|_worker: usize| -> Result<Vec<Run>, NoMemory>
-                requires { (length closed.now.lists ≡ region.w * region.h) × (1 ≤ size) × (size ≤ LONGEST_RUN) × AreFragmentLists (offsets_of self.now.pattern) self.now.planes region closed.now.lists }
+                requires { (length closed.now.lists ≡ region.w * region.h) × (1 ≤ size) × (size ≤ LONGEST_RUN)
+                    × AreFragmentLists (offsets_of self.now.pattern) self.now.planes region closed.now.lists }
                 ensures { IfOk result (λ runs. All (IsRun self.entry.now region closed.entry.now.lists size) runs.items) }
             { self.take_runs(alloc, closed, region, size, next) },
         )?;

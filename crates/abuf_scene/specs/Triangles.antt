@@ -63,7 +63,7 @@ triangles libraries obj = triangles_by (material libraries) obj
 unfoldable pub unknown : List (List ℕ) → Obj → Option ℕ
 unknown libraries obj = unknown_by (material libraries) obj
 
--- a refusal tells the line of the unknown material; want of memory may always come
+-- a refusal tells the line of the unknown material; memory may always run out
 abbrev pub Tells : Option ℕ → SceneFault → Type 0
 Tells found (UnknownMaterial line) = found ≡ Some line
 Tells found Memory = ⊤

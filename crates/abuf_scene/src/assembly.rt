@@ -88,7 +88,8 @@ pub fn assemble(alloc: Global, obj: &Obj, materials: &Materials) -> Result<Scene
     ensures triangles_by_name { IfOk result (λ s. s.triangles ≡ triangles_by (look_up materials.now) obj.now) }
     ensures fault { (libraries : Items (Items ℕ)) → StandsFor libraries materials.now → IfErr result (Tells (unknown libraries obj.now)) }
     ensures known { (libraries : Items (Items ℕ)) → StandsFor libraries materials.now → OnOk result (unknown libraries obj.now ≡ None) }
-    ensures triangles { (libraries : Items (Items ℕ)) → StandsFor libraries materials.now → IfOk result (λ s. s.triangles ≡ triangles libraries obj.now) }
+    ensures triangles { (libraries : Items (Items ℕ)) → StandsFor libraries materials.now →
+        IfOk result (λ s. s.triangles ≡ triangles libraries obj.now) }
     ensures count { IfOk result (λ scene. length scene.triangles ≡ triangles_in obj.now.faces) }
     ensures near { All IsInRange obj.now.points → IfOk result (λ scene. All IsTriangleInRange scene.triangles) }
 {

@@ -14,7 +14,7 @@ use Rattle.abuf_top.specs.declared.top.Ran.{Ran}
 use Rattle.abuf_cli.specs.Jobs.{job}
 use Rattle.abuf_top.proofs.Running.{run_stopped}
 
--- Nothing is asked of what stops a run for want of memory.
+-- Nothing is asked of what stops a run that is out of memory.
 any : {T : Type 0} (line : Option T) → IfSome line (λ _. Unit {0})
 any None = tt
 any (Some l) = tt

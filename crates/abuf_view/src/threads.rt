@@ -106,8 +106,10 @@ pub fn project_faces<R: Threads + Sync>(
     requires threads { (1 ≤ threads) × (threads ≤ MAX_THREADS) }
     ensures fault { (libraries : Items (Items ℕ)) → StandsFor libraries materials.now → IfErr result (Tells (unknown libraries obj.now)) }
     ensures known { (libraries : Items (Items ℕ)) → StandsFor libraries materials.now → OnOk result (unknown libraries obj.now ≡ None) }
-    ensures tris { (libraries : Items (Items ℕ)) → StandsFor libraries materials.now → HasTriangles result (prims camera.now (triangles libraries obj.now)) }
-    ensures paints { (libraries : Items (Items ℕ)) → StandsFor libraries materials.now → HasPaints result (prims camera.now (triangles libraries obj.now)) }
+    ensures tris { (libraries : Items (Items ℕ)) → StandsFor libraries materials.now →
+        HasTriangles result (prims camera.now (triangles libraries obj.now)) }
+    ensures paints { (libraries : Items (Items ℕ)) → StandsFor libraries materials.now →
+        HasPaints result (prims camera.now (triangles libraries obj.now)) }
 {
     let faces = obj.faces.as_slice().len();
     let table = PointTable::new(

@@ -149,7 +149,8 @@ pub fn report<R: Threads + Sync>(
     requires not_full { closed.now.fragments ≤ closed.now.nodes }
     requires words { AllZip (AreWordsAt (fragments watch.now.primitives.triangles.now watch.now.target.pattern watch.now.target.region))
         watch.now.places.now words.now }
-    ensures { IfOk result (λ text. string_bytes text ≡ report_text watch.now.primitives.triangles.now watch.now.primitives.paints.now watch.now.target.pattern
+    ensures { IfOk result (λ text. string_bytes text ≡
+        report_text watch.now.primitives.triangles.now watch.now.primitives.paints.now watch.now.target.pattern
         watch.now.target.background watch.now.target.region watch.now.places.now) }
 {
     region_law(watch.target.region);

@@ -103,7 +103,8 @@ fn read_shots(alloc: Global, content: &[u8]) -> Result<List<Shot>, Stop>
 
 // The shots of the path of this name.
 fn fetch_path<H: Shelf>(alloc: Global, shelf: &mut H, name: &[u8]) -> Result<List<Shot>, Stop>
-    ensures told { H.tells shelf.old ≡ true → LoadsPath (path_verdict (H.holds shelf.old name.now)) (Rose (H.faults shelf.old) (H.faults shelf.new)) result }
+    ensures told { H.tells shelf.old ≡ true →
+        LoadsPath (path_verdict (H.holds shelf.old name.now)) (Rose (H.faults shelf.old) (H.faults shelf.new)) result }
     ensures cause { IfErr result (HasTaskCause (Rose (H.faults shelf.old) (H.faults shelf.new))) }
     ensures shots { IfOk result (All IsShot) }
     ensures few { IfOk result (λ shots. length shots ≤ MAX_IMAGES) }
