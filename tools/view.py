@@ -3,7 +3,7 @@
 
     view.py MODEL.obj [--turn=A,B,C,D] [--size WxH] [--samples S] [--port N] [--no-browser] [--abuf PATH]
     view.py A B                 compares two images: PAM, PPM or PNG
-    view.py FOLDER              compares the pairs NAME.abuf.pam and NAME.driver.pam of a folder, such as examples/driver/run.py keeps
+    view.py FOLDER              compares the pairs of a folder: NAME.abuf.pam with each NAME.OTHER.pam (or .png, .ppm)
 
     view.py --size 800x600 examples/lantern.obj
 
@@ -260,7 +260,7 @@ def pairs_of_folder(folder: str) -> list[tuple[str, str, str]]:
             others = [other for other in names if re.fullmatch(re.escape(match.group(1)) + r"\.(?!abuf\.|where\.)\w+\.(pam|png|ppm)", other)]
             found += [(match.group(1), os.path.join(folder, name), os.path.join(folder, other)) for other in others]
     if not found:
-        raise Fault(f"{folder} has no pairs NAME.abuf.pam and NAME.driver.pam")
+        raise Fault(f"{folder} has no pairs NAME.abuf.pam and NAME.OTHER.pam")
     return found
 
 
