@@ -7,12 +7,13 @@
     bench.py --stored [OPTIONS]     draws scenes in one frame, in bands, and layer by layer
 
 The scenes are written into a new folder, and of several rounds the best counts. Beside another program, which is given the same
-words and the same scene on standard input, both run in turn, and the ratio of their times is printed. README.md here tells what
-the scenes are and how the figures are read.
+words and the same scene on standard input, both run in turn, and the ratio of their times is printed. One of the scenes is too
+large for the pool, and has to be refused. README.md here tells what the scenes are and how the figures are read; growth.py draws
+the growth.
 
     bench.py --only full,deep --rounds 9        two scenes, the best of nine rounds
 
-The status is 0, or 1 where a run failed or an output isn't the same in every round.
+The status is 0, or 1 where a run ended in another status than it has to or an output isn't the same in every round.
 """
 
 import datetime
@@ -37,6 +38,10 @@ class Failed(Exception):
     """What is told of a run that can't be measured."""
 
 
+NOTHING = hashlib.sha256().hexdigest()  # of an output that is empty
+TOLD = re.compile(rb"pool full: (\d+) fragments")  # how a refusal tells the number of fragments
+
+
 class Run(NamedTuple):
     seconds: float
     processor: float  # seconds of all threads, in the program and in the kernel
@@ -44,6 +49,11 @@ class Run(NamedTuple):
     status: int
     output: str  # its hash
     error: bytes
+
+    def fragments(self):
+        """The fragments that the refusal of a full pool tells, or 0 where there is no such refusal."""
+        found = TOLD.match(self.error)
+        return int(found.group(1)) if found else 0
 
 
 # ---- running
@@ -77,27 +87,30 @@ class Bench:
             child.returncode = os.waitstatus_to_exitcode(status)
             output.seek(0)
             error.seek(0)
+            # The output is read in pieces, since Python's own peak is the least that can be told of the next run.
             return Run(seconds, usage.ru_utime + usage.ru_stime, usage.ru_maxrss, child.returncode,
-                       hashlib.sha256(output.read()).hexdigest(), error.read())
+                       hashlib.file_digest(output, "sha256").hexdigest(), error.read())
 
-    def best(self, task, threads, status=0):
+    def best(self, task, threads):
         """The best run of each program, all of them in turn."""
         runs = [[] for _ in self.programs]
         for _ in range(self.rounds):
             for path, done in zip(self.programs, runs):
                 done.append(self.run(path, task, threads))
-                if done[-1].status != status:
-                    raise Failed(f"{os.path.basename(path)} {task.words}: status {done[-1].status}, "
+                if done[-1].status != task.status:
+                    wanted = f" in place of {task.status}" if task.status else ""
+                    raise Failed(f"{os.path.basename(path)} {task.words}: status {done[-1].status}{wanted}, "
                                  f"{done[-1].error.decode(errors='replace').strip()}")
-        if len({run.output for run in runs[0]}) > 1:
+        if len({(run.output, run.fragments()) for run in runs[0]}) > 1:
             raise Failed("the output isn't the same in every round")
+        if task.status and runs[0][0].output != NOTHING:
+            raise Failed("a refused run wrote something")
         return [min(done) for done in runs]
 
     def fragments(self, task):
         """The number of fragments, which a pool of one node tells."""
-        told = self.run(self.programs[0], task, 4, nodes=1)
-        found = re.match(rb"pool full: (\d+) fragments", told.error)
-        return int(found.group(1)) if found else 0
+        counted = [task._replace(words=words) for words in task.counted or (task.words,)]
+        return sum(self.run(self.programs[0], of_it, 4, nodes=1).fragments() for of_it in counted)
 
 
 # ---- printing
@@ -157,8 +170,10 @@ def told(given):
     """The machine and the conditions, and in Markdown the command."""
     pages = f"GLIBC_TUNABLES={given.tunables}" if given.tunables else "pages of the usual size"
     command = f"`bench/bench.py {shlex.join(sys.argv[1:])}`: " if given.table else ""
+    threads = given.threads[0]
+    alone = f", on {threads} thread{'s' * (threads > 1)}" if given.kind in ("growth", "reading") else ""
     return (f"{command}{datetime.date.today()}, {processor()}, {os.cpu_count()} processors, "
-            f"load {os.getloadavg()[0]:.1f} at the start; {pages}; best of {given.rounds}")
+            f"load {os.getloadavg()[0]:.1f} at the start; {pages}; best of {given.rounds}{alone}")
 
 
 # ---- what is measured
@@ -182,11 +197,13 @@ def measure_scenes(bench, given):
 
     def one(name):
         task = scenes.SCENES[name](bench.folder)
-        fragments = bench.fragments(task)
+        # A refused run tells its fragments itself, and has found them all.
+        fragments = 0 if task.status == scenes.FULL else bench.fragments(task)
         outputs = set()
         for threads in given.threads:
             runs = bench.best(task, threads)
-            outputs.add(runs[0].output)
+            outputs.add((runs[0].output, runs[0].fragments()))
+            fragments = runs[0].fragments() or fragments
             rate = fragments / runs[0].seconds / 1e6
             table.row([name, str(threads), str(fragments), milliseconds(runs[0].seconds), milliseconds(runs[0].processor),
                        f"{rate:.2f}", mebibytes(runs[0]), *beside(runs), *beside_more(runs)])
@@ -240,7 +257,7 @@ def measure_reading(bench, given):
 
     def one(kind):
         task, size = scenes.reading(bench.folder, kind, given.bytes)
-        runs = bench.best(task, given.threads[0], status=3)
+        runs = bench.best(task, given.threads[0])
         table.row([kind, f"{size / 2 ** 20:.1f} MiB", milliseconds(runs[0].seconds), f"{size / 2 ** 20 / runs[0].seconds:.0f}",
                    *beside(runs)])
 

@@ -7,6 +7,7 @@ that starts it.
 import math
 import os
 import random
+import re
 import shutil
 import sys
 from typing import NamedTuple
@@ -15,20 +16,26 @@ import obj_files
 
 sys.path.insert(0, os.path.join(os.path.dirname(os.path.dirname(os.path.abspath(__file__))), "tools"))
 import reference  # noqa: E402
+import turntable  # noqa: E402
 from abuflib.program import EXAMPLES  # noqa: E402
 from abuflib.scene import MOST_NODES, commands_of  # noqa: E402
 
 EMPTY = "empty.obj"
 LIBRARY = "four.mtl"
 AWAY = "--move=4000,0,-400"  # the camera looks past the scene: it is read and projected, and nothing of it is drawn
+FULL = 5  # the status of a pool that is too small for the fragments
+FAULTY = 3  # that of a scene with a faulty line
 
 
 class Task(NamedTuple):
-    """A run: the words, the scene on standard input, and the most fragments."""
+    """A run: the words, the scene on standard input, the most fragments, and the status in which it has to end. Where a pool of
+    one node doesn't tell the fragments of these words, the further words are those whose fragments are added up in their place."""
 
     words: str
     scene: str = EMPTY
     nodes: int = 4194304
+    status: int = 0
+    counted: tuple[str, ...] = ()
 
 
 # ---- writers
@@ -92,6 +99,12 @@ def write_pile(file, count):
         file.write("f {} {} {}\n".format(*(corner * 128 + chance.randrange(128) + 1 for corner in range(3))))
 
 
+def write_demonstration(file, count=500):
+    """The triangles of the demonstration scene with the four materials, so that half of them are opaque."""
+    scene = reference.demonstration(count)[0].decode().replace("mtllib demo.mtl", f"mtllib {LIBRARY}")
+    file.write(re.sub(r"usemtl m(\d)", lambda found: f"usemtl m{int(found[1]) % 4}", scene))
+
+
 def write(folder, name, writer, *size):
     """Writes a scene, unless it is there, and gives its name."""
     path = os.path.join(folder, name)
@@ -115,16 +128,61 @@ def words_of(name):
         return commands_of(file.read())[0].removeprefix("abuf ")
 
 
+# ---- sequences
+
+
+class Round(NamedTuple):
+    """A path of a camera that goes once round a scene: its images, the tilt and the shift of turntable.py, and the words of all
+    images."""
+
+    images: int
+    words: str
+    tilt: tuple[int, int]
+    shift: tuple[str, str, str]
+
+    def shots(self) -> list[str]:
+        """The lines of the path, one an image."""
+        return turntable.path(self.images, self.tilt, self.shift, "").splitlines()[1:]
+
+
+LANTERN = Round(100, "--size 320x240 --background 0.04,0.045,0.09 --focal 2.7", (8, 1), ("0", "0.36", "-8.6"))
+
+
+def camera(shot: str) -> list[str]:
+    """The words with which render draws the image of a line of a path."""
+    parts = shot.split()
+    return ["--turn=" + ",".join(parts[:4]), "--move=" + ",".join(parts[4:])]
+
+
+def write_lines(folder: str, name: str, lines: list[str]) -> None:
+    with open(os.path.join(folder, name), "w") as file:
+        file.writelines(line + "\n" for line in lines)
+
+
+def sequence(folder: str) -> Task:
+    """The lantern from all sides. A full pool is told of the first image alone, so each image is counted by itself."""
+    shots = LANTERN.shots()
+    write_lines(folder, "lantern.path", shots)
+    return Task(f"sequence lantern.path {LANTERN.words}", example(folder, "lantern"),
+                counted=tuple(" ".join(["render", LANTERN.words, *camera(shot)]) for shot in shots))
+
+
 # ---- scenes
+
+LAYERS = "render --size 160x120"  # with layers there is no pool, so the fragments are those of the same words without them
 
 # Each scene of the bench: its name, and the function that writes it into a folder and gives its task.
 SCENES = {
     "full": lambda folder: Task("demo 4000", nodes=MOST_NODES),
     "deep": lambda folder: Task("demo 200000 --size 64x48", nodes=MOST_NODES),
+    "deep8": lambda folder: Task("demo 20000 --size 64x48 --samples 8", nodes=MOST_NODES),
     "mesh": lambda folder: Task("render --size 1280x960 --samples 8", write(folder, "mesh.obj", write_mesh)),
     "soup": lambda folder: Task("render --size 1280x960 --samples 8", write(folder, "soup.obj", write_soup)),
     "text": lambda folder: Task("render --size 1x1", write(folder, "text.obj", write_text), MOST_NODES),
+    "refuse": lambda folder: Task("demo 20000", nodes=MOST_NODES, status=FULL),
+    "peel": lambda folder: Task(f"{LAYERS} --peel", write(folder, "demo.obj", write_demonstration), counted=(LAYERS,)),
     "lantern": lambda folder: Task(words_of("lantern"), example(folder, "lantern")),
+    "sequence": sequence,
     "white": lambda folder: Task("render --size 4x4", example(folder, "white")),
 }
 
@@ -223,4 +281,4 @@ def reading(folder, kind, size):
     with open(path, "wb") as file:
         obj_files.write(kind, size, file)
         file.write(b"f 1\n")
-    return Task("render --size 1x1", kind + ".obj"), os.path.getsize(path)
+    return Task("render --size 1x1", kind + ".obj", status=FAULTY), os.path.getsize(path)

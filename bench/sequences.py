@@ -25,17 +25,13 @@ from typing import NamedTuple
 
 import bench
 import scenes
-import turntable
 from abuflib import program, report
 
 
 class Sequence(NamedTuple):
-    """A path once round a scene, and the words of all its images."""
+    """A path once round a scene, and the scene."""
 
-    images: int
-    words: str
-    tilt: tuple
-    shift: tuple
+    round: scenes.Round
     scene: object  # writes the scene into a folder, and gives its name
 
 
@@ -47,11 +43,10 @@ def mesh(folder):
     return scenes.write(folder, "mesh.obj", scenes.write_mesh)
 
 
-LANTERN = "--size 320x240 --background 0.04,0.045,0.09 --focal 2.7"
 SEQUENCES = {
-    "lantern": Sequence(100, LANTERN, (8, 1), ("0", "0.36", "-8.6"), lantern),
-    "lantern8": Sequence(100, LANTERN + " --samples 8", (8, 1), ("0", "0.36", "-8.6"), lantern),
-    "mesh": Sequence(20, "--size 320x240", (8, 1), ("0", "0", "-9"), mesh),
+    "lantern": Sequence(scenes.LANTERN, lantern),
+    "lantern8": Sequence(scenes.LANTERN._replace(words=scenes.LANTERN.words + " --samples 8"), lantern),
+    "mesh": Sequence(scenes.Round(20, "--size 320x240", (8, 1), ("0", "0", "-9")), mesh),
 }
 
 
@@ -112,30 +107,20 @@ class Clock:
         return b"".join(found)
 
 
-def write_path(clock, name, lines):
-    with open(clock.path(name), "w") as file:
-        file.writelines(line + "\n" for line in lines)
-
-
 def ways(clock, name, scene, given, threads):
     """For each way to draw the sequence its runs, and how many go on at once."""
-    sequence = SEQUENCES[name]
-    shots = turntable.path(sequence.images, sequence.tilt, sequence.shift, "").splitlines()[1:]
-    words = [*sequence.words.split(), "--threads", str(threads)]
-    write_path(clock, "whole.path", shots)
+    of_all = SEQUENCES[name].round.words.split()
+    shots = SEQUENCES[name].round.shots()
+    words = [*of_all, "--threads", str(threads)]
+    scenes.write_lines(clock.folder, "whole.path", shots)
     yield "sequence", [(["sequence", "whole.path", *words], scene, "whole")], 1
-    renders = []
-    for number, shot in enumerate(shots):
-        parts = shot.split()
-        camera = ["--turn=" + ",".join(parts[:4]), "--move=" + ",".join(parts[4:])]
-        renders.append((["render", *words, *camera], scene, f"image{number}"))
-    yield "render", renders, 1
+    yield "render", [(["render", *words, *scenes.camera(shot)], scene, f"image{number}") for number, shot in enumerate(shots)], 1
     if given.pieces:
         pieces = []
         for number in range(given.pieces):
             first, end = (k * len(shots) // given.pieces for k in (number, number + 1))
-            write_path(clock, f"{number}.path", shots[first:end])
-            pieces.append((["sequence", f"{number}.path", *sequence.words.split(), "--threads", "1"], scene, f"piece{number}"))
+            scenes.write_lines(clock.folder, f"{number}.path", shots[first:end])
+            pieces.append((["sequence", f"{number}.path", *of_all, "--threads", "1"], scene, f"piece{number}"))
         yield f"{given.pieces} pieces at once", pieces, given.pieces
 
 
@@ -146,7 +131,7 @@ def best_of(costs):
 
 def measure(clock, name, given, table):
     scene = SEQUENCES[name].scene(clock.folder)
-    images = SEQUENCES[name].images
+    images = SEQUENCES[name].round.images
     outputs = set()
     for threads in given.threads:
         runs = list(ways(clock, name, scene, given, threads))

@@ -15,6 +15,7 @@ import subprocess
 import sys
 import tempfile
 import time
+from itertools import combinations
 from typing import Any
 
 sys.path.insert(0, os.path.dirname(os.path.dirname(os.path.abspath(__file__))))
@@ -29,6 +30,16 @@ LEFT: dict[str, Any] = {"button": "left", "clickCount": 1}
 def chromium() -> str | None:
     """The browser, or None where none is installed."""
     return next(filter(None, map(shutil.which, NAMES)), None)
+
+
+# Where the texts of an SVG lie, and what has an outline, in the units of the file.
+BOXES = """(() => {
+    const boxes = (selector) => [...document.querySelectorAll(selector)].map((element) => {
+        const box = element.getBBox();
+        return [box.x, box.y, box.x + box.width, box.y + box.height, element.textContent];
+    });
+    return {texts: boxes('text'), rects: boxes('rect')};
+})()"""
 
 
 class Browser:
@@ -151,9 +162,27 @@ class Browser:
             " return [box.left, box.top, box.width, box.height]; })()")
         return left + x * width, top + y * height
 
+    def texts_of(self, path: str) -> tuple[list[str], list[str]]:
+        """The texts of an SVG in their order, and which of them are cut off, leave their boxes or lie over another."""
+        self.open(f"file://{path}")
+        self.wait(f"document.readyState === 'complete' && location.pathname === {json.dumps(path)}")
+        found = self.value(BOXES)
+        texts, outer = found["texts"], found["rects"][0]
+        faults = [f"{text[4]}: is cut off" for text in texts
+                  if not (outer[0] + 2 < text[0] and text[2] < outer[2] - 2 and outer[1] < text[1] and text[3] < outer[3])]
+        faults += [f"{text[4]}: leaves its box" for text in texts for rect in found["rects"]
+                   if overlap(text, rect, 1) and not (rect[0] < text[0] and text[2] < rect[2])]
+        faults += [f"{one[4]} and {other[4]}" for one, other in combinations(texts, 2) if overlap(one, other, 3)]
+        return [text[4] for text in texts], faults
+
     def picture(self) -> bytes:
         """The page as a PNG."""
         return base64.b64decode(self.order("Page.captureScreenshot", format="png")["data"])
+
+
+def overlap(one: list[Any], other: list[Any], slack: float) -> bool:
+    """Whether two boxes share more than a narrow strip."""
+    return all(min(one[i + 2], other[i + 2]) - max(one[i], other[i]) > slack for i in (0, 1))
 
 
 class Viewer:

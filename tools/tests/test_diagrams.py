@@ -5,7 +5,6 @@ import re
 import tempfile
 import unittest
 import xml.etree.ElementTree as ElementTree
-from itertools import combinations
 from unittest import mock
 
 import browser
@@ -207,41 +206,13 @@ class Measured(unittest.TestCase):
         self.assertIn(f"{threads} threads", texts("times"))
 
 
-# Where the texts lie, and what has an outline, in the units of the file.
-BOXES = """(() => {
-    const boxes = (selector) => [...document.querySelectorAll(selector)].map((element) => {
-        const box = element.getBBox();
-        return [box.x, box.y, box.x + box.width, box.y + box.height, element.textContent];
-    });
-    return {texts: boxes('text'), rects: boxes('rect')};
-})()"""
-
-
 @unittest.skipIf(browser.chromium() is None, "Chromium isn't installed (Debian's package chromium)")
 class Shown(unittest.TestCase):
     def test_no_text_is_cut_off_or_lies_over_another(self):
         with tempfile.TemporaryDirectory() as folder, browser.Browser() as page:
             for name in diagrams.DIAGRAMS:
                 path = helping.write(os.path.join(folder, f"{name}.svg"), drawn(name).encode())
-                page.open(f"file://{path}")
-                page.wait(f"document.readyState === 'complete' && location.pathname.endsWith('/{name}.svg')")
-                found = page.value(BOXES)
-                self.assertEqual([text[4] for text in found["texts"]], texts(name))
-                outer = found["rects"][0]
-                for text in found["texts"]:
-                    told = f"{name}: {text[4]}"
-                    self.assertTrue(outer[0] + 2 < text[0] and text[2] < outer[2] - 2, told)
-                    self.assertTrue(outer[1] < text[1] and text[3] < outer[3], told)
-                    for rect in found["rects"]:
-                        if overlap(text, rect, 1):
-                            self.assertTrue(rect[0] < text[0] and text[2] < rect[2], f"{told}: leaves its box")
-                for one, other in combinations(found["texts"], 2):
-                    self.assertFalse(overlap(one, other, 3), f"{name}: {one[4]} and {other[4]}")
-
-
-def overlap(one, other, slack):
-    """Whether two boxes share more than a narrow strip."""
-    return all(min(one[i + 2], other[i + 2]) - max(one[i], other[i]) > slack for i in (0, 1))
+                self.assertEqual(page.texts_of(path), (texts(name), []), name)
 
 
 if __name__ == "__main__":

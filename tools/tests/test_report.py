@@ -15,9 +15,10 @@ from abuflib.report import Fault
 SCRIPTS = ["agree.py", "apng.py", "bands_and_layers.py", "calling.py", "check_docs.py", "compare.py", "completions.py",
            "coverage_check.py", "diagrams.py", "fit.py", "fix_obj.py", "fuzz.py", "lantern.py", "outside.py", "pictures.py", "pieces.py", "prove.py",
            "refused_memory.py", "turntable.py", "view.py", "watch.py", "wrong_bodies.py",
-           "../bench/bench.py", "../bench/obj_files.py", "../bench/sequences.py", "tests/run.py", "tests/browser.py"]
+           "../bench/bench.py", "../bench/figures.py", "../bench/growth.py", "../bench/obj_files.py", "../bench/sequences.py",
+           "tests/run.py", "tests/browser.py"]
 WITH_ABUF = ["bands_and_layers.py", "compare.py", "coverage_check.py", "fuzz.py", "outside.py", "pictures.py", "pieces.py",
-             "refused_memory.py", "../bench/bench.py", "../bench/sequences.py"]
+             "refused_memory.py", "../bench/bench.py", "../bench/figures.py", "../bench/sequences.py"]
 
 
 def ended(main):
