@@ -1,8 +1,9 @@
 -- What the words of a command line ask for.
-use Rattle.std.specs.Prelude.{Bool, ℕ, List, Option}
+use Rattle.std.specs.Prelude.{ℕ, List}
 use Rattle.abuf_raster.specs.declared.pattern.Pattern.{Pattern}
 use Rattle.abuf_view.specs.Camera.{Camera}
 use Rattle.abuf_cli.specs.declared.job.What.{What}
+use Rattle.abuf_cli.specs.declared.job.Storage.{Storage}
 
 -- What is to be made, and how its image is drawn and stored.
 pub record Job : Type 0 where
@@ -13,12 +14,11 @@ pub record Job : Type 0 where
   pub nodes : ℕ
   pub background : List ℕ
   pub maxval : ℕ
-  pub bands : Option ℕ
-  pub peel : Bool
+  pub storage : Storage
 
 -- The job of these values.
-abbrev pub asked : What → Camera → Pattern → ℕ → ℕ → List ℕ → ℕ → Option ℕ → Bool → Job
-asked what camera pattern threads nodes background maxval bands peel = record {
+abbrev pub asked : What → Camera → Pattern → ℕ → ℕ → List ℕ → ℕ → Storage → Job
+asked what camera pattern threads nodes background maxval storage = record {
   what = what;
   camera = camera;
   pattern = pattern;
@@ -26,6 +26,5 @@ asked what camera pattern threads nodes background maxval bands peel = record {
   nodes = nodes;
   background = background;
   maxval = maxval;
-  bands = bands;
-  peel = peel;
+  storage = storage;
 }

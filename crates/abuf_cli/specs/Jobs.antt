@@ -11,10 +11,11 @@ use Rattle.abuf_cli.specs.declared.values.Size.{Size}
 use Rattle.abuf_cli.specs.Job.{Job}
 use Rattle.abuf_cli.specs.declared.settings.Pose.{Pose}
 use Rattle.abuf_cli.specs.declared.settings.Lens.{Lens}
-use Rattle.abuf_cli.specs.declared.settings.Storage.{Storage}
 use Rattle.abuf_cli.specs.declared.settings.Settings.{Settings}
 use Rattle.abuf_cli.specs.declared.job.What.{What}
 use Rattle.abuf_cli.specs.declared.job.What.TheVariants as what
+use Rattle.abuf_cli.specs.declared.job.Storage.{Storage}
+use Rattle.abuf_cli.specs.declared.job.Storage.TheVariants as stored
 use Rattle.abuf_cli.specs.declared.job.Opt.{Opt}
 use Rattle.abuf_cli.specs.declared.job.Opt.TheVariants as opt
 use Rattle.abuf_cli.specs.declared.job.WordFault.{WordFault}
@@ -61,17 +62,17 @@ lens_of rows =
 -- How the fragments of a render are stored, by the text of `bands`, where it is given, and whether `peel` is given: with
 -- it, bands are refused whatever their text.
 abbrev pub render_storage : ℕ → Option Text → Bool → Result Storage WordFault
-render_storage height None peel = Ok (record { bands = None; peel = peel })
+render_storage height None true = Ok stored.Layers
+render_storage height None false = Ok stored.OneFrame
 render_storage height (Some text) true = Err (Value opt.Bands)
-render_storage height (Some text) false =
-    need opt.Bands (bands_of height text) (λ bands. Ok (record { bands = Some bands; peel = false }))
+render_storage height (Some text) false = need opt.Bands (bands_of height text) (λ bands. Ok (stored.Bands bands))
 
 -- How the fragments of a command are stored, where the image has this height: only `render` has bands, or peels.
 abbrev pub storage_of : CommandName → ℕ → List Row → Result Storage WordFault
 storage_of Render height rows = render_storage height (first_of (name_of opt.Bands) rows) (is_given (codes "peel") rows)
-storage_of Pick height rows = Ok (record { bands = None; peel = false })
-storage_of Demo height rows = Ok (record { bands = None; peel = false })
-storage_of Sequence height rows = Ok (record { bands = None; peel = false })
+storage_of Pick height rows = Ok stored.OneFrame
+storage_of Demo height rows = Ok stored.OneFrame
+storage_of Sequence height rows = Ok stored.OneFrame
 
 -- The sequence of the path file of this name.
 abbrev pub sequence_of : List ℕ → Result What WordFault
@@ -118,8 +119,7 @@ job_from s what = record {
   nodes = s.nodes;
   background = s.background;
   maxval = s.maxval;
-  bands = s.storage.bands;
-  peel = s.storage.peel;
+  storage = s.storage;
 }
 
 -- The options come first, and then what the command makes.

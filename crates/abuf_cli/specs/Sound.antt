@@ -1,5 +1,5 @@
 -- What every job keeps to.
-use Rattle.std.specs.Prelude.{ℕ, Bool, true, false, length, Option, None, IfSome, ◌≡◌, ◌≤◌, ◌<◌, ◌⊎◌}
+use Rattle.std.specs.Prelude.{ℕ, length, ◌≡◌, ◌≤◌, ◌<◌, ◌⊎◌}
 use Rattle.abuf_num.specs.declared.limits.TheConstants.{MAX_NODES, MAX_THREADS}
 use Rattle.abuf_view.specs.Camera.{IsSize, IsLens, IsCamera}
 use Rattle.abuf_cli.specs.Poses.{IsPose}
@@ -7,6 +7,8 @@ use Rattle.abuf_cli.specs.declared.command.CommandName.{CommandName}
 use Rattle.abuf_cli.specs.declared.command.CommandName.TheVariants as command
 use Rattle.abuf_cli.specs.Job.{Job}
 use Rattle.abuf_cli.specs.declared.settings.Settings.{Settings}
+use Rattle.abuf_cli.specs.declared.job.Storage.{Storage}
+use Rattle.abuf_cli.specs.declared.job.Storage.TheVariants.{OneFrame, Bands, Layers}
 use Rattle.abuf_cli.specs.declared.job.What.{What}
 use Rattle.abuf_cli.specs.declared.job.What.TheVariants.{Render, Pick, Demo, Sequence}
 
@@ -25,13 +27,18 @@ command_of (Pick x y) = command.Pick
 command_of (Demo number) = command.Demo
 command_of (Sequence name) = command.Sequence
 
--- How the fragments are stored, where the image has this height: bands of `render` are from 1 to the height where they
--- are given, and aren't given where it peels; the other commands have no bands and don't peel.
-abbrev pub IsStorage : ℕ → What → Option ℕ → Bool → Type 0
-IsStorage height Render bands peel = (IfSome bands (λ b. (1 ≤ b) × (b ≤ height))) × (peel ≡ true → bands ≡ None)
-IsStorage height (Pick x y) bands peel = (bands ≡ None) × (peel ≡ false)
-IsStorage height (Demo number) bands peel = (bands ≡ None) × (peel ≡ false)
-IsStorage height (Sequence name) bands peel = (bands ≡ None) × (peel ≡ false)
+-- Bands are from 1 to this height.
+abbrev pub IsWithinHeight : ℕ → Storage → Type 0
+IsWithinHeight height OneFrame = Unit {0}
+IsWithinHeight height (Bands bands) = (1 ≤ bands) × (bands ≤ height)
+IsWithinHeight height Layers = Unit {0}
+
+-- How the fragments of a command are stored, where the image has this height: only those of `render` aren't always in one frame.
+abbrev pub IsStorage : ℕ → CommandName → Storage → Type 0
+IsStorage height command.Render storage = IsWithinHeight height storage
+IsStorage height command.Pick storage = storage ≡ OneFrame
+IsStorage height command.Demo storage = storage ≡ OneFrame
+IsStorage height command.Sequence storage = storage ≡ OneFrame
 
 -- What the settings of a command keep to.
 pub record IsSettings (name : CommandName) (s : Settings) : Type 0 where
@@ -41,7 +48,7 @@ pub record IsSettings (name : CommandName) (s : Settings) : Type 0 where
   pub pose : IsPose s.pose
   pub lens : IsLens s.lens.focal s.lens.near
   pub maxval : (s.maxval ≡ 255) ⊎ (s.maxval ≡ 65535)
-  pub storage : (what : What) → command_of what ≡ name → IsStorage s.size.height what s.storage.bands s.storage.peel
+  pub storage : IsStorage s.size.height name s.storage
 
 pub record IsJob (job : Job) : Type 0 where
   pub what : IsWhat job.camera.width job.camera.height job.what
@@ -49,4 +56,4 @@ pub record IsJob (job : Job) : Type 0 where
   pub threads : (1 ≤ job.threads) × (job.threads ≤ MAX_THREADS)
   pub nodes : (1 ≤ job.nodes) × (job.nodes ≤ MAX_NODES)
   pub maxval : (job.maxval ≡ 255) ⊎ (job.maxval ≡ 65535)
-  pub storage : IsStorage job.camera.height job.what job.bands job.peel
+  pub storage : IsStorage job.camera.height (command_of job.what) job.storage

@@ -30,6 +30,17 @@ pub enum What {
     Sequence { name: List<u8> },
 }
 
+/// How the fragments of an image are stored. `render` alone has bands or layers.
+#[derive(Clone, Copy, Debug, PartialEq, Eq)]
+pub enum Storage {
+    /// All of them in one frame.
+    OneFrame,
+    /// Those of one band of rows after another, in a frame of its own: the number of bands, from 1 to the height of the image.
+    Bands(u32),
+    /// None: the image is peeled layer by layer.
+    Layers,
+}
+
 /// What a text on the command line is given for, in the order in which their texts are refused: the options of the
 /// commands, the bands of `render`, and then the positional value of the command. `sequence` has neither a turn nor a shift.
 #[derive(Clone, Copy, Debug, PartialEq, Eq)]
@@ -86,8 +97,7 @@ pub struct Job {
     nodes: u32,
     background: [u16; 3],
     maxval: u32,
-    bands: Option<u32>,
-    peel: bool,
+    storage: Storage,
 }
 
 impl Model for Job {
@@ -96,9 +106,9 @@ impl Model for Job {
 
     ghost Value = { Asked };
 
-    ghost view = { λ j. asked j.what j.camera j.pattern j.threads j.nodes j.background j.maxval j.bands j.peel };
+    ghost view = { λ j. asked j.what j.camera j.pattern j.threads j.nodes j.background j.maxval j.storage };
 
-    ghost invariant = { λ j. IsJob (asked j.what j.camera j.pattern j.threads j.nodes j.background j.maxval j.bands j.peel) };
+    ghost invariant = { λ j. IsJob (asked j.what j.camera j.pattern j.threads j.nodes j.background j.maxval j.storage) };
 }
 
 impl Job {
@@ -120,8 +130,7 @@ impl Job {
             nodes: settings.nodes,
             background,
             maxval: settings.maxval,
-            bands: settings.storage.bands,
-            peel: settings.storage.peel,
+            storage: settings.storage,
         }
     }
 
@@ -188,23 +197,13 @@ impl Job {
         self.maxval
     }
 
-    /// The number of bands of rows that `render` draws one after another, from 1 to the height of the image, where it
-    /// is given; the other commands have none.
+    /// How the fragments of the image are stored: in one frame, but for `render` with bands or layers.
     #[inline(always)]
-    pub fn bands(&self) -> Option<u32>
-        ensures value { result ≡ self.now.bands }
+    pub fn storage(&self) -> Storage
+        ensures value { result ≡ self.now.storage }
         ensures job { IsJob self.now }
     {
-        self.bands
-    }
-
-    /// Whether `render` peels layer by layer, without bands; the other commands don't.
-    #[inline(always)]
-    pub fn peel(&self) -> bool
-        ensures value { result ≡ self.now.peel }
-        ensures job { IsJob self.now }
-    {
-        self.peel
+        self.storage
     }
 }
 

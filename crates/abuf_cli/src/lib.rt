@@ -16,4 +16,4 @@ mod splits;
 mod tests;
 mod values;
 
-pub use job::{Job, Opt, What, WordFault, read_words};
+pub use job::{Job, Opt, Storage, What, WordFault, read_words};

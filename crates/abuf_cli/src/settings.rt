@@ -5,7 +5,7 @@ ghost use Rattle.abuf_view.specs.Camera.{IsSize, IsLens, IsCamera, camera};
 ghost use Rattle.abuf_cli.specs.Poses.{IsPose};
 
 use crate::command::{CommandName, given_text, is_given, text_of};
-use crate::job::{Opt, What, WordFault};
+use crate::job::{Opt, Storage, WordFault};
 use crate::values::{
     Size, background_of, bands_of, focal_of, maxval_of, near_of, nodes_of, pattern_of, shift_of,
     size_of, threads_of, turn_of,
@@ -111,35 +111,23 @@ pub fn camera_of(size: Size, pose: Pose, lens: Lens) -> Camera
     }
 }
 
-/// How the fragments of a job are stored.
-#[derive(Clone, Copy)]
-pub struct Storage {
-    /// The number of bands, from 1 to the height of the image, where they are given.
-    pub bands: Option<u32>,
-    /// Whether layers are peeled; no bands are given then.
-    pub peel: bool,
-}
-
 impl Storage {
-    ghost use Rattle.std.specs.Prelude.{◌≡◌, ◌≤◌, true, None, option_map, IfOk, IfSome};
+    ghost use Rattle.std.specs.Prelude.{◌≡◌, option_map, IfOk};
     ghost use Rattle.clap.specs.Words.{rows_of, found_of};
     ghost use Rattle.abuf_cli.specs.Jobs.{render_storage, storage_of};
-    ghost use Rattle.abuf_cli.specs.Sound.{IsStorage, command_of};
+    ghost use Rattle.abuf_cli.specs.Sound.{IsWithinHeight, IsStorage};
 
     // How the fragments of a render are stored, by the text of `bands` and whether `peel` is given.
     fn of_render(height: u32, bands: Option<&str>, peel: bool) -> Result<Storage, WordFault>
         ensures value { result ≡ render_storage height (option_map (λ t. t.now) bands.entry) peel }
-        ensures bands { IfOk result (λ s. IfSome s.bands (λ b. (1 ≤ b) × (b ≤ height))) }
-        ensures apart { IfOk result (λ s. s.peel ≡ true → s.bands ≡ None) }
+        ensures sound { IfOk result (IsWithinHeight height) }
     {
         match bands {
-            None => Ok(Storage { bands: None, peel }),
+            None if peel => Ok(Storage::Layers),
+            None => Ok(Storage::OneFrame),
             Some(_) if peel => Err(WordFault::Value { option: Opt::Bands }),
             Some(text) => match bands_of(height, text.as_bytes()) {
-                Some(bands) => Ok(Storage {
-                    bands: Some(bands),
-                    peel: false,
-                }),
+                Some(bands) => Ok(Storage::Bands(bands)),
                 None => Err(WordFault::Value { option: Opt::Bands }),
             },
         }
@@ -148,7 +136,7 @@ impl Storage {
     // How the fragments of a command are stored, where the image has this height.
     fn read(name: CommandName, height: u32, matches: &ArgMatches) -> Result<Storage, WordFault>
         ensures value { result ≡ storage_of name height (rows_of (found_of matches.now)) }
-        ensures sound { IfOk result (λ s. (what : What) → command_of what ≡ name → IsStorage height what s.bands s.peel) }
+        ensures sound { IfOk result (IsStorage height name) }
     {
         match name {
             CommandName::Render => {
@@ -158,10 +146,7 @@ impl Storage {
                     is_given(matches, "peel"),
                 )
             }
-            CommandName::Pick | CommandName::Demo | CommandName::Sequence => Ok(Storage {
-                bands: None,
-                peel: false,
-            }),
+            CommandName::Pick | CommandName::Demo | CommandName::Sequence => Ok(Storage::OneFrame),
         }
     }
 }

@@ -1,5 +1,5 @@
 // Words that are read, and what they ask for.
-use crate::{Job, Opt, What, WordFault, read_words};
+use crate::{Job, Opt, Storage, What, WordFault, read_words};
 use std::alloc::Global;
 use std::test::Fail;
 
@@ -99,10 +99,10 @@ fn made_by(alloc: Global, what: &What) -> Result<String, Fail> {
 
 // How its fragments are stored.
 fn storage_of(alloc: Global, job: &Job) -> Result<String, Fail> {
-    Ok(match job.bands() {
-        Some(bands) => format!(in alloc; "bands {bands}")?,
-        None if job.peel() => format!(in alloc; "layers")?,
-        None => format!(in alloc; "lists")?,
+    Ok(match job.storage() {
+        Storage::OneFrame => format!(in alloc; "lists")?,
+        Storage::Bands(bands) => format!(in alloc; "bands {bands}")?,
+        Storage::Layers => format!(in alloc; "layers")?,
     })
 }
 

@@ -1,11 +1,12 @@
 -- What a drawing writes by the lists of its frame is what the definition says, where the way agrees with that.
-use Rattle.std.proofs.Common.{take, IfOk, IfSome, MatchResult, true, true≢false, subst, ◌≡◌, ◌≤◌, ◌*◌, ℕ, Bool, false, nat_lt, List, length, Option, None, Some, Result, Ok, Err, if◌then◌else◌, refl, sym, ap, ap₂, ◌∙◌, arith}
+use Rattle.std.proofs.Common.{take, IfOk, IfSome, MatchResult, true, true≢false, subst, ◌≡◌, ◌≤◌, ◌*◌, ℕ, Bool, false, nat_lt, List, length, Option, None, Some, Result, Ok, Err, if◌then◌else◌, refl, sym, ap, ◌∙◌, arith}
 use Rattle.std.proofs.lemmas.Bool.{le-ltb}
 use Rattle.std.specs.Io.KnownBytes.{Appends}
 use Rattle.abuf_io.specs.Sinks.{Taken}
 use Rattle.abuf_frame.specs.Closing.{Ended}
 use Rattle.abuf_num.specs.declared.plain.PixelSum.{PixelSum}
 use Rattle.abuf_resolve.specs.declared.runs.Resolved.{Resolved}
+use Rattle.abuf_cli.specs.declared.job.Storage.TheVariants.{OneFrame}
 use Rattle.abuf_cli.specs.declared.job.What.{What}
 use Rattle.abuf_cli.specs.declared.job.What.TheVariants as what
 use Rattle.abuf_picture.specs.declared.primitives.Primitives.{Primitives}
@@ -52,29 +53,29 @@ module _ (way : Way) (d : Drawing) (c : Ended) (frame : IsFrameOf d c) (fit : c.
   summary-is agrees = ap (summary_from d) (is-defined agrees)
 
   -- No pool is full where all fragments are in one frame, so the verdict is the output.
-  pub verdict-is : d.job.bands ≡ None → d.job.peel ≡ false → (bytes : List ℕ) → output d ≡ bytes → pool_verdict d ≡ write bytes
-  verdict-is bands peel bytes is =
+  pub verdict-is : d.job.storage ≡ OneFrame → (bytes : List ℕ) → output d ≡ bytes → pool_verdict d ≡ write bytes
+  verdict-is stored bytes is =
       let fits : nat_lt d.job.nodes (total d) ≡ false = le-ltb d.job.nodes (total d) (omega (arith, frame.count, frame.nodes_are, fit)) in
-      let none : full_pool d d.job.peel d.job.bands ≡ None =
-      ap₂ (full_pool d) peel bands ∙ ap (λ (b : Bool). if b then Some (full.Image (total d) d.job.nodes) else None) fits in
+      let none : full_pool d d.job.storage ≡ None =
+      ap (full_pool d) stored ∙ ap (λ (b : Bool). if b then Some (full.Image (total d) d.job.nodes) else None) fits in
       ap (or_output d) none ∙ ap write is
 
   -- What was made of the lists, where memory was enough.
-  pub made : d.job.bands ≡ None → d.job.peel ≡ false → (bytes : Result (List ℕ) NoMemory) (result : Result (List ℕ) Stop) (closed : Option Ended)
+  pub made : d.job.storage ≡ OneFrame → (bytes : Result (List ℕ) NoMemory) (result : Result (List ℕ) Stop) (closed : Option Ended)
       → IfOk bytes (IsMadeOf d.job.what d given) → (Agrees way (subject_of d) → IfOk bytes (λ b. output d ≡ b))
       → MatchResult bytes (λ b. (result ≡ Ok b) × (closed ≡ Some c)) (λ _. (result ≡ Err stop.Memory) × (closed ≡ None))
       → IsOutputBy way d result closed
-  made bands peel (Ok b) result closed is out ends =
-      let one : has_one_frame d.job ≡ true = ap₂ is_whole peel bands in
+  made stored (Ok b) result closed is out ends =
+      let one : has_one_frame d.job ≡ true = ap is_whole stored in
       subst (λ (r : Result (List ℕ) Stop). IsOutputBy way d r closed) (sym ends.0)
       (subst (IsOutputBy way d (Ok b)) (sym ends.1)
       (record {
-        produced = λ agrees. verdict-is bands peel b (out agrees);
+        produced = λ agrees. verdict-is stored b (out agrees);
         listed = is;
         frame = frame;
         handed = subst (λ (w : Bool). HasFrame w (Some c)) (sym one) refl;
       }))
-  made bands peel (Err e) result closed is out ends =
+  made stored (Err e) result closed is out ends =
       subst (λ (r : Result (List ℕ) Stop). IsOutputBy way d r closed) (sym ends.0)
       (subst (IsOutputBy way d (Err stop.Memory)) (sym ends.1)
       (record { produced = tt; listed = tt; frame = tt; handed = refl }))
@@ -90,12 +91,12 @@ module _ (way : Way) (d : Drawing) (c : Ended) (frame : IsFrameOf d c) (fit : c.
   image-out is (Err e) sums same made_of agrees = tt
 
   -- The image that `render` makes,
-  pub rendered : d.job.what ≡ what.Render → d.job.bands ≡ None → d.job.peel ≡ false → (bytes : Result (List ℕ) NoMemory) (sums : List PixelSum) → sums ≡ given.sums
+  pub rendered : d.job.what ≡ what.Render → d.job.storage ≡ OneFrame → (bytes : Result (List ℕ) NoMemory) (sums : List PixelSum) → sums ≡ given.sums
       → IfOk bytes (λ b. b ≡ image_from d sums) → (result : Result (List ℕ) Stop) (closed : Option Ended)
       → MatchResult bytes (λ b. (result ≡ Ok b) × (closed ≡ Some c)) (λ _. (result ≡ Err stop.Memory) × (closed ≡ None))
       → IsOutputBy way d result closed
-  rendered is bands peel bytes sums same made_of result closed ends =
-      made bands peel bytes result closed (image-made is bytes sums same made_of) (image-out is bytes sums same made_of) ends
+  rendered is stored bytes sums same made_of result closed ends =
+      made stored bytes result closed (image-made is bytes sums same made_of) (image-out is bytes sums same made_of) ends
 
   summary-made : (n : ℕ) → d.job.what ≡ what.Demo n → (bytes : Result (List ℕ) NoMemory) (all : Resolved) → all ≡ given
       → IfOk bytes (λ b. b ≡ summary_from d all) → IfOk bytes (IsMadeOf d.job.what d given)
@@ -108,12 +109,12 @@ module _ (way : Way) (d : Drawing) (c : Ended) (frame : IsFrameOf d c) (fit : c.
   summary-out n is (Err e) all same made_of agrees = tt
 
   -- and the summary that `demo` makes.
-  pub summarized : (n : ℕ) → d.job.what ≡ what.Demo n → d.job.bands ≡ None → d.job.peel ≡ false → (bytes : Result (List ℕ) NoMemory) (all : Resolved) → all ≡ given
+  pub summarized : (n : ℕ) → d.job.what ≡ what.Demo n → d.job.storage ≡ OneFrame → (bytes : Result (List ℕ) NoMemory) (all : Resolved) → all ≡ given
       → IfOk bytes (λ b. b ≡ summary_from d all) → (result : Result (List ℕ) Stop) (closed : Option Ended)
       → MatchResult bytes (λ b. (result ≡ Ok b) × (closed ≡ Some c)) (λ _. (result ≡ Err stop.Memory) × (closed ≡ None))
       → IsOutputBy way d result closed
-  summarized n is bands peel bytes all same made_of result closed ends =
-      made bands peel bytes result closed (summary-made n is bytes all same made_of) (summary-out n is bytes all same made_of) ends
+  summarized n is stored bytes all same made_of result closed ends =
+      made stored bytes result closed (summary-made n is bytes all same made_of) (summary-out n is bytes all same made_of) ends
 
 module _ (way : Way) (d : Drawing) where
   -- What is produced whatever the way is produced by this one.

@@ -1,5 +1,5 @@
 -- What a job draws, from its primitives alone, sample by sample.
-use Rattle.std.specs.Prelude.{◌+◌, ◌*◌, Bool, true, false, ℕ, List, length, map, Option, Some, None}
+use Rattle.std.specs.Prelude.{◌+◌, ◌*◌, Bool, true, false, ℕ, List, length, map}
 use Rattle.abuf_num.specs.declared.plain.Paint.{Paint}
 use Rattle.abuf_num.specs.declared.plain.PixelSum.{PixelSum}
 use Rattle.abuf_raster.specs.Samples.{offsets_of}
@@ -10,6 +10,8 @@ use Rattle.abuf_resolve.specs.Sums.{region_sums}
 use Rattle.abuf_pam.specs.Image as pam
 use Rattle.abuf_picture.specs.Picture as picture
 use Rattle.abuf_cli.specs.Job.{Job}
+use Rattle.abuf_cli.specs.declared.job.Storage.{Storage}
+use Rattle.abuf_cli.specs.declared.job.Storage.TheVariants.{OneFrame, Bands, Layers}
 use Rattle.abuf_cli.specs.declared.job.What.{What}
 use Rattle.abuf_cli.specs.declared.job.What.TheVariants as what
 
@@ -46,14 +48,14 @@ fragments d = picture.fragments d.triangles d.job.pattern (region_of d.job)
 abbrev pub total : Drawing → ℕ
 total d = picture.total d.triangles d.job.pattern (region_of d.job)
 
--- All fragments are in one frame at once: the image is neither peeled nor drawn band by band.
-abbrev pub is_whole : Bool → Option ℕ → Bool
-is_whole true bands = false
-is_whole false (Some bands) = false
-is_whole false None = true
+-- All fragments are in one frame at once.
+abbrev pub is_whole : Storage → Bool
+is_whole OneFrame = true
+is_whole (Bands bands) = false
+is_whole Layers = false
 
 abbrev pub has_one_frame : Job → Bool
-has_one_frame job = is_whole job.peel job.bands
+has_one_frame job = is_whole job.storage
 
 -- The sums over the samples of each pixel, from the primitives alone.
 abbrev pub sums : Drawing → List PixelSum

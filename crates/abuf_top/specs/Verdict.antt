@@ -1,6 +1,6 @@
 -- What a run has to answer: the first refusal in the stated order, or what is to be written. It is none exactly where this
 -- hangs on something that isn't told: what the source has left, or what the shelf holds.
-use Rattle.std.specs.Prelude.{◌+◌, Bool, true, false, ℕ, nat_lt, List, [], ◌∷◌, length, Option, Some, None, option_map}
+use Rattle.std.specs.Prelude.{◌+◌, ℕ, nat_lt, List, [], ◌∷◌, length, Option, Some, None, option_map}
 use Rattle.std.specs.Prelude.{option_and_then, Result, Ok, Err, if◌then◌else◌}
 use Rattle.abuf_num.specs.declared.limits.TheConstants.{MAX_BYTES}
 use Rattle.abuf_obj.specs.Scene.{points, faces, names, libraries, obj_fault}
@@ -12,6 +12,8 @@ use Rattle.abuf_view.specs.Primitives.{prims}
 use Rattle.abuf_band.specs.Bands.{band_total, first_full}
 use Rattle.abuf_cli.specs.Jobs.{job}
 use Rattle.abuf_cli.specs.Job.{Job}
+use Rattle.abuf_cli.specs.declared.job.Storage.{Storage}
+use Rattle.abuf_cli.specs.declared.job.Storage.TheVariants.{OneFrame, Bands, Layers}
 use Rattle.abuf_cli.specs.declared.job.What.{What}
 use Rattle.abuf_cli.specs.declared.job.What.TheVariants as what
 use Rattle.abuf_cli.specs.declared.job.WordFault.{WordFault}
@@ -143,11 +145,11 @@ band_pool d bands (Some k) =
 band_pool d bands None = None
 
 -- The first pool that is full, by how the fragments are stored: an image that is peeled has none.
-abbrev pub full_pool : Drawing → Bool → Option ℕ → Option FullPool
-full_pool d true bands = None
-full_pool d false (Some bands) =
+abbrev pub full_pool : Drawing → Storage → Option FullPool
+full_pool d OneFrame = whole_pool d
+full_pool d (Bands bands) =
     band_pool d bands (first_full d.triangles d.job.pattern d.job.camera.width d.job.camera.height bands d.job.nodes)
-full_pool d false None = whole_pool d
+full_pool d Layers = None
 
 -- The full pool, or else the output.
 abbrev pub or_output : Drawing → Option FullPool → Verdict
@@ -155,7 +157,7 @@ or_output d (Some pool) = refuse ended.PoolFull (full_text pool)
 or_output d None = write (output d)
 
 abbrev pub pool_verdict : Drawing → Verdict
-pool_verdict d = or_output d (full_pool d d.job.peel d.job.bands)
+pool_verdict d = or_output d (full_pool d d.job.storage)
 
 -- The images of a sequence before the first whose pool is full, and then its refusal; or all images, where there is none.
 abbrev pub full_image : Images → Option ℕ → Option Refused

@@ -1,5 +1,6 @@
 // A scene whose fragments are all in one frame.
-ghost use Rattle.std.specs.Prelude.{◌≡◌, MatchResult, Err, None, Some, false};
+ghost use Rattle.std.specs.Prelude.{◌≡◌, MatchResult, Err, Some};
+ghost use Rattle.abuf_cli.specs.declared.job.Storage.TheVariants.{OneFrame};
 ghost use Rattle.abuf_top.specs.declared.stop.FullPool.TheVariants as full;
 ghost use Rattle.abuf_top.specs.declared.stop.Stop.TheVariants as stop;
 ghost use Rattle.abuf_top.specs.Listed.{IsOutputBy, IsWholeBy};
@@ -43,8 +44,7 @@ pub fn resolve_whole<R: Threads + Sync, W: Resolve, G: Gate + Sync>(
     way: &W,
     gate: &G,
 ) -> Result<Whole, Outcome<List<u8>>>
-    requires not_banded { drawing.now.job.bands ≡ None }
-    requires not_peeled { drawing.now.job.peel ≡ false }
+    requires storage { drawing.now.job.storage ≡ OneFrame }
     ensures { MatchResult result (IsWholeBy (W.gives way.now) drawing.now)
         (λ early. IsOutputBy (W.gives way.now) drawing.now early.result early.closed) }
 {

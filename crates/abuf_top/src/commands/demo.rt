@@ -1,5 +1,6 @@
 // `demo`: the summary of the demonstration scene.
-ghost use Rattle.std.specs.Prelude.{◌≡◌, None, false};
+ghost use Rattle.std.specs.Prelude.{◌≡◌};
+ghost use Rattle.abuf_cli.specs.declared.job.Storage.TheVariants.{OneFrame};
 ghost use Rattle.abuf_cli.specs.declared.job.What.TheVariants as what;
 ghost use Rattle.abuf_top.specs.Listed.{IsOutputBy};
 
@@ -23,8 +24,7 @@ pub fn summarize<R: Threads + Sync, W: Resolve, G: Gate + Sync>(
     gate: &G,
 ) -> Outcome<List<u8>>
     requires what { drawing.now.job.what ≡ what.Demo number }
-    requires not_banded { drawing.now.job.bands ≡ None }
-    requires not_peeled { drawing.now.job.peel ≡ false }
+    requires storage { drawing.now.job.storage ≡ OneFrame }
     ensures { IsOutputBy (W.gives way.now) drawing.now result.result result.closed }
 {
     match resolve_whole(rt, alloc, drawing, way, gate) {

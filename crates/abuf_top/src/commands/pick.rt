@@ -1,5 +1,6 @@
 // `pick`: the report of one pixel's fragments.
-ghost use Rattle.std.specs.Prelude.{◌≡◌, ◌<◌, None, false};
+ghost use Rattle.std.specs.Prelude.{◌≡◌, ◌<◌};
+ghost use Rattle.abuf_cli.specs.declared.job.Storage.TheVariants.{OneFrame};
 ghost use Rattle.abuf_cli.specs.declared.job.What.TheVariants as what;
 ghost use Rattle.abuf_top.specs.Drawn.{IsOutputOf};
 
@@ -24,8 +25,7 @@ pub fn pick<R: Threads + Sync, G: Gate + Sync>(
 ) -> Outcome<List<u8>>
     requires what { drawing.now.job.what ≡ what.Pick x y }
     requires pixel { (x < drawing.now.job.camera.width) × (y < drawing.now.job.camera.height) }
-    requires not_banded { drawing.now.job.bands ≡ None }
-    requires not_peeled { drawing.now.job.peel ≡ false }
+    requires storage { drawing.now.job.storage ≡ OneFrame }
     ensures { IsOutputOf drawing.now result.result result.closed }
 {
     let place = y * drawing.job().camera().width() + x;

@@ -1,5 +1,6 @@
 // The image, by how its fragments are stored: in one pool, in a pool for one band after another, or not at all.
-ghost use Rattle.std.specs.Prelude.{◌≡◌, None, Some, true, false};
+ghost use Rattle.std.specs.Prelude.{◌≡◌};
+ghost use Rattle.abuf_cli.specs.declared.job.Storage.TheVariants.{OneFrame, Bands, Layers};
 ghost use Rattle.abuf_cli.specs.declared.job.What.TheVariants as what;
 ghost use Rattle.abuf_top.specs.Drawn.{IsOutputOf};
 ghost use Rattle.abuf_top.specs.Listed.{IsOutputBy};
@@ -10,6 +11,7 @@ use crate::outcome::Outcome;
 use crate::stop::FullPool;
 use crate::whole::{Whole, resolve_whole};
 use abuf_band::{BandFault, render_bands};
+use abuf_cli::Storage;
 use abuf_fan::Gate;
 use abuf_num::List;
 use abuf_peel::peel;
@@ -26,8 +28,7 @@ fn render_whole<R: Threads + Sync, W: Resolve, G: Gate + Sync>(
     gate: &G,
 ) -> Outcome<List<u8>>
     requires what { drawing.now.job.what ≡ what.Render }
-    requires not_banded { drawing.now.job.bands ≡ None }
-    requires not_peeled { drawing.now.job.peel ≡ false }
+    requires storage { drawing.now.job.storage ≡ OneFrame }
     ensures { IsOutputBy (W.gives way.now) drawing.now result.result result.closed }
 {
     match resolve_whole(rt, alloc, drawing, way, gate) {
@@ -47,8 +48,7 @@ fn render_banded<R: Threads + Sync>(
     bands: u32,
 ) -> Outcome<List<u8>>
     requires what { drawing.now.job.what ≡ what.Render }
-    requires bands { drawing.now.job.bands ≡ Some bands }
-    requires not_peeled { drawing.now.job.peel ≡ false }
+    requires storage { drawing.now.job.storage ≡ Bands bands }
     ensures { IsOutputOf drawing.now result.result result.closed }
 {
     let job = drawing.job();
@@ -87,7 +87,7 @@ fn render_banded<R: Threads + Sync>(
 /// Layer by layer.
 fn render_peeled<R: Threads + Sync>(rt: &R, alloc: Global, drawing: &Drawing) -> Outcome<List<u8>>
     requires what { drawing.now.job.what ≡ what.Render }
-    requires peeled { drawing.now.job.peel ≡ true }
+    requires storage { drawing.now.job.storage ≡ Layers }
     ensures { IsOutputOf drawing.now result.result result.closed }
 {
     let job = drawing.job();
@@ -118,11 +118,9 @@ pub fn render<R: Threads + Sync, W: Resolve, G: Gate + Sync>(
     requires { drawing.now.job.what ≡ what.Render }
     ensures { IsOutputBy (W.gives way.now) drawing.now result.result result.closed }
 {
-    if drawing.job().peel() {
-        return render_peeled(rt, alloc, drawing);
-    }
-    match drawing.job().bands() {
-        Some(bands) => render_banded(rt, alloc, drawing, bands),
-        None => render_whole(rt, alloc, drawing, way, gate),
+    match drawing.job().storage() {
+        Storage::OneFrame => render_whole(rt, alloc, drawing, way, gate),
+        Storage::Bands(bands) => render_banded(rt, alloc, drawing, bands),
+        Storage::Layers => render_peeled(rt, alloc, drawing),
     }
 }
