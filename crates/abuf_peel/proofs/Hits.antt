@@ -1,10 +1,11 @@
 -- Hits, and the samples that they have.
 use Rattle.std.proofs.Common.{◌≡◌, ℕ, zero, suc, ◌+◌, ◌-◌, ◌*◌, ◌/◌, ◌%◌, ◌<◌, ◌≤◌, ◌⊎◌, inl, inr, Bool, true, false, ◌&&◌, ◌||◌, if◌then◌else◌, List, [], ◌∷◌, length, ℤ, Some, None, IsPermutation, All, refl, ap, ap₂, ◌∙◌, sym, arith, mul-le-mul, ◌==◌}
-use Rattle.std.specs.List.{filter_map, cons_option, range_with_len, list_any}
+use Rattle.std.specs.List.{filter_map, cons_option, count_by, range_with_len, list_any}
 use Rattle.std.proofs.lemmas.Bool.{eq-eqb, ne_eqb, eqb-true, cases_eq}
 use Rattle.std.proofs.lemmas.Nat.{div-add-mod', div-mul-add, mod-mul-add, div_below, mod_below}
 use Rattle.std.proofs.lemmas.List.Elements.{All-nil, All-cons}
-use Rattle.std.proofs.lemmas.List.Sorted.{All-permutation, IsPermutation-sym, list_any-IsPermutation}
+use Rattle.std.proofs.lemmas.List.Sorted.{All-permutation, IsPermutation-sym, list_any-IsPermutation, sum_by-IsPermutation}
+use Rattle.std.proofs.lemmas.List.Sums.{sum_by-cons}
 use Rattle.abuf_raster.specs.declared.region.Hit.{Hit}
 use Rattle.abuf_raster.specs.declared.pattern.Pattern.{Pattern}
 use Rattle.abuf_raster.specs.Triangle.{Triangle}
@@ -31,6 +32,10 @@ hit_sample r size k h is l =
     let x : r.x0 + place_of r h.x h.y % r.w ≡ h.x = ap (λ (m : ℕ). r.x0 + m) (mod-mul-add (h.y - r.y0) r.w (h.x - r.x0) column) ∙ omega (arith, is.x_low) in
     let y : r.y0 + place_of r h.x h.y / r.w ≡ h.y = ap (λ (m : ℕ). r.y0 + m) (div-mul-add (h.y - r.y0) r.w (h.x - r.x0) column) ∙ omega (arith, is.y_low) in
     sample_is r size (place_of r h.x h.y) k l ∙ λ i. record { x = x i; y = y i; k = k }
+
+-- Of a hit and others one more passes a test where the hit does.
+pub count-cons : (p : Hit → Bool) (h : Hit) (hs : List Hit) → count_by p (h ∷ hs) ≡ (if p h then 1 else 0) + count_by p hs
+count-cons p h hs = sum_by-cons (λ x. (if p x then 1 else 0)) h hs
 
 -- The hit has the sample of that index where it has sample k.
 pub hit_has : (r : Region) (size k : ℕ) (h : Hit) → k < size → has_at r size (place_of r h.x h.y * size + k) h ≡ has_sample h k
@@ -112,6 +117,48 @@ module _ (t : Triangle) (n : ℕ) (os : List (ℤ × ℤ)) (r : Region) (is : Is
             alone false = refl
       go later (inr f) = step a (filter_map (hit_at t n os r) (range_with_len (a + 1) count)) ∙ rw (ne_eqb a (j / length os) f) (later (omega arith))
 
+    -- How many hits of a place have the sample.
+    step_count : (q : ℕ) (rest : List Hit) → count_by (has_at r (length os) j) (cons_option (hit_at t n os r q) rest)
+        ≡ (if (q == (j / length os)) && covers t os (r.x0 + q % r.w) (r.y0 + q / r.w) (j % length os) then 1 else 0) + count_by (has_at r (length os) j) rest
+    unfolding has_at
+    step_count q rest = go (mask t os (r.x0 + q % r.w) (r.y0 + q / r.w) == 0) refl where
+      place : ((r.y0 + q / r.w) - r.y0) * r.w + ((r.x0 + q % r.w) - r.x0) ≡ q
+      place = ap₂ (λ (a b : ℕ). a * r.w + b) (omega arith) (omega arith) ∙ div-add-mod' q r.w
+
+      go : (b : Bool) → b ≡ (mask t os (r.x0 + q % r.w) (r.y0 + q / r.w) == 0)
+          → count_by (has_at r (length os) j) (cons_option (if b then None else Some (record { x = r.x0 + q % r.w; y = r.y0 + q / r.w; fragment = record { prim = n; mask = mask t os (r.x0 + q % r.w) (r.y0 + q / r.w) } })) rest)
+          ≡ (if (q == (j / length os)) && covers t os (r.x0 + q % r.w) (r.y0 + q / r.w) (j % length os) then 1 else 0) + count_by (has_at r (length os) j) rest
+      go true e =
+          let none = none_covered t os (r.x0 + q % r.w) (r.y0 + q / r.w) (j % length os) known (eqb-true (mask t os (r.x0 + q % r.w) (r.y0 + q / r.w)) 0 (sym e)) in
+          sym (ap (λ (v : Bool). (if (q == (j / length os)) && v then 1 else 0) + count_by (has_at r (length os) j) rest) none ∙ off (q == (j / length os)) (count_by (has_at r (length os) j) rest)) where
+            off : (a : Bool) (m : ℕ) → (if a && false then 1 else 0) + m ≡ m
+            off true m = omega arith
+            off false m = omega arith
+      go false e =
+          count-cons (has_at r (length os) j) (record { x = r.x0 + q % r.w; y = r.y0 + q / r.w; fragment = record { prim = n; mask = mask t os (r.x0 + q % r.w) (r.y0 + q / r.w) } }) rest
+          ∙ ap₂ (λ (p : ℕ) (v : Bool). (if (p == (j / length os)) && v then 1 else 0) + count_by (has_at r (length os) j) rest) place
+          (bit_covers t os (r.x0 + q % r.w) (r.y0 + q / r.w) (j % length os) known)
+
+    -- No hit at another place has it.
+    other_count : (count a : ℕ) → (at < a) ⊎ (a + count ≤ at) → count_by (has_at r (length os) j) (filter_map (hit_at t n os r) (range_with_len a count)) ≡ 0
+    other_count zero a h = refl
+    other_count (suc count) a (inl h) = step_count a (filter_map (hit_at t n os r) (range_with_len (a + 1) count)) ∙ rw (ne_eqb a (j / length os) (λ e. omega arith)) (omega (arith, other_count count (a + 1) (inl (omega arith))))
+    other_count (suc count) a (inr h) = step_count a (filter_map (hit_at t n os r) (range_with_len (a + 1) count)) ∙ rw (ne_eqb a (j / length os) (λ e. omega arith)) (omega (arith, other_count count (a + 1) (inr (omega arith))))
+
+    -- One hit has it where the triangle covers it, and else none.
+    within_count : (count a : ℕ) → a ≤ at → at < a + count → count_by (has_at r (length os) j) (filter_map (hit_at t n os r) (range_with_len a count)) ≡ (if here then 1 else 0)
+    within_count zero a l h = absurd (omega arith)
+    within_count (suc count) a l h = go (λ m. within_count count (a + 1) m (omega arith)) (cases_eq a (j / length os)) where
+      go : (a + 1 ≤ at → count_by (has_at r (length os) j) (filter_map (hit_at t n os r) (range_with_len (a + 1) count)) ≡ (if here then 1 else 0))
+          → (a ≡ j / length os) ⊎ (a ≡ j / length os → ⊥)
+          → count_by (has_at r (length os) j) (cons_option (hit_at t n os r a) (filter_map (hit_at t n os r) (range_with_len (a + 1) count))) ≡ (if here then 1 else 0)
+      go later (inl e) =
+          step_count a (filter_map (hit_at t n os r) (range_with_len (a + 1) count))
+          ∙ (ap₂ (λ (b : Bool) (m : ℕ). (if b && covers t os (r.x0 + a % r.w) (r.y0 + a / r.w) (j % length os) then 1 else 0) + m) (eq-eqb a (j / length os) e) (other_count count (a + 1) (inl (omega arith)))
+          ∙ ((let alone : (if covers t os (r.x0 + a % r.w) (r.y0 + a / r.w) (j % length os) then 1 else 0) + 0 ≡ (if covers t os (r.x0 + a % r.w) (r.y0 + a / r.w) (j % length os) then 1 else 0) = omega arith in alone)
+          ∙ ap (λ (q : ℕ). (if covers t os (r.x0 + q % r.w) (r.y0 + q / r.w) (j % length os) then 1 else 0)) e))
+      go later (inr f) = step_count a (filter_map (hit_at t n os r) (range_with_len (a + 1) count)) ∙ rw (ne_eqb a (j / length os) f) (omega (arith, later (omega arith)))
+
 -- Of all hits of a triangle, in any order, one has a sample exactly where the triangle covers it.
 pub any_covered : (t : Triangle) (n : ℕ) (r : Region) (pattern : Pattern) (all : List Hit) (j : ℕ) → IsRegion r → 0 < size_of pattern → j < count_of r pattern → IsPermutation all (hits t n (offsets_of pattern) r)
     → list_any (has_at r (size_of pattern) j) all ≡ is_covered_at t r pattern j
@@ -119,3 +166,11 @@ unfolding is_covered
 any_covered t n r pattern all j is some h p =
     list_any-IsPermutation (has_at r (size_of pattern) j) all (hits t n (offsets_of pattern) r) p
     ∙ within t n (offsets_of pattern) r is j (mod_below j (size_of pattern) some) (r.w * r.h) 0 (omega arith) (omega (arith, div_below j (size_of pattern) (r.w * r.h) some h))
+
+-- More than one never has it.
+pub once_covered : (t : Triangle) (n : ℕ) (r : Region) (pattern : Pattern) (all : List Hit) (j : ℕ) → IsRegion r → 0 < size_of pattern → j < count_of r pattern → IsPermutation all (hits t n (offsets_of pattern) r)
+    → count_by (has_at r (size_of pattern) j) all ≡ (if is_covered_at t r pattern j then 1 else 0)
+unfolding is_covered
+once_covered t n r pattern all j is some h p =
+    sym (sum_by-IsPermutation (λ x. (if has_at r (size_of pattern) j x then 1 else 0)) all (hits t n (offsets_of pattern) r) p)
+    ∙ within_count t n (offsets_of pattern) r is j (mod_below j (size_of pattern) some) (r.w * r.h) 0 (omega arith) (omega (arith, div_below j (size_of pattern) (r.w * r.h) some h))

@@ -1,5 +1,5 @@
 -- The primitives that samples still take.
-use Rattle.std.proofs.Common.{◌≡◌, ℕ, ◌+◌, ◌<◌, ◌≤◌, ◌⊎◌, inl, inr, Bool, true, false, ◌&&◌, if◌then◌else◌, List, [], ◌∷◌, ◌++◌, map, take, length, get_or, set, ℤ, Option, Some, None, All, refl, ap, ◌∙◌, sym, subst, arith}
+use Rattle.std.proofs.Common.{◌≡◌, ℕ, zero, suc, nat_lt, ◌^◌, ◌+◌, ◌<◌, ◌≤◌, ◌⊎◌, inl, inr, Bool, true, false, ◌&&◌, if◌then◌else◌, List, [], ◌∷◌, ◌++◌, map, take, length, get_or, set, ℤ, Option, Some, None, All, refl, ap, ◌∙◌, sym, subst, arith}
 use Rattle.std.specs.List.{filter}
 use Rattle.std.proofs.lemmas.Bool.{lt-ltb, le-ltb, cases_lt}
 use Rattle.std.proofs.lemmas.List.{append-nil, length-set, get_or-set_other, take-set, take_more, take_more_set, take_all}
@@ -12,11 +12,13 @@ use Rattle.abuf_raster.specs.Region.{Region, IsRegion}
 use Rattle.abuf_raster.specs.Samples.{offsets_of}
 use Rattle.abuf_raster.proofs.Masks.{offsets_some}
 use Rattle.abuf_resolve.specs.Colour.{triangle_at, numbers}
-use Rattle.abuf_resolve.specs.Words.{layer_word, reaches}
-use Rattle.abuf_peel.specs.Layers.{Seen, Takes, count_of, next_at, sample_at, size_of}
+use Rattle.abuf_resolve.specs.Words.{layer_word, prim_of, reaches, IsDepthWord}
+use Rattle.abuf_peel.specs.Layers.{Seen, TakesTimes, count_of, sample_at, size_of, taken, taken_times}
 use Rattle.abuf_peel.specs.Members.{HaveAll, HaveLeft, left_at}
 use Rattle.abuf_peel.specs.Next.{Sample, least, lower_of, left_among, left_from, next_among, next_word, words_among}
-use Rattle.abuf_peel.specs.Offers.{Tells, is_covered, is_covered_at, is_left, word_at, word_of}
+use Rattle.abuf_peel.specs.Offers.{Tells, inserted, is_covered, is_covered_at, is_left, offered_times, word_at, word_of}
+use Rattle.abuf_peel.specs.Taking.{FindsLowest, lowest}
+use Rattle.abuf_peel.proofs.Insertion.{lowest_more}
 use Rattle.abuf_peel.proofs.Chosen.{sample_in}
 use Rattle.abuf_peel.proofs.Found.{words_more}
 use Rattle.abuf_peel.proofs.Words.{narrower}
@@ -40,6 +42,11 @@ next_rises : (os : List (ℤ × ℤ)) (tris : List Triangle) (s : Sample) (from 
 unfolding next_among left_among
 next_rises os tris s from = least_rises from (words_among os tris s (numbers tris))
 
+-- So it is once it takes several.
+times_rise : (os : List (ℤ × ℤ)) (tris : List Triangle) (paints : List Paint) (s : Sample) (n : ℕ) (seen : Seen) → seen.from ≤ (taken_times os tris paints s n seen).from
+times_rise os tris paints s zero seen = omega arith
+times_rise os tris paints s (suc n) seen = omega (arith, next_rises os tris s seen.from, times_rise os tris paints s n (taken os tris paints s seen))
+
 -- ---- what is left of some primitives
 module _ (os : List (ℤ × ℤ)) (tris : List Triangle) (s : Sample) where
   -- What is left of some primitives and one more.
@@ -48,7 +55,7 @@ module _ (os : List (ℤ × ℤ)) (tris : List Triangle) (s : Sample) where
       ≡ left_among os tris s from ns ++ (if is_left (is_covered (triangle_at tris n) os s) from (word_of (triangle_at tris n) n os s) then word_of (triangle_at tris n) n os s ∷ [] else [])
   unfolding left_among is_covered word_of
   left_more from ns n =
-      ap (filter (reaches from)) (words_more os tris s from ns n)
+      ap (filter (reaches from)) (words_more os tris s ns n)
       ∙ (filter-append (reaches from) (words_among os tris s ns) (if covers (triangle_at tris n) os s.x s.y s.k then layer_word os tris s.x s.y s.k n ∷ [] else [])
       ∙ ap (λ (ws : List ℕ). filter (reaches from) (words_among os tris s ns) ++ ws)
       (elim (covers (triangle_at tris n) os s.x s.y s.k) as (λ (v : Bool).
@@ -76,10 +83,32 @@ module _ (os : List (ℤ × ℤ)) (tris : List Triangle) (s : Sample) where
   unfolding left_among
   left_rises a b ms ns h e = sym (narrower a b (words_among os tris s ms) h) ∙ (ap (filter (reaches b)) e ∙ narrower a b (words_among os tris s ns) h)
 
-  -- Then the next is the same.
-  pub left_same : (from : ℕ) (ms ns : List ℕ) → left_among os tris s from ms ≡ left_among os tris s from ns → next_among os tris s from ms ≡ next_among os tris s from ns
-  unfolding next_among
-  left_same from ms ns e = ap least e
+  -- Among no primitives nothing is found.
+  pub lowest_none : (from count : ℕ) (best : List ℕ) → best ≡ lowest [] → FindsLowest count (left_among os tris s from []) best
+  unfolding left_among
+  lowest_none from count best e = record { is = e; known = tt }
+
+  -- What is found among some primitives, once one more is offered.
+  pub lowest_next : (t : Triangle) (from : ℕ) (ns : List ℕ) (n : ℕ) (best new : List ℕ) → t ≡ triangle_at tris n → n < length tris → length tris ≤ 2 ^ 24
+      → FindsLowest (length tris) (left_among os tris s from ns) best
+      → new ≡ offered_times (if is_covered t os s then 1 else 0) from (word_of t n os s) best
+      → (is_covered t os s ≡ true → word_of t n os s < 2 ^ 48)
+      → FindsLowest (length tris) (left_among os tris s from (ns ++ n ∷ [])) new
+  unfolding word_of
+  lowest_next t from ns n best new same known few f e fit =
+      subst (λ (ws : List ℕ). FindsLowest (length tris) ws new) (sym (left_more from ns n))
+      (subst (λ (u : Triangle). FindsLowest (length tris) (left_among os tris s from ns ++ (if is_left (is_covered u os s) from (word_of u n os s) then word_of u n os s ∷ [] else [])) new) same
+      (subst (λ (b : List ℕ). FindsLowest (length tris) (left_among os tris s from ns ++ (if is_left (is_covered t os s) from (word_of t n os s) then word_of t n os s ∷ [] else [])) b) (sym e)
+      (go (is_covered t os s) fit))) where
+        here : (w : ℕ) (v : Bool) → IsDepthWord (length tris) w
+            → FindsLowest (length tris) (left_among os tris s from ns ++ (if v then w ∷ [] else [])) (if v && nat_lt w (get_or best 15 0) then inserted 0 w best else best)
+        here w false i = subst (λ (ws : List ℕ). FindsLowest (length tris) ws best) (sym (append-nil (left_among os tris s from ns))) f
+        here w true i = lowest_more (length tris) w (left_among os tris s from ns) best i f
+
+        go : (v : Bool) → (v ≡ true → word_of t n os s < 2 ^ 48)
+            → FindsLowest (length tris) (left_among os tris s from ns ++ (if is_left v from (word_of t n os s) then word_of t n os s ∷ [] else [])) (offered_times (if v then 1 else 0) from (word_of t n os s) best)
+        go false small = subst (λ (ws : List ℕ). FindsLowest (length tris) ws best) (sym (append-nil (left_among os tris s from ns))) f
+        go true small = here (word_of t n os s) (reaches from (word_of t n os s)) (record { fits = small refl; known = let p : prim_of (word_of t n os s) ≡ n = omega arith in omega arith })
 
 -- ---- members of which something is left
 -- All that cover a sample of a region are all that its samples still take, whatever they have taken.
@@ -92,16 +121,17 @@ all_left tris r pattern from members is have = record {
       ap (λ (ns : List ℕ). filter (reaches (get_or from j 0)) (map (layer_word (offsets_of pattern) tris s.x s.y s.k) ns)) (have.each s (sample_in r pattern j is (offsets_some pattern) l));
 }
 
--- They are still all once each sample takes its next.
-pub left_after : (tris : List Triangle) (paints : List Paint) (r : Region) (pattern : Pattern) (from new members : List ℕ) (under over : List (List ℕ))
-    → Takes tris paints (record { region = r; pattern = pattern; from = from; colours = under }) (record { region = r; pattern = pattern; from = new; colours = over })
+-- They are still all once each sample takes several.
+pub left_after : (tris : List Triangle) (paints : List Paint) (n : ℕ) (r : Region) (pattern : Pattern) (from new members : List ℕ) (under over : List (List ℕ))
+    → TakesTimes tris paints n (record { region = r; pattern = pattern; from = from; colours = under }) (record { region = r; pattern = pattern; from = new; colours = over })
     → HaveLeft tris r pattern from members → HaveLeft tris r pattern new members
-left_after tris paints r pattern from new members under over t have = record {
+left_after tris paints n r pattern from new members under over t have = record {
   known = have.known;
   each = λ j l.
       let s : Sample = sample_at r (size_of pattern) j in
-      let is : get_or new j 0 ≡ left_from (next_at r pattern tris from j) (get_or from j 0) = ap (λ (v : Seen). v.from) (t.each j l) in
-      let up : get_or from j 0 ≤ get_or new j 0 = omega (arith, is, next_rises (offsets_of pattern) tris (sample_at r (size_of pattern) j) (get_or from j 0)) in
+      let old : Seen = record { from = get_or from j 0; colour = get_or under j [] } in
+      let is : get_or new j 0 ≡ (taken_times (offsets_of pattern) tris paints (sample_at r (size_of pattern) j) n (record { from = get_or from j 0; colour = get_or under j [] })).from = ap (λ (v : Seen). v.from) (t.each j l) in
+      let up : get_or from j 0 ≤ get_or new j 0 = omega (arith, is, times_rise (offsets_of pattern) tris paints s n old) in
       left_rises (offsets_of pattern) tris s (get_or from j 0) (get_or new j 0) members (numbers tris) up (have.each j l);
 }
 

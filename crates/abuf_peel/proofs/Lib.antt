@@ -1,6 +1,8 @@
 pub mod Writes
 pub mod Words
 pub mod Steps
+pub mod Insertion
+pub mod Times
 pub mod Standing
 pub mod Hits
 pub mod Offered

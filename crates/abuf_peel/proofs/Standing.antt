@@ -1,5 +1,5 @@
 -- What is seen of a layer: after which steps it stands, and the sums of its colours.
-use Rattle.std.proofs.Common.{◌≡◌, ℕ, suc, ◌+◌, ◌*◌, ◌/◌, ◌%◌, ◌^◌, ◌<◌, ◌≤◌, List, [], ℤ, length, get_or, Option, None, refl, ap, ap₂, ◌∙◌, sym, subst, arith, mul-le-mul}
+use Rattle.std.proofs.Common.{◌≡◌, ℕ, suc, ◌+◌, ◌*◌, ◌/◌, ◌%◌, ◌^◌, ◌<◌, ◌≤◌, List, [], ℤ, length, get_or, None, refl, ap, ap₂, ◌∙◌, sym, subst, arith, mul-le-mul}
 use Rattle.std.proofs.lemmas.List.{get_or-replicate}
 use Rattle.std.proofs.lemmas.Nat.{div-mul-add, mod-mul-add}
 use Rattle.abuf_num.specs.declared.plain.Paint.{Paint}
@@ -10,9 +10,10 @@ use Rattle.abuf_raster.specs.Samples.{offsets_of}
 use Rattle.abuf_resolve.specs.Colour.{colour, covering}
 use Rattle.abuf_resolve.specs.Sums.{sums_at, region_sums}
 use Rattle.abuf_resolve.proofs.Totals.{summed_same, same_on_range}
-use Rattle.abuf_peel.specs.Next.{Sample, next_word, with_word}
-use Rattle.abuf_peel.specs.Layers.{Peeled, Seen, peeled_of, seen_at, taken, after, started, Takes, StandsFor, HaveLayer, AreWhole, count_of, size_of, sample_at, next_at, sum_of_place, layer_sums, whole_colour}
+use Rattle.abuf_peel.specs.Next.{Sample, next_word}
+use Rattle.abuf_peel.specs.Layers.{Peeled, Seen, peeled_of, seen_at, taken, taken_times, after, started, Takes, TakesTimes, StandsFor, HaveLayer, AreWhole, count_of, size_of, sample_at, next_at, sum_of_place, layer_sums, whole_colour}
 use Rattle.abuf_peel.proofs.Steps.{after-layer, after-none, after-many}
+use Rattle.abuf_peel.proofs.Times.{after_times}
 
 -- ---- a layer whose parts are read, and written again
 -- The same parts show the same layer.
@@ -20,9 +21,13 @@ pub same_parts : (r : Region) (pattern : Pattern) (words words' : List ℕ) (col
     → peeled_of r pattern words colours ≡ peeled_of r pattern words' colours'
 same_parts r pattern words words' colours colours' e f = λ i. peeled_of r pattern (e i) (f i)
 
--- A step from what was read to what is written is a step of the layer.
-pub takes_as : (tris : List Triangle) (paints : List Paint) (old read written new : Peeled) → read ≡ old → written ≡ new → Takes tris paints read written → Takes tris paints old new
-takes_as tris paints old read written new e f t = subst (Takes tris paints old) f (subst (λ (l : Peeled). Takes tris paints l written) e t)
+-- Steps from what was read to what is written are steps of the layer.
+pub takes_as : (tris : List Triangle) (paints : List Paint) (n : ℕ) (old read written new : Peeled) → read ≡ old → written ≡ new → TakesTimes tris paints n read written → TakesTimes tris paints n old new
+takes_as tris paints n old read written new e f t = subst (TakesTimes tris paints n old) f (subst (λ (l : Peeled). TakesTimes tris paints n l written) e t)
+
+-- One of them is a step.
+pub takes_one : (tris : List Triangle) (paints : List Paint) (old new : Peeled) → TakesTimes tris paints 1 old new → Takes tris paints old new
+takes_one tris paints old new t = record { region = t.region; pattern = t.pattern; each = t.each }
 
 -- Sample k of the pixel at a place.
 pub sample_is : (r : Region) (size place k : ℕ) → k < size → sample_at r size (place * size + k) ≡ record { x = r.x0 + place % r.w; y = r.y0 + place / r.w; k = k }
@@ -48,26 +53,31 @@ module _ (background : List ℕ) (tris : List Triangle) (paints : List Paint) wh
         step ∙ ap₂ (λ (r : Region) (q : Pattern). after (offsets_of q) background tris paints (sample_at r (size_of q) j) (suc n)) (sym t.region) (sym t.pattern);
   }
 
+  -- Once every sample takes its next several times, it stands for so many more.
+  pub stands_times : (n k : ℕ) (old new : Peeled) → TakesTimes tris paints k old new → StandsFor background tris paints n old → StandsFor background tris paints (n + k) new
+  stands_times n k old new t p = record {
+    each = λ j l.
+        let here : j < count_of old.region old.pattern = subst (λ (m : ℕ). j < m) (ap₂ count_of t.region t.pattern) l in
+        let steps : seen_at new j ≡ after (offsets_of old.pattern) background tris paints (sample_at old.region (size_of old.pattern) j) (n + k)
+        = t.each j here ∙ (ap (taken_times (offsets_of old.pattern) tris paints (sample_at old.region (size_of old.pattern) j) k) (p.each j here)
+        ∙ after_times (offsets_of old.pattern) background tris paints (sample_at old.region (size_of old.pattern) j) n k) in
+        steps ∙ ap₂ (λ (r : Region) (q : Pattern). after (offsets_of q) background tris paints (sample_at r (size_of q) j) (n + k)) (sym t.region) (sym t.pattern);
+  }
+
   module _ (few : length tris ≤ 2 ^ 24) where
     -- Then it has the layer of that number.
     pub layers_are : (n : ℕ) (l : Peeled) → StandsFor background tris paints n l → HaveLayer background tris paints n l
     layers_are n l p j m = ap (λ (v : Seen). v.colour) (p.each j m) ∙ after-layer (offsets_of l.pattern) background tris paints (sample_at l.region (size_of l.pattern) j) few n
 
-    -- Where no primitive was left, the colours are whole.
-    pub whole_none : (n : ℕ) (old new : Peeled) → Takes tris paints old new → StandsFor background tris paints n old
-        → ((j : ℕ) → j < count_of old.region old.pattern → next_at old.region old.pattern tris old.from j ≡ None) → AreWhole background tris paints new
-    whole_none n old new t p none = record {
-      each = λ j l.
-          let here : j < count_of old.region old.pattern = subst (λ (k : ℕ). j < k) (ap₂ count_of t.region t.pattern) l in
-          let os : List (ℤ × ℤ) = offsets_of old.pattern in
-          let s : Sample = sample_at old.region (size_of old.pattern) j in
-          let seen : seen_at old j ≡ after os background tris paints s n = p.each j here in
-          let last : next_word os tris s (after os background tris paints s n).from ≡ None = ap (λ (v : Seen). next_word os tris s v.from) (sym seen) ∙ none j here in
-          ap (λ (v : Seen). v.colour) (t.each j here)
-          ∙ (ap (λ (o : Option ℕ). with_word paints o (get_or old.colours j [])) (none j here)
-          ∙ (ap (λ (v : Seen). v.colour) seen
-          ∙ (after-none os background tris paints s few n last
-          ∙ ap₂ (λ (r : Region) (q : Pattern). whole_colour (offsets_of q) background tris paints (sample_at r (size_of q) j)) (sym t.region) (sym t.pattern))));
+    -- Where no primitive is left, the colours are whole.
+    pub whole_none : (n : ℕ) (l : Peeled) → StandsFor background tris paints n l
+        → ((j : ℕ) → j < count_of l.region l.pattern → next_at l.region l.pattern tris l.from j ≡ None) → AreWhole background tris paints l
+    whole_none n l p none = record {
+      each = λ j m.
+          let os : List (ℤ × ℤ) = offsets_of l.pattern in
+          let s : Sample = sample_at l.region (size_of l.pattern) j in
+          let last : next_word os tris s (after os background tris paints s n).from ≡ None = ap (λ (v : Seen). next_word os tris s v.from) (sym (p.each j m)) ∙ none j m in
+          ap (λ (v : Seen). v.colour) (p.each j m) ∙ after-none os background tris paints s few n last;
     }
 
     -- So they are after as many steps as primitives cover a sample.

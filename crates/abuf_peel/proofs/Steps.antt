@@ -16,7 +16,7 @@ use Rattle.abuf_resolve.proofs.Orders.{kept, kept-in_order, Rises-in_order}
 use Rattle.abuf_resolve.proofs.Words.{Below, Below-range, Below-filter, Below-in_order, map-in_order, words_ordered}
 use Rattle.abuf_peel.specs.Next.{Sample, left_among, next_word, next_among, left_from, with_word}
 use Rattle.abuf_peel.specs.Layers.{Seen, taken, after, layer, whole_colour}
-use Rattle.abuf_peel.proofs.Words.{Climbs, Climbs-from, all_reach, none_below, one_more, no_more, first, least-left, left_next}
+use Rattle.abuf_peel.proofs.Words.{Climbs, Climbs-from, kept-filter_le, all_reach, none_below, one_more, no_more, first, least-left, left_next}
 
 -- A list with one number put in its place is one longer.
 length-put : (before : ℕ → ℕ → Bool) (x : ℕ) (ys : List ℕ) → length (put_in_order before x ys) ≡ suc (length ys)
@@ -47,20 +47,13 @@ range_once v a (suc n) = go (range_once v (a + 1) n) (cases_eq a v) where
   go k (inl e) = rw (eq-eqb a v e) (omega (arith, before_range v (a + 1) n (omega arith)))
   go k (inr f) = rw (ne_eqb a v f) (omega arith)
 
--- Nor has what is left of it.
-kept-filter_le : (p q : ℕ → Bool) (xs : List ℕ) → kept q (filter p xs) ≤ kept q xs
-kept-filter_le p q [] = omega arith
-kept-filter_le p q (x ∷ xs) =
-    elim (p x) as (λ (v : Bool). kept q (if v then x ∷ filter p xs else filter p xs) ≤ (if q x then 1 else 0) + kept q xs)
-    [ true ↦ omega (arith, kept-filter_le p q xs) | false ↦ omega (arith, kept-filter_le p q xs) ]
-
 module _ (os : List (ℤ × ℤ)) (background : List ℕ) (tris : List Triangle) (paints : List Paint) (s : Sample) (few : length tris ≤ 2 ^ 24) where
   -- The word of a primitive in the sample.
-  abbrev word : ℕ → ℕ
+  abbrev pub word : ℕ → ℕ
   word n = layer_word os tris s.x s.y s.k n
 
   -- The primitives that cover the sample.
-  abbrev these : List ℕ
+  abbrev pub these : List ℕ
   these = covering os tris s.x s.y s.k
 
   -- Their order.
@@ -68,7 +61,7 @@ module _ (os : List (ℤ × ℤ)) (background : List ℕ) (tris : List Triangle)
   beneath = is_beneath os tris s.x s.y s.k
 
   -- Their words in order.
-  abbrev sorted : List ℕ
+  abbrev pub sorted : List ℕ
   sorted = in_order nat_lt (map word these)
 
   -- To lie beneath is to have the lower word.
@@ -100,7 +93,7 @@ module _ (os : List (ℤ × ℤ)) (background : List ℕ) (tris : List Triangle)
     go k (inr f) = rw (ne_eqb (word n) w f) (omega arith)
 
   -- In order the words rise strictly.
-  climbs : Climbs sorted
+  pub climbs : Climbs sorted
   climbs = Climbs-from sorted (Rises-in_order (map word these)) (λ w.
       omega (
         arith,
@@ -111,7 +104,7 @@ module _ (os : List (ℤ × ℤ)) (background : List ℕ) (tris : List Triangle)
       ))
 
   -- The next word is the first in order that is left.
-  next_is : (from : ℕ) → next_word os tris s from ≡ first (filter (reaches from) sorted)
+  pub next_is : (from : ℕ) → next_word os tris s from ≡ first (filter (reaches from) sorted)
   unfolding next_among left_among
   next_is from = least-left from (map word these)
 

@@ -37,6 +37,20 @@ Climbs-from (x ∷ xs) r once =
     let rest : 1 + kept (λ y. y == x) xs ≤ 1 = rw (eq-eqb x x refl) at one in
     (at_most x xs ∙ omega (arith, r.0), Climbs-from xs r.1 (λ y. omega (arith, once y)))
 
+-- No more of what passes a test pass another one.
+pub kept-filter_le : (p q : ℕ → Bool) (xs : List ℕ) → kept q (filter p xs) ≤ kept q xs
+kept-filter_le p q [] = omega arith
+kept-filter_le p q (x ∷ xs) =
+    elim (p x) as (λ (v : Bool). kept q (if v then x ∷ filter p xs else filter p xs) ≤ (if q x then 1 else 0) + kept q xs)
+    [ true ↦ omega (arith, kept-filter_le p q xs) | false ↦ omega (arith, kept-filter_le p q xs) ]
+
+-- What passes a test rises strictly too.
+Climbs-filter : (p : ℕ → Bool) (xs : List ℕ) → Climbs xs → Climbs (filter p xs)
+Climbs-filter p [] c = tt
+Climbs-filter p (x ∷ xs) c =
+    elim (p x) as (λ (v : Bool). Climbs (if v then x ∷ filter p xs else filter p xs))
+    [ true ↦ (omega (arith, c.0, kept-filter_le p (λ y. nat_lt y (suc x)) xs), Climbs-filter p xs c.1) | false ↦ Climbs-filter p xs c.1 ]
+
 -- ---- what isn't below a bound
 -- Where none is below it, none is left out.
 pub all_reach : (h : ℕ) (xs : List ℕ) → kept (λ y. nat_lt y h) xs ≡ 0 → filter (reaches h) xs ≡ xs
@@ -105,7 +119,7 @@ least-first [] = refl
 least-first (x ∷ xs) = ap (λ (o : Option ℕ). Some (lower_of x o)) (least-first xs) ∙ sym (first-put x (in_order nat_lt xs))
 
 -- Those of a list put in order that pass a test are those of the list, put in order.
-filter-in_order : (p : ℕ → Bool) (xs : List ℕ) → filter p (in_order nat_lt xs) ≡ in_order nat_lt (filter p xs)
+pub filter-in_order : (p : ℕ → Bool) (xs : List ℕ) → filter p (in_order nat_lt xs) ≡ in_order nat_lt (filter p xs)
 filter-in_order p xs =
     in_order_is (filter p xs) (filter p (in_order nat_lt xs))
     (Alike-filter p xs (in_order nat_lt xs) (record { times = λ q. sym (kept-in_order nat_lt q xs) }))
@@ -129,3 +143,13 @@ left_next from n xs climbs e = go (drop n xs) refl where
       ∙ (sym (narrower from (suc h) xs (omega arith))
       ∙ (ap (filter (reaches (suc h))) (e ∙ sym f)
       ∙ (skip ∙ (all_reach (suc h) r c.0 ∙ sym (one_more n xs h r (sym f)).1))))
+
+-- Once the first of what is left of a strictly rising list is taken, the rest is left.
+pub rest_left : (from h : ℕ) (r xs : List ℕ) → Climbs xs → filter (reaches from) xs ≡ h ∷ r → filter (reaches (h + 1)) xs ≡ r
+rest_left from h r xs climbs e =
+    let low : from ≤ h = reached from h r xs e in
+    let c : Climbs (h ∷ r) = subst Climbs e (Climbs-filter (reaches from) xs climbs) in
+    let skip : filter (reaches (suc h)) (h ∷ r) ≡ filter (reaches (suc h)) r = rw (lt-ltb h (suc h) (omega arith)) refl in
+    let bound : h + 1 ≡ suc h = omega arith in
+    ap (λ (b : ℕ). filter (reaches b) xs) bound
+    ∙ (sym (narrower from (suc h) xs (omega arith)) ∙ (ap (filter (reaches (suc h))) e ∙ (skip ∙ all_reach (suc h) r c.0)))

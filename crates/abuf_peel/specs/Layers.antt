@@ -43,7 +43,7 @@ abbrev pub peeled_of : Region → Pattern → List ℕ → List (List ℕ) → P
 peeled_of r pattern from colours = record { region = r; pattern = pattern; from = from; colours = colours }
 
 -- What the parts of a layer keep to.
-pub record IsLayer (r : Region) (pattern : Pattern) (words found : List ℕ) (colours : List (List ℕ)) : Type 0 where
+pub record IsLayer (r : Region) (pattern : Pattern) (words : List ℕ) (found : List (List ℕ)) (colours : List (List ℕ)) : Type 0 where
   pub from_size : length words ≡ count_of r pattern
   pub best_size : length found ≡ count_of r pattern
   pub colours_size : length colours ≡ count_of r pattern
@@ -69,6 +69,11 @@ taken offsets triangles paints s seen = record {
   colour = with_word paints (next_word offsets triangles s seen.from) seen.colour;
 }
 
+-- The same, n times over.
+abbrev pub taken_times : List (ℤ × ℤ) → List Triangle → List Paint → Sample → ℕ → Seen → Seen
+taken_times offsets triangles paints s zero seen = seen
+taken_times offsets triangles paints s (suc n) seen = taken_times offsets triangles paints s n (taken offsets triangles paints s seen)
+
 -- The sample after n steps from the background on.
 abbrev pub after : List (ℤ × ℤ) → List ℕ → List Triangle → List Paint → Sample → ℕ → Seen
 after offsets background triangles paints s zero = record { from = 0; colour = background }
@@ -84,6 +89,13 @@ pub record Takes (triangles : List Triangle) (paints : List Paint) (old new : Pe
   pub pattern : new.pattern ≡ old.pattern
   pub each : (j : ℕ) → j < count_of old.region old.pattern
       → seen_at new j ≡ taken (offsets_of old.pattern) triangles paints (sample_at old.region (size_of old.pattern) j) (seen_at old j)
+
+-- Every sample takes its next primitive, n times over.
+pub record TakesTimes (triangles : List Triangle) (paints : List Paint) (n : ℕ) (old new : Peeled) : Type 0 where
+  pub region : new.region ≡ old.region
+  pub pattern : new.pattern ≡ old.pattern
+  pub each : (j : ℕ) → j < count_of old.region old.pattern
+      → seen_at new j ≡ taken_times (offsets_of old.pattern) triangles paints (sample_at old.region (size_of old.pattern) j) n (seen_at old j)
 
 -- The word of the next primitive of the sample at an index.
 abbrev pub next_at : Region → Pattern → List Triangle → List ℕ → ℕ → Option ℕ

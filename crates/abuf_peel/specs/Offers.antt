@@ -1,6 +1,6 @@
 -- Primitives offered to the samples of a region.
-use Rattle.std.specs.Prelude.{◌≡◌, ℕ, ◌/◌, ◌%◌, ◌^◌, ◌<◌, Bool, true, false, ◌&&◌, ◌==◌, nat_lt, if◌then◌else◌, ℤ, List, length, slice_index_or}
-use Rattle.std.specs.List.{list_any}
+use Rattle.std.specs.Prelude.{◌≡◌, ℕ, zero, suc, ◌/◌, ◌%◌, ◌^◌, ◌<◌, min, max, Bool, true, false, ◌&&◌, ◌==◌, nat_lt, if◌then◌else◌, ℤ, List, [], ◌∷◌, length, slice_index_or}
+use Rattle.std.specs.List.{count_by, list_any}
 use Rattle.std.specs.Int.{bit_at}
 use Rattle.abuf_raster.specs.declared.region.Hit.{Hit}
 use Rattle.abuf_raster.specs.declared.pattern.Pattern.{Pattern}
@@ -9,18 +9,30 @@ use Rattle.abuf_raster.specs.Coverage.{covers, mask}
 use Rattle.abuf_raster.specs.Depth.{depth_key}
 use Rattle.abuf_raster.specs.Region.{Region, place_of}
 use Rattle.abuf_raster.specs.Samples.{offsets_of}
+use Rattle.abuf_resolve.specs.Colour.{numbers}
 use Rattle.abuf_resolve.specs.Words.{depth_word, reaches}
 use Rattle.abuf_peel.specs.Next.{Sample}
-use Rattle.abuf_peel.specs.Taking.{Finds}
-use Rattle.abuf_peel.specs.Layers.{size_of, sample_at, next_at, count_of}
+use Rattle.abuf_peel.specs.Taking.{FindsLowest}
+use Rattle.abuf_peel.specs.Members.{left_at}
+use Rattle.abuf_peel.specs.Layers.{size_of, sample_at, count_of}
 
--- The least word so far, once one more is offered that counts from `from` on.
-abbrev pub lowered : ℕ → ℕ → ℕ → ℕ
-lowered from word best = if reaches from word && nat_lt word best then word else best
+-- Ascending words, once one more is put in its place and the last one is dropped. `below` stands before them.
+abbrev pub inserted : ℕ → ℕ → List ℕ → List ℕ
+inserted below word [] = []
+inserted below word (here ∷ rest) = min here (max below word) ∷ inserted here word rest
 
--- The same, where it is offered only to a sample that is covered.
-abbrev pub offered : Bool → ℕ → ℕ → ℕ → ℕ
+-- The lowest 16 words so far, once one more is offered that counts from `from` on.
+abbrev pub lowered : ℕ → ℕ → List ℕ → List ℕ
+lowered from word best = if reaches from word && nat_lt word (slice_index_or best 15 0) then inserted 0 word best else best
+
+-- The same, where it is offered only to a sample that is covered;
+abbrev pub offered : Bool → ℕ → ℕ → List ℕ → List ℕ
 offered covered from word best = if covered then lowered from word best else best
+
+-- and where it is offered so many times.
+abbrev pub offered_times : ℕ → ℕ → ℕ → List ℕ → List ℕ
+offered_times zero from word best = best
+offered_times (suc times) from word best = offered_times times from word (lowered from word best)
 
 -- The word of primitive number n in a sample.
 unfoldable pub word_of : Triangle → ℕ → List (ℤ × ℤ) → Sample → ℕ
@@ -63,23 +75,27 @@ pub record Tells (test : ℕ → Bool) (count : ℕ) (answer : Bool) : Type 0 wh
 abbrev pub is_left : Bool → ℕ → ℕ → Bool
 is_left covered from word = covered && reaches from word
 
--- Primitive number n was offered to those samples that pass the test, and `left` tells whether one of them still takes it.
-pub record Offers (t : Triangle) (n : ℕ) (r : Region) (pattern : Pattern) (from : List ℕ) (covered : ℕ → Bool) (old new : List ℕ) (left : Bool) : Type 0 where
+-- Primitive number n was offered so many times to each sample, to those that pass the test at least once, and `left` tells
+-- whether one of them still takes it.
+pub record Offers (t : Triangle) (n : ℕ) (r : Region) (pattern : Pattern) (from : List ℕ) (times : ℕ → ℕ) (covered : ℕ → Bool) (old new : List (List ℕ)) (left : Bool) : Type 0 where
   pub size : length new ≡ length old
   pub each : (j : ℕ) → j < count_of r pattern
-      → slice_index_or new j 0 ≡ offered (covered j) (slice_index_or from j 0) (word_at t n r pattern j) (slice_index_or old j 0)
+      → slice_index_or new j [] ≡ offered_times (times j) (slice_index_or from j 0) (word_at t n r pattern j) (slice_index_or old j [])
   pub fits : (j : ℕ) → j < count_of r pattern → covered j ≡ true → word_at t n r pattern j < 2 ^ 48
   pub tells : Tells (λ j. is_left (covered j) (slice_index_or from j 0) (word_at t n r pattern j)) (count_of r pattern) left
 
 -- It was offered to the samples of these hits, in any order;
-abbrev pub OffersHits : Triangle → ℕ → Region → Pattern → List ℕ → List Hit → List ℕ → List ℕ → Bool → Type 0
-OffersHits t n r pattern from hits old new left = Offers t n r pattern from (λ j. list_any (has_at r (size_of pattern) j) hits) old new left
+abbrev pub OffersHits : Triangle → ℕ → Region → Pattern → List ℕ → List Hit → List (List ℕ) → List (List ℕ) → Bool → Type 0
+OffersHits t n r pattern from hits old new left =
+    Offers t n r pattern from (λ j. count_by (has_at r (size_of pattern) j) hits) (λ j. list_any (has_at r (size_of pattern) j) hits) old new left
 
--- and to all samples that it covers.
-abbrev pub OffersAll : Triangle → ℕ → Region → Pattern → List ℕ → List ℕ → List ℕ → Bool → Type 0
-OffersAll t n r pattern from old new left = Offers t n r pattern from (is_covered_at t r pattern) old new left
+-- and once to each sample that it covers.
+abbrev pub OffersAll : Triangle → ℕ → Region → Pattern → List ℕ → List (List ℕ) → List (List ℕ) → Bool → Type 0
+OffersAll t n r pattern from old new left =
+    Offers t n r pattern from (λ j. if is_covered_at t r pattern j then 1 else 0) (is_covered_at t r pattern) old new left
 
--- The words are those of the next primitives of all samples.
-pub record AreNext (triangles : List Triangle) (r : Region) (pattern : Pattern) (from best : List ℕ) : Type 0 where
+-- The words are those of the next 16 primitives of all samples.
+pub record AreNext (triangles : List Triangle) (r : Region) (pattern : Pattern) (from : List ℕ) (best : List (List ℕ)) : Type 0 where
   pub size : length best ≡ count_of r pattern
-  pub each : (j : ℕ) → j < count_of r pattern → Finds (length triangles) (next_at r pattern triangles from j) (slice_index_or best j 0)
+  pub each : (j : ℕ) → j < count_of r pattern
+      → FindsLowest (length triangles) (left_at r pattern triangles from j (numbers triangles)) (slice_index_or best j [])

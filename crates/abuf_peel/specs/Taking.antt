@@ -1,8 +1,9 @@
 -- What a step finds, as it is kept in words of 64 bits.
-use Rattle.std.specs.Prelude.{◌≡◌, ℕ, ◌+◌, ◌^◌, ◌-◌, ◌==◌, if◌then◌else◌, List, Option, Some, None}
+use Rattle.std.specs.Prelude.{◌≡◌, ℕ, zero, suc, ◌+◌, ◌^◌, ◌-◌, ◌<◌, ◌⊎◌, ◌==◌, if◌then◌else◌, nat_lt, List, [], ◌∷◌, length, slice_index_or, Option, Some, None}
 use Rattle.abuf_num.specs.declared.plain.Paint.{Paint}
+use Rattle.abuf_resolve.specs.Order.{in_order}
 use Rattle.abuf_resolve.specs.Over.{laid_over}
-use Rattle.abuf_resolve.specs.Words.{paint_of, IsDepthWord}
+use Rattle.abuf_resolve.specs.Words.{paint_of, prim_of, IsDepthWord}
 
 -- Above every word: no primitive.
 abbrev pub no_word : ℕ
@@ -13,6 +14,30 @@ abbrev pub Finds : ℕ → Option ℕ → ℕ → Type 0
 Finds count None best = best ≡ no_word
 Finds count (Some word) best = (best ≡ word) × IsDepthWord count word
 
+-- The first n of some words; where there are fewer, `no_word` stands for each that is missing.
+abbrev pub padded : ℕ → List ℕ → List ℕ
+padded zero words = []
+padded (suc n) [] = no_word ∷ padded n []
+padded (suc n) (word ∷ words) = word ∷ padded n words
+
+-- The lowest 16 of some words, ascending.
+unfoldable pub lowest : List ℕ → List ℕ
+lowest words = padded 16 (in_order nat_lt words)
+
+-- They are words of primitives, of which there are so many.
+abbrev pub AreDepthWords : ℕ → List ℕ → Type 0
+AreDepthWords count [] = Unit {0}
+AreDepthWords count (word ∷ words) = IsDepthWord count word × AreDepthWords count words
+
+-- The lowest 16 of some words, each of which is that of one of so many primitives.
+pub record FindsLowest (count : ℕ) (words best : List ℕ) : Type 0 where
+  pub is : best ≡ lowest words
+  pub known : AreDepthWords count words
+
+-- Each of the words is that of one of so many primitives, or of none.
+abbrev pub AreKnown : ℕ → List ℕ → Type 0
+AreKnown count words = (i : ℕ) → i < length words → (slice_index_or words i 0 ≡ no_word) ⊎ (prim_of (slice_index_or words i 0) < count)
+
 -- The word from which on primitives are left, once the primitive of this word is taken;
 abbrev pub marked : ℕ → ℕ → ℕ
 marked best from = if best == no_word then from else best + 1
@@ -20,3 +45,13 @@ marked best from = if best == no_word then from else best + 1
 -- and the colour.
 abbrev pub painted : List Paint → ℕ → List ℕ → List ℕ
 painted paints best under = if best == no_word then under else laid_over under (paint_of paints best)
+
+-- The same, once the primitives of several words are taken one after another;
+abbrev pub marked_by : List ℕ → ℕ → ℕ
+marked_by [] from = from
+marked_by (word ∷ words) from = marked_by words (marked word from)
+
+-- and the colour.
+abbrev pub painted_by : List Paint → List ℕ → List ℕ → List ℕ
+painted_by paints [] under = under
+painted_by paints (word ∷ words) under = painted_by paints words (painted paints word under)

@@ -3,10 +3,10 @@ ghost use Rattle.std.specs.Prelude.{◌≡◌, ◌≤◌, false, true, length, I
 ghost use Rattle.std.specs.List.{All};
 ghost use Rattle.abuf_num.specs.declared.limits.TheConstants.{MAX_PRIMITIVES};
 ghost use Rattle.abuf_resolve.specs.Sums.{IsSmall};
-ghost use Rattle.abuf_peel.specs.Layers.{NoneLeft, OneStepMore, SomeLeft, StandsForNone, Takes, layer_sums, size_of, started};
+ghost use Rattle.abuf_peel.specs.Layers.{NoneLeft, OneStepMore, SomeLeft, StandsForNone, Takes, TakesTimes, layer_sums, size_of, started};
 ghost use Rattle.abuf_peel.specs.Members.{HaveLeft};
 
-use crate::offering::{NO_WORD, Samples};
+use crate::offering::{Samples, no_words};
 use crate::scene::Primitives;
 use crate::sums::layer_sums;
 use abuf_num::{List, NoMemory, Paint, PixelSum};
@@ -22,8 +22,8 @@ pub struct Layer {
     pattern: Pattern,
     /// For each sample 0, or one above the word of the last primitive taken: its depth key times 2^24, plus its number.
     from: Vec<u64>,
-    /// What a step finds: for each sample the word of its next primitive.
-    best: Vec<u64>,
+    /// What a step finds: for each sample the words of its next 16 primitives.
+    best: Vec<[u64; 16]>,
     colours: Vec<[u16; 3]>,
 }
 
@@ -62,7 +62,7 @@ impl Layer {
     {
         let count = region.pixels() as usize * pattern.size() as usize;
         let from = vec![in alloc; 0; count]?;
-        let best = vec![in alloc; NO_WORD; count]?;
+        let best = vec![in alloc; no_words(); count]?;
         let colours = vec![in alloc; background; count]?;
         Ok(Layer {
             region,
@@ -99,8 +99,8 @@ impl Layer {
         samples.take_next(&drawn, &mut self.from, &mut self.best, &mut self.colours)
     }
 
-    /// The same, where the members are all primitives that a sample still takes. Drops members of which
-    /// nothing was left.
+    /// Every sample takes its next 16 primitives, or all that it has left. The members are all primitives that a sample still takes;
+    /// those of which nothing was left are dropped. False only where no sample has one left afterwards.
     pub(crate) fn step_over(
         &mut self,
         tris: &[ScreenTri],
@@ -110,9 +110,9 @@ impl Layer {
         requires few { length tris.now ≤ MAX_PRIMITIVES }
         requires paints { length paints.now ≡ length tris.now }
         requires members { HaveLeft tris.now self.old.region self.old.pattern self.old.from members.old.items }
-        ensures takes { Takes tris.now paints.now self.old self.new }
+        ensures takes { TakesTimes tris.now paints.now 16 self.old self.new }
         ensures members { HaveLeft tris.now self.new.region self.new.pattern self.new.from members.new.items }
-        ensures none { result ≡ false → NoneLeft tris.now self.old }
+        ensures none { result ≡ false → NoneLeft tris.now self.new }
     {
         let samples = Samples {
             region: self.region,

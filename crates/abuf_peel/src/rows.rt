@@ -32,8 +32,8 @@ fn row_at(share: Share, i: u32) -> u32
 }
 
 impl<'a, 'b> Scene<'a, 'b> {
-    /// Steps until no sample has a primitive left: no more often than there are members. Each step drops members that
-    /// are done with, so that later steps offer fewer.
+    /// Takes 16 layers at once until no sample has a primitive left: no more often than there are members. Each time members that
+    /// are done with are dropped, so that fewer are offered later.
     fn exhaust(&self, layer: &mut Layer, members: &mut Vec<u32>)
         requires members { HaveAll (offsets_of layer.old.pattern) self.now.tris.now layer.old.region members.old.items }
         requires start { StandsFor self.now.background self.now.tris.now self.now.paints.now 0 layer.old }

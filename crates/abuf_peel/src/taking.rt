@@ -1,9 +1,9 @@
 // Samples take the primitives that were found for them.
-ghost use Rattle.std.specs.Prelude.{◌≡◌, ℕ, ◌+◌, ◌^◌, ◌<◌, ◌≤◌, ◌⊎◌, false, true, length, slice_index_or};
+ghost use Rattle.std.specs.Prelude.{◌≡◌, ℕ, ◌+◌, ◌-◌, ◌^◌, ◌<◌, ◌≤◌, ◌⊎◌, [], false, true, length, slice_index_or, take};
 ghost use Rattle.abuf_resolve.specs.Words.{prim_of};
-ghost use Rattle.abuf_peel.specs.Layers.{NoneLeft, SomeLeft, Takes, count_of};
+ghost use Rattle.abuf_peel.specs.Layers.{NoneLeft, TakesTimes, SomeLeft, count_of};
 ghost use Rattle.abuf_peel.specs.Members.{HaveLeft};
-ghost use Rattle.abuf_peel.specs.Taking.{marked, no_word, painted};
+ghost use Rattle.abuf_peel.specs.Taking.{AreKnown, marked, marked_by, no_word, painted, painted_by};
 ghost use Rattle.abuf_peel.specs.Rewrites.{Rewrites};
 ghost use Rattle.abuf_peel.specs.Seen.{seen_of};
 
@@ -19,6 +19,18 @@ fn marked(word: u64, from: u64) -> u64
     if word == NO_WORD { from } else { word + 1 }
 }
 
+/// The same, once the primitives of the first `count` words are taken one after another.
+fn marked_by(words: &[u64; 16], count: usize, from: u64) -> u64
+    requires { count ≤ 16 }
+    ensures { result ≡ marked_by (take count words.now) from }
+{
+    let mut mark = from;
+    for i in 0..count {
+        mark = marked(words[i], mark);
+    }
+    mark
+}
+
 /// The colour, once the primitive of this word is taken.
 fn painted(paints: &[Paint], word: u64, under: [u16; 3]) -> [u16; 3]
     requires { (word ≡ no_word) ⊎ (prim_of word < length paints.now) }
@@ -31,29 +43,50 @@ fn painted(paints: &[Paint], word: u64, under: [u16; 3]) -> [u16; 3]
     }
 }
 
-/// Every sample lays the paint of the primitive of its word over its colour.
-pub(crate) fn take_colours(paints: &[Paint], best: &[u64], colours: &mut [[u16; 3]])
+/// The same, once the primitives of the first `count` words are taken one after another.
+fn painted_by(paints: &[Paint], words: &[u64; 16], count: usize, under: [u16; 3]) -> [u16; 3]
+    requires count { count ≤ 16 }
+    requires known { AreKnown (length paints.now) words.now }
+    ensures { result ≡ painted_by paints.now (take count words.now) under }
+{
+    let mut colour = under;
+    for i in 0..count {
+        let next = painted(paints, words[i], colour);
+        colour = next;
+    }
+    colour
+}
+
+/// Every sample lays the paints of the primitives of its first `count` words over its colour, one after another.
+pub(crate) fn take_colours(
+    paints: &[Paint],
+    best: &[[u64; 16]],
+    count: usize,
+    colours: &mut [[u16; 3]],
+)
+    requires count { count ≤ 16 }
     requires size { length best.now ≡ length colours.old }
-    requires known { (j : ℕ) → j < length best.now → (slice_index_or best.now j 0 ≡ no_word)
-        ⊎ (prim_of (slice_index_or best.now j 0) < length paints.now) }
-    ensures { Rewrites (λ j under. painted paints.now (slice_index_or best.now j 0) under) 0 (length colours.old) colours.old colours.new }
+    requires known { (j : ℕ) → j < length best.now → AreKnown (length paints.now) (slice_index_or best.now j []) }
+    ensures { Rewrites (λ j under. painted_by paints.now (take count (slice_index_or best.now j [])) under) 0 (length colours.old) colours.old colours.new }
 {
     for i in 0..best.len() {
-        colours[i] = painted(paints, best[i], colours[i]);
+        colours[i] = painted_by(paints, &best[i], count, colours[i]);
     }
 }
 
-/// Every sample marks the primitive of its word as taken. True where some sample has one.
-pub(crate) fn take_words(best: &[u64], from: &mut [u64]) -> bool
+/// Every sample marks the primitives of its first `count` words as taken. True exactly where some sample has so many.
+pub(crate) fn take_words(best: &[[u64; 16]], count: usize, from: &mut [u64]) -> bool
+    requires some { 1 ≤ count }
+    requires count { count ≤ 16 }
     requires size { length best.now ≡ length from.old }
-    ensures each { Rewrites (λ j from. marked (slice_index_or best.now j 0) from) 0 (length from.old) from.old from.new }
-    ensures none { result ≡ false → (j : ℕ) → j < length best.now → slice_index_or best.now j 0 ≡ no_word }
-    ensures some { result ≡ true → (j : ℕ) × (j < length best.now) × (slice_index_or best.now j 0 < no_word) }
+    ensures each { Rewrites (λ j from. marked_by (take count (slice_index_or best.now j [])) from) 0 (length from.old) from.old from.new }
+    ensures none { result ≡ false → (j : ℕ) → j < length best.now → slice_index_or (slice_index_or best.now j []) (count - 1) 0 ≡ no_word }
+    ensures some { result ≡ true → (j : ℕ) × (j < length best.now) × (slice_index_or (slice_index_or best.now j []) (count - 1) 0 < no_word) }
 {
     let mut any = false;
     for i in 0..best.len() {
-        from[i] = marked(best[i], from[i]);
-        any |= best[i] != NO_WORD;
+        from[i] = marked_by(&best[i], count, from[i]);
+        any |= best[i][count - 1] != NO_WORD;
     }
     any
 }
@@ -64,30 +97,30 @@ impl Samples {
         &self,
         drawn: &Primitives,
         from: &mut [u64],
-        best: &mut [u64],
+        best: &mut [[u64; 16]],
         colours: &mut [[u16; 3]],
     ) -> bool
         requires from { length from.old ≡ count_of self.now.region self.now.pattern }
         requires best { length best.old ≡ count_of self.now.region self.now.pattern }
         requires colours { length colours.old ≡ count_of self.now.region self.now.pattern }
         ensures sizes { (length from.new ≡ length from.old) × (length best.new ≡ length best.old) × (length colours.new ≡ length colours.old) }
-        ensures takes { Takes drawn.now.tris.now drawn.now.paints.now (seen_of self.now from.old colours.old) (seen_of self.now from.new colours.new) }
+        ensures takes { TakesTimes drawn.now.tris.now drawn.now.paints.now 1 (seen_of self.now from.old colours.old) (seen_of self.now from.new colours.new) }
         ensures none { result ≡ false → NoneLeft drawn.now.tris.now (seen_of self.now from.old colours.old) }
         ensures some { result ≡ true → SomeLeft drawn.now.tris.now (seen_of self.now from.old colours.old) }
     {
         self.offer_all(drawn.tris, from, best);
-        take_colours(drawn.paints, best, colours);
-        take_words(best, from)
+        take_colours(drawn.paints, best, 1, colours);
+        take_words(best, 1, from)
     }
 
-    /// The same, where the members are all primitives that a sample still takes. Drops members of which
-    /// nothing was left.
+    /// Every sample takes its next 16 primitives, or all that it has left. The members are all primitives that a sample still takes;
+    /// those of which nothing was left are dropped. False only where no sample has one left afterwards.
     pub(crate) fn take_next_of(
         &self,
         drawn: &Primitives,
         members: &mut Vec<u32>,
         from: &mut [u64],
-        best: &mut [u64],
+        best: &mut [[u64; 16]],
         colours: &mut [[u16; 3]],
     ) -> bool
         requires members { HaveLeft drawn.now.tris.now self.now.region self.now.pattern from.old members.old.items }
@@ -95,13 +128,13 @@ impl Samples {
         requires best { length best.old ≡ count_of self.now.region self.now.pattern }
         requires colours { length colours.old ≡ count_of self.now.region self.now.pattern }
         ensures sizes { (length from.new ≡ length from.old) × (length best.new ≡ length best.old) × (length colours.new ≡ length colours.old) }
-        ensures takes { Takes drawn.now.tris.now drawn.now.paints.now (seen_of self.now from.old colours.old) (seen_of self.now from.new colours.new) }
+        ensures takes { TakesTimes drawn.now.tris.now drawn.now.paints.now 16 (seen_of self.now from.old colours.old) (seen_of self.now from.new colours.new) }
         ensures members { HaveLeft drawn.now.tris.now self.now.region self.now.pattern from.new members.new.items }
-        ensures none { result ≡ false → NoneLeft drawn.now.tris.now (seen_of self.now from.old colours.old) }
+        ensures none { result ≡ false → NoneLeft drawn.now.tris.now (seen_of self.now from.new colours.new) }
     {
         let kept = self.offer_members(drawn.tris, members, from, best);
         members.truncate(kept);
-        take_colours(drawn.paints, best, colours);
-        take_words(best, from)
+        take_colours(drawn.paints, best, 16, colours);
+        take_words(best, 16, from)
     }
 }

@@ -3,6 +3,7 @@ use crate::{Layer, peel};
 use abuf_num::{List, Paint};
 use abuf_raster::{Pattern, Region, ScreenTri};
 use abuf_view::Projected;
+use std::alloc::Global;
 use std::test::Fail;
 
 const RED: Paint = Paint {
@@ -62,5 +63,31 @@ fn two_halves_make_a_square(rt: HostRuntime) -> Result<(), Fail> {
     for sum in sums.as_slice() {
         assert_eq!(rt; sum.channels, [65535; 3]);
     }
+    Ok(())
+}
+
+// Twenty opaque films over one pixel, the nearest first.
+fn twenty_films(alloc: Global) -> Result<Projected, Fail> {
+    let mut tris = List::new(alloc);
+    let mut paints = List::new(alloc);
+    for n in 0..20u16 {
+        let depth = 20 - u32::from(n);
+        tris.push(ScreenTri::new([0, 1024, 0], [0, 0, 1024], [depth; 3]).ok_or("film")?)?;
+        paints.push(Paint {
+            colour: [1000 + n, 0, 0],
+            alpha: 65535,
+        })?;
+    }
+    Ok(Projected { tris, paints })
+}
+
+// These are more layers than are found at once.
+#[test]
+fn the_nearest_of_twenty_films_shows(rt: HostRuntime) -> Result<(), Fail> {
+    let alloc = rt.alloc();
+    let shown = twenty_films(alloc)?;
+    let sums = peel(&rt, alloc, &shown, 1, 1, Pattern::One, [0; 3], 1)?;
+    assert_eq!(rt; sums.as_slice().len(), 1);
+    assert_eq!(rt; sums.as_slice()[0].channels, [1000, 0, 0]);
     Ok(())
 }

@@ -2,7 +2,7 @@ use Rattle.std.proofs.Common.{◌≡◌, ◌∙◌, sym, subst}
 use Rattle.std.specs.Vec.{with_items}
 use Rattle.std.proofs.lemmas.List.{with_items_is}
 use Rattle.abuf_peel.specs.Layers.{NoneLeft, Peeled, SomeLeft, Takes, peeled_of}
-use Rattle.abuf_peel.proofs.Standing.{same_parts, stands_next, takes_as}
+use Rattle.abuf_peel.proofs.Standing.{same_parts, stands_next, takes_as, takes_one}
 use Rattle.abuf_peel.proofs.layer.Layer.step.Goals as goal
 use Rattle.abuf_peel.proofs.layer.Layer.step.Goals.{After-take_next}
 
@@ -22,7 +22,7 @@ after c =
 
 -- Every sample takes its next primitive.
 takes : (c : After-take_next) → Takes c.args.tris.now c.args.paints.now c.args.self.now (new c)
-takes c = takes_as c.args.tris.now c.args.paints.now _ _ _ _ (seen c) (after c) c.take_next.ensures.takes
+takes c = takes_one c.args.tris.now c.args.paints.now _ _ (takes_as c.args.tris.now c.args.paints.now 1 _ _ _ _ (seen c) (after c) c.take_next.ensures.takes)
 
 pub returns-clause-takes : goal.returns-clause-takes
 returns-clause-takes c = takes ((goal.at.returns-clause-takes c).After-take_next)

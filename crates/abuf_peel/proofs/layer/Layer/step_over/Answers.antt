@@ -2,7 +2,7 @@ use Rattle.std.proofs.Common.{◌≡◌, ◌∙◌, refl, sym, subst}
 use Rattle.std.specs.Vec.{with_items}
 use Rattle.std.proofs.lemmas.List.{with_items_is}
 use Rattle.abuf_peel.specs.Members.{HaveLeft}
-use Rattle.abuf_peel.specs.Layers.{NoneLeft, Peeled, Takes, peeled_of}
+use Rattle.abuf_peel.specs.Layers.{NoneLeft, Peeled, TakesTimes, peeled_of}
 use Rattle.abuf_peel.proofs.Standing.{same_parts, takes_as}
 use Rattle.abuf_peel.proofs.layer.Layer.step_over.Goals as goal
 use Rattle.abuf_peel.proofs.layer.Layer.step_over.Goals.{After-take_next_of}
@@ -21,9 +21,9 @@ after c =
     same_parts _ _ _ _ _ _ (sym (with_items_is c.self.inside.from c.take_next_of.new.from (c.take_next_of.ensures.sizes.0 ∙ c.deref_mut.ensures.len)))
     (sym (with_items_is c.self.inside.colours c.take_next_of.new.colours (c.take_next_of.ensures.sizes.2 ∙ c.deref_mut-3.ensures.len)))
 
--- Every sample takes its next primitive.
-takes : (c : After-take_next_of) → Takes c.args.tris.now c.args.paints.now c.args.self.now (new c)
-takes c = takes_as c.args.tris.now c.args.paints.now _ _ _ _ (seen c) (after c) c.take_next_of.ensures.takes
+-- Every sample takes its next primitives.
+takes : (c : After-take_next_of) → TakesTimes c.args.tris.now c.args.paints.now 16 c.args.self.now (new c)
+takes c = takes_as c.args.tris.now c.args.paints.now 16 _ _ _ _ (seen c) (after c) c.take_next_of.ensures.takes
 
 pub returns-clause-takes : goal.returns-clause-takes
 returns-clause-takes c = takes ((goal.at.returns-clause-takes c).After-take_next_of)
@@ -31,7 +31,7 @@ returns-clause-takes c = takes ((goal.at.returns-clause-takes c).After-take_next
 pub returns-clause-none : goal.returns-clause-none
 returns-clause-none c = λ e.
     let d = (goal.at.returns-clause-none c).After-take_next_of in
-    subst (NoneLeft c.args.tris.now) (seen d) (c.take_next_of.ensures.none e)
+    subst (NoneLeft c.args.tris.now) (after d) (c.take_next_of.ensures.none e)
 
 pub returns-clause-members : goal.returns-clause-members
 returns-clause-members c =

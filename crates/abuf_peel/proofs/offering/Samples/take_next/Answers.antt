@@ -1,3 +1,4 @@
+use Rattle.std.proofs.Common.{arith}
 use Rattle.abuf_peel.specs.Seen.{seen_of}
 use Rattle.abuf_peel.proofs.Taken.{all_known, all_take, none_left, some_left}
 use Rattle.abuf_peel.proofs.offering.Samples.take_next.Goals as goal
@@ -10,8 +11,8 @@ take_colours-requires-clause-known c =
 pub returns-clause-takes : goal.returns-clause-takes
 returns-clause-takes c =
     let a = c.args in
-    all_take a.drawn.now.tris.now a.drawn.now.paints.now (seen_of a.self.now a.from.now a.colours.now) c.offer_all.new.best c.offer_all.ensures c.take_words.new.from c.take_colours.new.colours
-    c.requires.from c.requires.colours c.take_words.ensures.each c.take_colours.ensures
+    all_take a.drawn.now.tris.now a.drawn.now.paints.now (seen_of a.self.now a.from.now a.colours.now) c.offer_all.new.best c.offer_all.ensures 1 c.take_words.new.from c.take_colours.new.colours
+    (omega arith) (omega (arith, a.drawn.now.few)) c.requires.from c.requires.colours c.take_words.ensures.each c.take_colours.ensures
 
 pub returns-clause-none : goal.returns-clause-none
 returns-clause-none c = λ e.

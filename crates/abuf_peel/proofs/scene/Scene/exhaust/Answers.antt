@@ -1,4 +1,4 @@
-use Rattle.std.proofs.Common.{◌≡◌, ◌∙◌, ◌+◌, ℕ, suc, refl, sym, subst, arith}
+use Rattle.std.proofs.Common.{◌≡◌, ◌∙◌, ◌+◌, ◌*◌, ℕ, refl, sym, subst, arith}
 use Rattle.abuf_raster.proofs.Masks.{offsets_some}
 use Rattle.abuf_raster.specs.declared.pattern.Pattern.{Pattern}
 use Rattle.abuf_raster.specs.Region.{Region, IsRegion}
@@ -8,14 +8,15 @@ use Rattle.abuf_peel.specs.Members.{HaveAll}
 use Rattle.abuf_peel.proofs.Chosen.{covering_few, sample_in}
 use Rattle.abuf_peel.proofs.Found.{none_from}
 use Rattle.abuf_peel.proofs.Left.{all_left}
-use Rattle.abuf_peel.proofs.Standing.{whole_none, whole_many, stands_next}
+use Rattle.abuf_peel.proofs.Standing.{whole_none, whole_many, stands_times}
 use Rattle.abuf_peel.proofs.scene.Scene.exhaust.Goals as goal
 
 pub returns-then-not-step_over-clause-whole : goal.returns-then-not-step_over-clause-whole
 returns-then-not-step_over-clause-whole c =
     let scene = c.args.self.now in
-    whole_none scene.background scene.tris.now scene.paints.now (omega (arith, scene.few)) c.loop-n._n c.loop-n.layer c.step_over.new.self c.step_over.ensures.takes c.loop-n.invariant.stands
-    (λ j l. none_from (next_at c.loop-n.layer.region c.loop-n.layer.pattern scene.tris.now c.loop-n.layer.from j) (c.step_over.ensures.none c.if-not-step_over.true j l))
+    whole_none scene.background scene.tris.now scene.paints.now (omega (arith, scene.few)) (c.loop-n._n * 16 + 16) c.step_over.new.self
+    (stands_times scene.background scene.tris.now scene.paints.now (c.loop-n._n * 16) 16 c.loop-n.layer c.step_over.new.self c.step_over.ensures.takes c.loop-n.invariant.stands)
+    (λ j l. none_from (next_at c.step_over.new.self.region c.step_over.new.self.pattern scene.tris.now c.step_over.new.self.from j) (c.step_over.ensures.none c.if-not-step_over.true j l))
 
 pub returns-clause-whole : goal.returns-clause-whole
 returns-clause-whole c =
@@ -26,17 +27,17 @@ returns-clause-whole c =
     subst (λ (p : Pattern). HaveAll (offsets_of p) scene.tris.now c.loop-n.layer.region members) (sym c.loop-n.invariant.pattern)
     (subst (λ (r : Region). HaveAll (offsets_of c.args.layer.now.pattern) scene.tris.now r members) (sym c.loop-n.invariant.region) c.requires.members) in
     let region : IsRegion c.loop-n.layer.region = subst IsRegion (sym c.loop-n.invariant.region) (subst IsRegion c.region.ensures c.region_law.ensures) in
-    whole_many scene.background scene.tris.now scene.paints.now (omega (arith, scene.few)) c.loop-n._n c.loop-n.layer
+    whole_many scene.background scene.tris.now scene.paints.now (omega (arith, scene.few)) (c.loop-n._n * 16) c.loop-n.layer
     (λ j m. omega (arith, covering_few (offsets_of c.loop-n.layer.pattern) scene.tris.now c.loop-n.layer.region members (sample_at c.loop-n.layer.region (size_of c.loop-n.layer.pattern) j) have (sample_in c.loop-n.layer.region c.loop-n.layer.pattern j region (offsets_some c.loop-n.layer.pattern) m)))
     c.loop-n.invariant.stands
 
 pub loop-n-preserved : goal.loop-n-preserved
 loop-n-preserved c =
     let scene = c.args.self.now in
-    let e : suc c.loop-n._n ≡ c.loop-n._n + 1 = omega arith in
+    let e : c.loop-n._n * 16 + 16 ≡ (c.loop-n._n + 1) * 16 = omega arith in
     record {
       stands = subst (λ (n : ℕ). StandsFor scene.background scene.tris.now scene.paints.now n c.step_over.new.self) e
-          (stands_next scene.background scene.tris.now scene.paints.now c.loop-n._n c.loop-n.layer c.step_over.new.self c.step_over.ensures.takes c.loop-n.invariant.stands);
+          (stands_times scene.background scene.tris.now scene.paints.now (c.loop-n._n * 16) 16 c.loop-n.layer c.step_over.new.self c.step_over.ensures.takes c.loop-n.invariant.stands);
       region = c.step_over.ensures.takes.region ∙ c.loop-n.invariant.region;
       pattern = c.step_over.ensures.takes.pattern ∙ c.loop-n.invariant.pattern;
       members = c.step_over.ensures.members;
