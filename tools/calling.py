@@ -30,7 +30,8 @@ from abuflib.program import TOP
 from abuflib.report import Fault, Report
 
 CRATES = os.path.join(TOP, "crates")
-NO_LIBRARY = ("abuf", "abuf_refused", "abuf_rows", "abuf_uses", "abuf_watch")  # the programs, tests alone, and callers
+# The programs, tests alone, and callers.
+NO_LIBRARY = ("abuf", "abuf_drawing_rows", "abuf_reading_rows", "abuf_refused", "abuf_rows", "abuf_uses", "abuf_watch")
 PART = re.compile(r"(?ms)^<!-- quote ([^\n]*?) -->\n(.*?)^<!-- (end|quote[^\n]*) -->$")
 
 

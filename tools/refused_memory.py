@@ -3,7 +3,7 @@
 
     refused_memory.py [--abuf PATH] [CRATE..]
 
-    refused_memory.py abuf_mtl abuf_cli
+    refused_memory.py abuf_reading_rows
 
 A run refuses one call, the first, the second and so on, until a run has no such call any more. A
 run of the program ends well where it writes nothing and ends in status 8, or where it gives the
@@ -225,7 +225,7 @@ def main():
                 totals[title] += ends
         for crate in given.crates:
             for name, ends in run_tests(refuser, crate):
-                print(f"{crate}, {name.removeprefix('tests::')}")
+                print(f"{crate}, {name}")
                 tell(IN_TESTS, ends)
                 totals[IN_TESTS] += ends
     print("all")

@@ -9,8 +9,6 @@ mod bands;
 mod fault;
 pub mod laws;
 mod rendering;
-#[cfg(test)]
-mod tests;
 
 pub use fault::BandFault;
 pub use rendering::render_bands;

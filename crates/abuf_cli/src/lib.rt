@@ -8,12 +8,8 @@
 mod command;
 mod job;
 mod options;
-#[cfg(test)]
-mod refusals;
 mod settings;
 mod splits;
-#[cfg(test)]
-mod tests;
 mod values;
 
 pub use job::{Job, Opt, Storage, What, WordFault, read_words};

@@ -9,7 +9,5 @@
 
 mod batch;
 mod brush;
-#[cfg(test)]
-mod tests;
 
 pub use brush::{Brush, draw};

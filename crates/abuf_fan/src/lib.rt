@@ -21,8 +21,6 @@ mod most;
 mod order;
 mod part;
 mod rule;
-#[cfg(test)]
-mod tests;
 mod work;
 
 pub use desk::{Desk, MAX_PARTS, Turn};

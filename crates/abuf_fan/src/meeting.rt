@@ -60,8 +60,8 @@ impl MeetingGate {
         MeetingGate::of_turns(alloc, workers, part, u32::MAX)
     }
 
-    /// A gate whose workers look for each other during so many turns.
-    pub(crate) fn of_turns(
+    /// A gate whose workers look for each other during at most so many loads.
+    pub fn of_turns(
         alloc: Global,
         workers: u32,
         part: u64,

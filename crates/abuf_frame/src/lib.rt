@@ -29,8 +29,6 @@ mod reader;
 mod rule;
 mod steps;
 mod still;
-#[cfg(test)]
-mod tests;
 mod view;
 
 pub use blank::Blank;

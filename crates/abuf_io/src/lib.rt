@@ -18,8 +18,6 @@ mod memory_sink;
 mod memory_source;
 mod outside;
 mod plan;
-#[cfg(test)]
-mod tests;
 mod whole;
 
 pub use adapters::{ReadSource, WriteSink};

@@ -11,8 +11,6 @@ mod fault;
 mod keyword;
 mod materials;
 mod reader;
-#[cfg(test)]
-mod tests;
 
 pub use fault::{MtlFault, MtlWhy};
 pub use materials::{Materials, materials_law, read_mtl};

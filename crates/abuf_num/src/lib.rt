@@ -16,8 +16,6 @@ mod list;
 mod plain;
 mod sign;
 mod size;
-#[cfg(test)]
-mod tests;
 mod texts;
 
 pub use arithmetic::{difference, product};

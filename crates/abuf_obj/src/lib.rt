@@ -18,6 +18,3 @@ mod scene;
 pub use face::Face;
 pub use fault::{ObjFault, Why};
 pub use scene::{Obj, read_obj};
-
-#[cfg(test)]
-mod tests;

@@ -19,8 +19,6 @@ mod scene;
 mod shares;
 mod sums;
 mod taking;
-#[cfg(test)]
-mod tests;
 
 pub use layer::Layer;
 pub use peeling::peel;

@@ -15,8 +15,6 @@ mod rendering;
 mod resolving;
 mod sight;
 mod target;
-#[cfg(test)]
-mod tests;
 
 pub use drawing::draw;
 pub use primitives::Primitives;

@@ -25,8 +25,6 @@ mod reciprocal;
 mod region;
 mod setup;
 mod stepping;
-#[cfg(test)]
-mod tests;
 mod tile;
 mod tile_hits;
 mod tiles;

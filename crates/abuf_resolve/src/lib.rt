@@ -24,8 +24,6 @@ mod planes;
 mod runs;
 mod scene;
 mod tally;
-#[cfg(test)]
-mod tests;
 mod threads;
 
 pub use fold::{laid_over, over, sample_colour};

@@ -15,6 +15,3 @@ pub use assembly::{SceneFault, assemble};
 pub use demo::{Made, make};
 pub use fans::{fan_triangle, paint_of};
 pub use triangles::{Scene, Triangle};
-
-#[cfg(test)]
-mod tests;

@@ -10,8 +10,6 @@ mod image;
 mod job;
 mod path;
 mod plan;
-#[cfg(test)]
-mod tests;
 mod writing;
 
 pub use fault::SequenceFault;

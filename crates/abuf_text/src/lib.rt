@@ -14,6 +14,3 @@ pub use lines::Lines;
 pub use names::Names;
 pub use spaces::rest;
 pub use statement::Statement;
-
-#[cfg(test)]
-mod tests;

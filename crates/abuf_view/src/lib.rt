@@ -16,8 +16,6 @@ mod runs;
 mod scenes;
 mod screen;
 mod short_points;
-#[cfg(test)]
-mod tests;
 mod threads;
 mod turns;
 

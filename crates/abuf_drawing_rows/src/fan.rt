@@ -1,0 +1,250 @@
+// Drawing on threads, and a desk.
+ghost use Rattle.std.specs.Prelude.{◌≡◌, ◌≤◌};
+ghost use Rattle.abuf_num.specs.declared.limits.TheConstants.{MAX_THREADS};
+ghost use Rattle.abuf_raster.specs.Region.{IsImageSize, whole_image};
+
+use abuf_fan::{Desk, Gate, MeetingGate, draw_all, most_fragments};
+use abuf_frame::{Frame, Pass};
+use abuf_raster::{Pattern, Region, ScreenTri};
+use std::alloc::Global;
+use std::process::Abort;
+use std::sync::atomic::{AtomicU64, Ordering};
+use std::test::Fail;
+use std::thread::Threads;
+
+fn square() -> Region
+    ensures { result ≡ whole_image 4 4 }
+{
+    Region::whole_image(4, 4)
+}
+
+// The two halves of an image, which meet along its diagonal.
+fn halves_of(width: u32, height: u32) -> Option<[ScreenTri; 2]> {
+    let right = 256 * i64::from(width);
+    let bottom = 256 * i64::from(height);
+    let upper = ScreenTri::new([0, right, 0], [0, 0, bottom], [0, 0, 0])?;
+    let lower = ScreenTri::new([right, right, 0], [0, bottom, bottom], [0, 0, 0])?;
+    Some([upper, lower])
+}
+
+// Those of a square of 4 by 4 pixels.
+fn halves() -> Option<[ScreenTri; 2]> {
+    halves_of(4, 4)
+}
+
+/// Both halves of the square lie in its 16 pixels, and have 10 and 6 of them.
+#[test]
+fn no_fewer_than_the_fragments(rt: HostRuntime) -> Result<(), Fail> {
+    let halves = halves().ok_or("no triangle")?;
+    for threads in 1..4 {
+        let most = most_fragments(&rt, &halves, square(), Pattern::One, threads);
+        assert!(rt; 16 <= most && most <= 32, "by {threads} threads");
+    }
+    assert!(rt; most_fragments(&rt, &[], square(), Pattern::Eight, 64) == 0);
+    Ok(())
+}
+
+/// The two halves, 64 times in turn, so that each of two parts has 512 fragments.
+#[test]
+fn two_workers_meet(rt: HostRuntime) -> Result<(), Fail> {
+    let alloc = rt.alloc();
+    let halves = halves().ok_or("no triangle")?;
+    let mut tris = Vec::new(alloc);
+    for _ in 0..64 {
+        tris.extend_from_slice(&halves)?;
+    }
+    let count = tris.len();
+    assert!(rt; count == 128);
+    let gate = MeetingGate::new(alloc, 2, 512)?;
+    let (frame, mut pass) = Frame::start(alloc, 16, 1024)?;
+    let drawn = draw_all(
+        &rt,
+        alloc,
+        &frame,
+        &mut pass,
+        &tris,
+        square(),
+        Pattern::One,
+        2,
+        &gate,
+    )
+    .is_ok();
+    let closed = frame.close(pass);
+    assert!(rt; drawn && gate.have_met());
+    assert!(rt; closed.fragments() == 1024 && closed.full().is_none());
+    Ok(())
+}
+
+// Workers draw the two halves of an image, so often in turn that each has a part that covers every pixel of it 32 times. The frame
+// has fewer nodes than that, which changes no count.
+fn all_meet<R: Threads + Sync + Abort>(
+    rt: &R,
+    alloc: Global,
+    width: u32,
+    height: u32,
+    workers: u32,
+) -> Result<(), Fail>
+    requires size { IsImageSize width height }
+    requires workers { (1 ≤ workers) × (workers ≤ MAX_THREADS) }
+{
+    let region = Region::whole_image(width, height);
+    let halves = halves_of(width, height).ok_or("no triangle")?;
+    let mut tris = Vec::new(alloc);
+    for _ in 0..32 * workers {
+        tris.extend_from_slice(&halves)?;
+    }
+    let count = tris.len();
+    assert!(rt; count == 64 * workers as usize);
+    let part = 32 * u64::from(region.pixels());
+    let gate = MeetingGate::new(alloc, workers, part)?;
+    let (frame, mut pass) = Frame::start(alloc, region.pixels(), 1024)?;
+    let drawn = draw_all(
+        rt,
+        alloc,
+        &frame,
+        &mut pass,
+        &tris,
+        region,
+        Pattern::One,
+        workers,
+        &gate,
+    )
+    .is_ok();
+    let closed = frame.close(pass);
+    assert!(rt;
+        drawn && gate.have_met(),
+        "{workers} workers, {width} by {height} pixels"
+    );
+    assert!(rt; closed.fragments() == part * u64::from(workers) && closed.full().is_some());
+    Ok(())
+}
+
+/// Each worker sees that all others have drawn their parts before it goes on, in small images and in large ones, whose triangles
+/// are drawn in another order.
+#[test]
+fn all_workers_meet(rt: HostRuntime) -> Result<(), Fail> {
+    let alloc = rt.alloc();
+    for workers in [2, 3, 7] {
+        all_meet(&rt, alloc, 64, 64, workers)?;
+        all_meet(&rt, alloc, 640, 480, workers)?;
+    }
+    Ok(())
+}
+
+/// One worker that draws one fragment has met itself, until it calls again. It hasn't where two were expected of it, or no worker.
+#[test]
+fn a_gate_tells_other_calls(rt: HostRuntime) -> Result<(), Fail> {
+    let alloc = rt.alloc();
+    let right = MeetingGate::new(alloc, 1, 1)?;
+    let longer = MeetingGate::new(alloc, 1, 2)?;
+    let empty = MeetingGate::new(alloc, 0, 1)?;
+    let (frame, mut pass) = Frame::start(alloc, 1, 1)?;
+    for gate in [&right, &longer, &empty] {
+        gate.pass_by(0, &pass);
+    }
+    pass.insert(&frame, 0, 7);
+    for gate in [&right, &longer, &empty] {
+        gate.pass_by(0, &pass);
+    }
+    let met = right.have_met();
+    right.pass_by(0, &pass);
+    frame.close(pass);
+    assert!(rt; met && !right.have_met());
+    assert!(rt; !longer.have_met() && !empty.have_met());
+    Ok(())
+}
+
+/// Two workers that draw their parts one after the other haven't met: the first looks for the second in vain.
+#[test]
+fn workers_in_turn_have_not_met(rt: HostRuntime) -> Result<(), Fail> {
+    let alloc = rt.alloc();
+    let gate = MeetingGate::of_turns(alloc, 2, 1, 1000)?;
+    let (frame, mut pass) = Frame::start(alloc, 1, 2)?;
+    gate.pass_by(0, &pass);
+    pass.insert(&frame, 0, 7);
+    gate.pass_by(0, &pass);
+    gate.pass_by(1, &pass);
+    pass.insert(&frame, 0, 9);
+    gate.pass_by(1, &pass);
+    frame.close(pass);
+    assert!(rt; !gate.have_met());
+    Ok(())
+}
+
+// A gate that counts its calls.
+#[derive(Drop)]
+struct Calls {
+    count: AtomicU64,
+}
+
+impl Gate for Calls {
+    fn pass_by(&self, _worker: u32, _pass: &Pass) {
+        self.count.fetch_add(1, Ordering::SeqCst);
+    }
+}
+
+/// By one worker to five, which have one part among them: each calls the gate twice, and each pixel has one fragment. Where
+/// memory is refused nothing was drawn.
+#[test]
+fn every_worker_passes_the_gate_twice(rt: HostRuntime) -> Result<(), Fail> {
+    let alloc = rt.alloc();
+    let tris = halves().ok_or("no triangle")?;
+    for threads in 1..6 {
+        let gate = Calls {
+            count: AtomicU64::new(0),
+        };
+        let (frame, mut pass) = Frame::start(alloc, 16, 16)?;
+        let drawn = draw_all(
+            &rt,
+            alloc,
+            &frame,
+            &mut pass,
+            &tris,
+            square(),
+            Pattern::One,
+            threads,
+            &gate,
+        )
+        .is_ok();
+        let closed = frame.close(pass);
+        let calls = gate.count.load(Ordering::SeqCst);
+        let (wanted, count) = if drawn {
+            (2 * u64::from(threads), 16)
+        } else {
+            (0, 0)
+        };
+        assert!(rt;
+            calls == wanted && closed.fragments() == count,
+            "by {threads} threads"
+        );
+        assert!(rt; closed.full().is_none());
+    }
+    Ok(())
+}
+
+// A value that may be moved to another thread, and one that may be shared.
+fn moved<T: Send>(value: T) -> T
+    ensures { result ≡ value }
+{
+    value
+}
+
+fn shared<T: Sync>(_value: &T) {}
+
+#[test]
+fn a_desk_of_two_parts_and_one_of_none(rt: HostRuntime) -> Result<(), Fail> {
+    let alloc = rt.alloc();
+    let (desk, mut a) = Desk::start(alloc, 2)?;
+    shared(&desk);
+    let mut b = moved(a.split(&desk, 5));
+    let first = desk.take(&mut a);
+    let second = desk.take(&mut b);
+    let third = desk.take(&mut a);
+    let fourth = desk.take(&mut b);
+    a.join(&desk, b);
+    assert!(rt; first == Some(0) && second == Some(1));
+    assert!(rt; third.is_none() && fourth.is_none());
+    let (empty, mut turn) = Desk::start(alloc, 0)?;
+    assert!(rt; empty.take(&mut turn).is_none());
+    Ok(())
+}

@@ -1,0 +1,98 @@
+// Two triangles that share a diagonal cover each pixel of a rectangle once.
+ghost use Rattle.std.specs.Prelude.{◌≤◌};
+ghost use Rattle.abuf_num.specs.declared.limits.TheConstants.{MAX_NODES};
+
+use abuf_fan::OpenGate;
+use abuf_num::Paint;
+use abuf_picture::{
+    Compositing, Primitives, Target, draw, draw_and_look, draw_and_resolve, resolve_drawn,
+};
+use abuf_raster::{Pattern, Region, ScreenTri};
+use std::test::Fail;
+
+const WHITE: Paint = Paint {
+    colour: [65535; 3],
+    alpha: 65535,
+};
+
+#[test]
+fn a_square_is_drawn_looked_at_and_resolved(rt: HostRuntime) -> Result<(), Fail> {
+    let alloc = rt.alloc();
+    let upper = ScreenTri::new([0, 1024, 0], [0, 0, 1024], [0; 3]).ok_or("upper")?;
+    let lower = ScreenTri::new([1024, 1024, 0], [0, 1024, 1024], [0; 3]).ok_or("lower")?;
+    let triangles = [upper, lower];
+    let paints = [WHITE; 2];
+    let primitives = Primitives {
+        triangles: &triangles,
+        paints: &paints,
+    };
+    let target = Target {
+        region: Region::whole_image(4, 4),
+        pattern: Pattern::One,
+        background: [0; 3],
+        nodes: 16,
+        threads: 2,
+    };
+    let closed = draw(&rt, alloc, &primitives, &target, &OpenGate)?;
+    assert_eq!(rt; closed.fragments(), 16);
+    let sums = resolve_drawn(&rt, alloc, &primitives, &target, &closed)?;
+    assert_eq!(rt; sums.longest, 1);
+    for sum in sums.sums.as_slice() {
+        assert_eq!(rt; sum.channels, [65535; 3]);
+    }
+    let rendering = draw_and_resolve(&rt, alloc, &primitives, &target, &Compositing, &OpenGate)?;
+    let resolved = rendering.resolved.ok_or("full")?;
+    assert_eq!(rt; rendering.closed.fragments(), 16);
+    assert_eq!(rt; resolved.longest, 1);
+    for sum in resolved.sums.as_slice() {
+        assert_eq!(rt; sum.channels, [65535; 3]);
+    }
+    let sight = draw_and_look(&rt, alloc, &primitives, &target, 0, &OpenGate)?;
+    assert_eq!(rt; sight.entries, 16);
+    assert_eq!(rt; sight.words.len(), 1);
+    Ok(())
+}
+
+/// What is drawn into a region of 1024 by 512 pixels, on two threads.
+fn large_target(nodes: u32) -> Target
+    requires { (1 ≤ nodes) × (nodes ≤ MAX_NODES) }
+{
+    Target {
+        region: Region::whole_image(1024, 512),
+        pattern: Pattern::One,
+        background: [0; 3],
+        nodes,
+        threads: 2,
+    }
+}
+
+// 524288 nodes are enough; one node less is too few.
+#[test]
+fn a_large_rectangle_is_drawn(rt: HostRuntime) -> Result<(), Fail> {
+    let alloc = rt.alloc();
+    let upper = ScreenTri::new([0, 262144, 0], [0, 0, 131072], [0; 3]).ok_or("upper")?;
+    let lower = ScreenTri::new([262144, 262144, 0], [0, 131072, 131072], [0; 3]).ok_or("lower")?;
+    let triangles = [upper, lower];
+    let paints = [WHITE; 2];
+    let primitives = Primitives {
+        triangles: &triangles,
+        paints: &paints,
+    };
+    let ample = draw(&rt, alloc, &primitives, &large_target(8388608), &OpenGate)?;
+    let target = large_target(524288);
+    let exact = draw(&rt, alloc, &primitives, &target, &OpenGate)?;
+    let short = draw(&rt, alloc, &primitives, &large_target(524287), &OpenGate)?;
+    assert!(rt; ample.full().is_none());
+    assert!(rt; exact.full().is_none());
+    assert!(rt; short.full().is_some());
+    assert_eq!(rt; ample.fragments(), 524288);
+    assert_eq!(rt; exact.fragments(), 524288);
+    assert_eq!(rt; short.fragments(), 524288);
+    assert_eq!(rt; exact.pixels(), 524288);
+    let resolved = resolve_drawn(&rt, alloc, &primitives, &target, &exact)?;
+    assert_eq!(rt; resolved.longest, 1);
+    for sum in resolved.sums.as_slice() {
+        assert_eq!(rt; sum.channels, [65535; 3]);
+    }
+    Ok(())
+}

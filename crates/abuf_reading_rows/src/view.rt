@@ -1,0 +1,387 @@
+// Whole scenes before a camera, and the camera's bounds.
+ghost use Rattle.std.specs.Prelude.{◌≤◌, unsigned_abs};
+ghost use Rattle.abuf_obj.specs.Sound.{IsInRange};
+
+use abuf_mtl::{Materials, read_mtl};
+use abuf_num::{List, NoMemory, Paint};
+use abuf_obj::read_obj;
+use abuf_raster::{Pattern, Region, ScreenTri, TileWalk, depth_at, mask_at};
+use abuf_scene::{Scene, SceneFault, Triangle};
+use abuf_view::{Camera, Projected, project, project_faces};
+use std::alloc::{AllocError, Global};
+use std::test::Fail;
+use std::thread::Threads;
+
+const WHITE: Paint = Paint {
+    colour: [65535; 3],
+    alpha: 65535,
+};
+
+// A point, in units of 1/65536.
+fn point(x: i64, y: i64, z: i64) -> [i64; 3]
+    requires x { unsigned_abs x ≤ 2147483647 }
+    requires y { unsigned_abs y ≤ 2147483647 }
+    requires z { unsigned_abs z ≤ 2147483647 }
+    ensures { IsInRange result }
+{
+    [x, y, z]
+}
+
+// What a camera sees of one white triangle.
+fn shown_by(
+    alloc: Global,
+    camera: &Camera,
+    a: [i64; 3],
+    b: [i64; 3],
+    c: [i64; 3],
+) -> Result<Projected, NoMemory>
+    requires a { IsInRange a }
+    requires b { IsInRange b }
+    requires c { IsInRange c }
+{
+    let mut triangles = List::new(alloc);
+    triangles.push(Triangle {
+        a,
+        b,
+        c,
+        paint: WHITE,
+    })?;
+    let scene = Scene { triangles };
+    project(alloc, &scene, camera)
+}
+
+// How many primitives cover the centre of the pixel.
+fn covering(tris: &[ScreenTri], x: u32, y: u32) -> u32
+    requires x { x ≤ 4095 }
+    requires y { y ≤ 4095 }
+{
+    let mut count: u32 = 0;
+    for triangle in tris {
+        count = count.saturating_add(u32::from(mask_at(triangle, x, y, Pattern::One)));
+    }
+    count
+}
+
+// How many pixels of the region the first primitive covers with this depth key.
+fn pixels_at(shown: &Projected, region: Region, depth: u32) -> u32 {
+    let mut count: u32 = 0;
+    if let Some(triangle) = shown.tris.as_slice().first() {
+        for hit in TileWalk::new(triangle, 0, region, Pattern::One) {
+            let covered = mask_at(triangle, hit.x, hit.y, Pattern::One) == 1;
+            if covered && depth_at(triangle, hit.x, hit.y, Pattern::One, 0) == depth {
+                count = count.saturating_add(1);
+            }
+        }
+    }
+    count
+}
+
+// The camera at z = 4 that looks along -z, with an image of 4 by 4 pixels.
+fn front() -> Option<Camera> {
+    Camera::new(4, 4, [1, 0, 0, 0], [0, 0, -262144], 65536, 8192)
+}
+
+fn four_by_four() -> Region {
+    Region::whole_image(4, 4)
+}
+
+// The corners are (0, 0), (1024, 0) and (0, 1024) on the screen, so that the diagonal runs through centres and is a right
+// edge.
+#[test]
+fn upper_left_half_is_covered(rt: HostRuntime) -> Result<(), Fail> {
+    let camera = front().ok_or("camera")?;
+    let a = point(-262144, 262144, 0);
+    let b = point(262144, 262144, 0);
+    let c = point(-262144, -262144, 0);
+    let shown = shown_by(rt.alloc(), &camera, a, b, c)?;
+    assert!(rt; shown.tris.as_slice().len() == 1);
+    assert!(rt; shown.paints.as_slice() == [WHITE].as_slice());
+    for x in 0..4 {
+        for y in 0..4 {
+            assert!(rt; (covering(shown.tris.as_slice(), x, y) == 1) == (x + y < 3));
+        }
+    }
+    assert!(rt; pixels_at(&shown, four_by_four(), 524287) == 6);
+    Ok(())
+}
+
+// The third corner is behind the camera: the two parts cover the two upper rows, each pixel once.
+#[test]
+fn corner_behind_the_camera_is_cut_off(rt: HostRuntime) -> Result<(), Fail> {
+    let camera = front().ok_or("camera")?;
+    let a = point(-65536, 0, 196608);
+    let b = point(65536, 0, 196608);
+    let c = point(0, 65536, 327680);
+    let shown = shown_by(rt.alloc(), &camera, a, b, c)?;
+    assert!(rt; shown.tris.as_slice().len() == 2);
+    assert!(rt; shown.paints.as_slice() == [WHITE, WHITE].as_slice());
+    for x in 0..4 {
+        for y in 0..4 {
+            assert!(rt; (covering(shown.tris.as_slice(), x, y) == 1) == (y < 2));
+        }
+    }
+    Ok(())
+}
+
+// Two corners are behind the camera: one part is left, with its tip in the middle of the image.
+#[test]
+fn corner_alone_before_the_camera_is_kept(rt: HostRuntime) -> Result<(), Fail> {
+    let camera = front().ok_or("camera")?;
+    let a = point(0, 0, 196608);
+    let b = point(-65536, 65536, 327680);
+    let c = point(65536, 65536, 327680);
+    let shown = shown_by(rt.alloc(), &camera, a, b, c)?;
+    assert!(rt; shown.tris.as_slice().len() == 1);
+    for x in 0..4 {
+        for y in 0..4 {
+            let inside = (y == 0 && x < 3) || (y == 1 && x == 1);
+            assert!(rt; (covering(shown.tris.as_slice(), x, y) == 1) == inside);
+        }
+    }
+    Ok(())
+}
+
+// All corners lie on the near plane, and far off the screen: one at X = 4397912293504.
+#[test]
+fn far_corners_on_the_near_plane(rt: HostRuntime) -> Result<(), Fail> {
+    let camera = Camera::new(1, 4096, [1, 0, 0, 0], [0, 0, -262144], 1048576, 4096).ok_or(
+        "camera",
+    )?;
+    let a = point(-2147418112, -2147418112, 258048);
+    let b = point(2147418112, -2147418112, 258048);
+    let c = point(0, 2147418112, 258048);
+    let shown = shown_by(rt.alloc(), &camera, a, b, c)?;
+    let column = Region::whole_image(1, 4096);
+    assert!(rt; pixels_at(&shown, column, 16777215) == 4096);
+    Ok(())
+}
+
+// Shifted as far ahead as can be, a triangle is a point on the screen. As far behind, nothing of it is left.
+#[test]
+fn farthest_shifts(rt: HostRuntime) -> Result<(), Fail> {
+    let a = point(-262144, 262144, 0);
+    let b = point(262144, 262144, 0);
+    let c = point(-262144, -262144, 0);
+    for (z, parts) in [(-2147483647, 1), (2147483647, 0)] {
+        let camera = Camera::new(4, 4, [1, 0, 0, 0], [0, 0, z], 65536, 8192).ok_or("camera")?;
+        let shown = shown_by(rt.alloc(), &camera, a, b, c)?;
+        assert!(rt; shown.tris.as_slice().len() == parts);
+        for x in 0..4 {
+            for y in 0..4 {
+                assert!(rt; covering(shown.tris.as_slice(), x, y) == 0);
+            }
+        }
+    }
+    Ok(())
+}
+
+// Two halves of a square, of which the second has a material.
+const SQUARE: &[u8] = b"v -4 4 0\nv 4 4 0\nv 4 -4 0\nv -4 -4 0\nf 1 2 4\nusemtl red\nf 2 3 4";
+
+// What a camera sees of the square, by the materials of this library.
+fn seen_by_faces<R: Threads + Sync>(
+    rt: &R,
+    alloc: Global,
+    camera: &Camera,
+    library: &[u8],
+) -> Option<Result<Projected, SceneFault>> {
+    let mut materials = Materials::new(alloc);
+    if library.len() > 1000 || read_mtl(alloc, library, &mut materials).is_err() {
+        return None;
+    }
+    match read_obj(alloc, SQUARE) {
+        Ok(obj) => Some(project_faces(rt, alloc, &obj, &materials, camera, 2)),
+        Err(_) => None,
+    }
+}
+
+#[test]
+fn faces_have_the_paint_of_their_material(rt: HostRuntime) -> Result<(), Fail> {
+    let camera = front().ok_or("camera")?;
+    match seen_by_faces(&rt, rt.alloc(), &camera, b"newmtl red\nKd 1 0 0\nd 0.5") {
+        Some(Ok(shown)) => {
+            let red = Paint {
+                colour: [65535, 0, 0],
+                alpha: 32768,
+            };
+            assert!(rt; shown.tris.as_slice().len() == 2);
+            assert!(rt; shown.paints.as_slice() == [WHITE, red].as_slice());
+            for x in 0..4 {
+                for y in 0..4 {
+                    assert!(rt; covering(shown.tris.as_slice(), x, y) == 1);
+                }
+            }
+            assert!(rt; pixels_at(&shown, four_by_four(), 524287) == 6);
+        }
+        _ => assert!(rt; false),
+    }
+    Ok(())
+}
+
+#[test]
+fn face_of_an_unknown_material_is_told(rt: HostRuntime) -> Result<(), Fail> {
+    let camera = front().ok_or("camera")?;
+    match seen_by_faces(&rt, rt.alloc(), &camera, b"newmtl blue") {
+        Some(Err(fault)) => assert!(rt; fault == SceneFault::UnknownMaterial { line: 7 }),
+        _ => assert!(rt; false),
+    }
+    Ok(())
+}
+
+// Five materials, each for this many faces: so many that each of three workers has some. Those of the second have two triangles
+// each.
+const FACES_EACH: u32 = 2500;
+
+const CORNERS: &[u8] = b"v -4 4 0\nv 4 4 0\nv 4 -4 0\nv -4 -4 0\n";
+
+const MATERIALS_AND_FACES: [(&[u8], &[u8]); 5] = [
+    (b"usemtl a\n", b"f 1 2 4\n"),
+    (b"usemtl b\n", b"f 2 3 4 1\n"),
+    (b"usemtl c\n", b"f 2 3 4\n"),
+    (b"usemtl d\n", b"f 1 2 3\n"),
+    (b"usemtl e\n", b"f 1 3 4\n"),
+];
+
+fn many_faces(alloc: Global) -> Result<Vec<u8>, AllocError> {
+    let mut text = Vec::from_slice(alloc, CORNERS)?;
+    for (material, face) in MATERIALS_AND_FACES {
+        text.extend_from_slice(material)?;
+        for _ in 0..FACES_EACH {
+            text.extend_from_slice(face)?;
+        }
+    }
+    Ok(text)
+}
+
+// What a camera sees of these faces on three threads, by the materials of this library.
+fn seen_on_threads<R: Threads + Sync>(
+    rt: &R,
+    alloc: Global,
+    camera: &Camera,
+    library: &[u8],
+) -> Option<Result<Projected, SceneFault>> {
+    let mut materials = Materials::new(alloc);
+    if library.len() > 1000 || read_mtl(alloc, library, &mut materials).is_err() {
+        return None;
+    }
+    let Ok(text) = many_faces(alloc) else {
+        return None;
+    };
+    if text.len() > 1000000 {
+        return None;
+    }
+    match read_obj(alloc, text.as_slice()) {
+        Ok(obj) => Some(project_faces(rt, alloc, &obj, &materials, camera, 3)),
+        Err(_) => None,
+    }
+}
+
+fn grey(level: u16) -> Paint {
+    Paint {
+        colour: [level; 3],
+        alpha: 65535,
+    }
+}
+
+const GREYS: &[u8] =
+    b"newmtl a\nKd 0 0 0\nnewmtl b\nKd 0.2 0.2 0.2\nnewmtl c\nKd 0.4 0.4 0.4\nnewmtl d\nKd 0.6 0.6 0.6\nnewmtl e\nKd 0.8 0.8 0.8";
+
+// The faces cover the square 7500 times.
+#[test]
+fn three_workers_give_all_primitives_in_order(rt: HostRuntime) -> Result<(), Fail> {
+    let camera = front().ok_or("camera")?;
+    match seen_on_threads(&rt, rt.alloc(), &camera, GREYS) {
+        Some(Ok(shown)) => {
+            let paints = shown.paints.as_slice();
+            assert_eq!(rt; paints.len(), 15000);
+            for (first, end, level) in [
+                (0, 2500, 0),
+                (2500, 7500, 13107),
+                (7500, 10000, 26214),
+                (10000, 12500, 39321),
+                (12500, 15000, 52428),
+            ] {
+                for paint in paints.get(first..end).ok_or("paints")? {
+                    assert!(rt; *paint == grey(level));
+                }
+            }
+            for x in 0..4 {
+                for y in 0..4 {
+                    assert!(rt; covering(shown.tris.as_slice(), x, y) == 7500);
+                }
+            }
+        }
+        _ => assert!(rt; false),
+    }
+    Ok(())
+}
+
+#[test]
+fn first_of_several_unknown_materials_is_told(rt: HostRuntime) -> Result<(), Fail> {
+    let camera = front().ok_or("camera")?;
+    match seen_on_threads(&rt, rt.alloc(), &camera, b"newmtl a\nnewmtl b\nnewmtl c") {
+        Some(Err(fault)) => assert!(rt; fault == SceneFault::UnknownMaterial { line: 7509 }),
+        _ => assert!(rt; false),
+    }
+    Ok(())
+}
+
+const TURN: [i32; 4] = [1, 0, 0, 0];
+
+const STILL: [i64; 3] = [0, 0, 0];
+
+// Width, height, turn, shift, focal length and near distance, and whether there is such a camera.
+#[test]
+fn cameras_at_their_bounds_and_past_them(rt: HostRuntime) {
+    for (width, height, turn, shift, focal, near, made) in [
+        (1, 1, [0, 0, 0, 1], STILL, 1, 4096, true),
+        (
+            4096,
+            1024,
+            [-1024, 1024, 0, 0],
+            STILL,
+            1048576,
+            2147483647,
+            true,
+        ),
+        (
+            1024,
+            4096,
+            TURN,
+            [-2147483647, 2147483647, 0],
+            1,
+            4096,
+            true,
+        ),
+        (0, 1, TURN, STILL, 1, 4096, false),
+        (1, 0, TURN, STILL, 1, 4096, false),
+        (4097, 1, TURN, STILL, 1, 4096, false),
+        (1, 4097, TURN, STILL, 1, 4096, false),
+        (4096, 1025, TURN, STILL, 1, 4096, false),
+        (1, 1, [0, 0, 0, 0], STILL, 1, 4096, false),
+        (1, 1, [1025, 0, 0, 0], STILL, 1, 4096, false),
+        (1, 1, [0, 0, -1025, 0], STILL, 1, 4096, false),
+        (1, 1, TURN, [0, 2147483648, 0], 1, 4096, false),
+        (1, 1, TURN, [0, 0, -2147483648], 1, 4096, false),
+        (1, 1, TURN, STILL, 0, 4096, false),
+        (1, 1, TURN, STILL, 1048577, 4096, false),
+        (1, 1, TURN, STILL, 1, 4095, false),
+        (1, 1, TURN, STILL, 1, 2147483648, false),
+    ] {
+        assert!(rt; Camera::new(width, height, turn, shift, focal, near).is_some() == made);
+    }
+}
+
+#[test]
+fn a_camera_tells_what_it_was_made_of(rt: HostRuntime) -> Result<(), Fail> {
+    let camera = Camera::new(4, 3, [1, -2, 1024, 0], [5, -6, 2147483647], 65536, 8192).ok_or(
+        "camera",
+    )?;
+    assert_eq!(rt; camera.width(), 4);
+    assert_eq!(rt; camera.height(), 3);
+    assert!(rt; camera.turn() == [1, -2, 1024, 0]);
+    assert!(rt; camera.shift() == [5, -6, 2147483647]);
+    assert_eq!(rt; camera.focal(), 65536);
+    assert_eq!(rt; camera.near(), 8192);
+    Ok(())
+}
