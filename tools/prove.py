@@ -27,8 +27,8 @@ from abuflib.report import Fault
 
 PROVING = os.path.join(TOP, "out", "proving")
 PROGRAM = "abuf"
-# Tests of whole commands, callers, and programs of their own: the program doesn't need them.
-OTHERS = ("abuf_refused", "abuf_rows", "abuf_uses", "abuf_watch")
+# Tests, callers, and programs of their own: the program doesn't need them.
+OTHERS = ("abuf_drawing_rows", "abuf_reading_rows", "abuf_refused", "abuf_rows", "abuf_uses", "abuf_watch")
 
 # What a check takes at most with one processor, and with each further one, in bytes.
 MEMORY = 4_000_000_000
@@ -110,6 +110,12 @@ def crate_folder(top: str, name: str) -> str:
     return os.path.join(top, "crates", name)
 
 
+def command_for(name: str) -> str:
+    """The command that proves the crate and makes what is needed of it: the program, a library for those above, or nothing."""
+    is_program = os.path.isfile(os.path.join(crate_folder(TOP, name), "src", "main.rt"))
+    return "run" if name == PROGRAM else "check" if is_program else "lib"
+
+
 def link_or_copy(source: str, to: str) -> None:
     try:
         os.link(source, to)
@@ -127,7 +133,7 @@ class Proof:
         self.out = os.path.join(crate_folder(self.room, name), "out")
         self.lay_out(all_below(crates, name))
         self.log: IO[str] = open(os.path.join(self.room, "log"), "w+", encoding="utf-8", errors="replace")
-        words = ["rt", "run" if name == PROGRAM else "lib", "--jobs", str(processors)]
+        words = ["rt", command_for(name), "--jobs", str(processors)]
         try:
             self.ran = subprocess.Popen(words, cwd=os.path.dirname(self.out), stdin=subprocess.DEVNULL, stdout=self.log,
                                         stderr=subprocess.STDOUT, start_new_session=True)
@@ -232,7 +238,7 @@ def ended(number: int, _: object) -> None:
 
 def main() -> int:
     parser = report.words(__doc__)
-    parser.add_argument("--all", action="store_true", help="the tests of whole commands, the callers, abuf_refused and abuf_watch too")
+    parser.add_argument("--all", action="store_true", help="the crates of tests, the callers, abuf_refused and abuf_watch too")
     parser.add_argument("--times", action="store_true", help="tell of each crate how long it took")
     parser.add_argument("--processors", type=int, default=len(os.sched_getaffinity(0)), metavar="N", help="use at most so many")
     given = parser.parse_args()

@@ -83,9 +83,9 @@ exit 0
             self.enterContext(mock.patch.object(prove, name, value))
         self.variables = {"PATH": self.top + os.pathsep + os.environ["PATH"], "RT_LOG": self.log}
 
-    def prove(self, **variables):
+    def prove(self, *words, **variables):
         with mock.patch.dict(os.environ, {**self.variables, **variables}):
-            return helping.call(prove, "--processors", "2", folder=self.top)
+            return helping.call(prove, "--processors", "2", *words, folder=self.top)
 
     def asked(self):
         return helping.read(self.log).decode().splitlines()
@@ -114,6 +114,14 @@ exit 0
     def test_what_was_proved_is_kept(self):
         self.prove(RT_FAILS="abuf")
         self.assertTrue(self.made("num") and self.made("raster") and self.made("scene"))
+
+    def test_another_program_is_checked(self):
+        helping.write(os.path.join(self.top, "crates.txt"), b"num:\nabuf: num\nabuf_watch: num\n")
+        os.makedirs(os.path.join(self.top, "crates", "abuf_watch", "src"))
+        helping.write(os.path.join(self.top, "crates", "abuf_watch", "src", "main.rt"), b"// Nothing.\n")
+        ran = self.prove("--all")
+        self.assertEqual(ran.returncode, 0, ran.stderr)
+        self.assertEqual({"abuf_watch check"}, {it.partition(" --")[0] for it in self.asked() if it.startswith("abuf_watch")})
 
     def test_no_toolchain(self):
         ran = self.prove(PATH=os.path.join(self.top, "src"))
