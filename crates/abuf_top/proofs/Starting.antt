@@ -1,5 +1,5 @@
--- A run whose memory runs out before it reads.
-use Rattle.std.proofs.Common.{◌≡◌, ◌≤◌, ◌+◌, ℕ, List, Option, Some, None, Err, IfSome, arith}
+-- The runs of a process.
+use Rattle.std.proofs.Common.{◌≡◌, ◌≤◌, ◌+◌, ℕ, List, Option, Some, None, Err, IfSome, sym, subst, arith}
 use Rattle.std.specs.Io.KnownBytes.{Keeps}
 use Rattle.abuf_num.specs.declared.limits.TheConstants.{MAX_BYTES}
 use Rattle.abuf_frame.specs.Closing.{Ended}
@@ -28,7 +28,7 @@ few : (n : Option ℕ) (a b : ℕ) → b ≡ a → IfSome n (λ m. b ≤ a + m)
 few None a b e = tt
 few (Some n) a b e = omega (arith, e)
 
--- It is a run of any words.
+-- A run whose memory runs out before it reads is one of any words.
 pub ran_out : (words : List (List ℕ)) (o : Outside) (closed : Option Ended) (ran : Ran)
     → IsUncalled o.source → TakesAtMost (MAX_BYTES + 1) o.source → o.shelf.calls_new ≡ o.shelf.calls_old → o.shelf.faults_new ≡ o.shelf.faults_old
     → Keeps o.out.old o.out.new → closed ≡ None → Concludes (Err stop.Memory) closed ran o.err → IsRun words ran o
@@ -37,3 +37,7 @@ ran_out words o closed ran still taken calls faults kept none c =
     (uncalled (fetches words o.source.left_old (told o.shelf)) _ _ _ _ calls faults)
     (few (most_fetches (job words) o.source.left_old) _ _ calls)
     stop.Memory closed ran (any (task words o.source.left_old (told o.shelf))) tt (λ _. still) kept none c
+
+-- A run of words is one of all that are the same.
+pub run_of_same : (words own : List (List ℕ)) (o : Outside) (ran : Ran) → words ≡ own → IsRun own ran o → IsRun words ran o
+run_of_same words own o ran same run = subst (λ (w : List (List ℕ)). IsRun w ran o) (sym same) run

@@ -5,11 +5,10 @@ ghost use Rattle.std.specs.Vec.Iter.{into_iter_items};
 ghost use Rattle.abuf_io.specs.Sinks.{sink_change};
 ghost use Rattle.abuf_top.specs.Outside.{source_change, shelf_change};
 ghost use Rattle.abuf_top.specs.Process.{AreWords, IsStart};
-ghost use Rattle.abuf_top.specs.Promise.{IsRun};
 
 use crate::outcome::Outcome;
 use crate::stop::Stop;
-use crate::top::{Ran, conclude, run};
+use crate::top::{conclude, run};
 use abuf_io::{Shelf, Sink, Source};
 use std::alloc::{AllocError, Global};
 use std::env::Args;
@@ -39,29 +38,6 @@ fn words_of(alloc: Global, args: io::Result<Args>) -> Result<Vec<String>, AllocE
     }
 }
 
-// The run of these arguments. Where memory runs out for its words, nothing is read.
-fn run_of<R: Threads + Sync, S: Source, H: Shelf, O: Sink, E: Sink>(
-    rt: &R,
-    alloc: Global,
-    args: io::Result<Args>,
-    scene: &mut S,
-    shelf: &mut H,
-    out: &mut O,
-    err: &mut E,
-) -> Ran
-    ensures { (words : List (List ℕ)) → AreWords args words → IsRun words result (record {
-      source = source_change S.left S.faults scene.old scene.new;
-      shelf = shelf_change H.tells H.holds H.calls H.faults shelf.old shelf.new;
-      out = sink_change O.taken O.faults out.old out.new;
-      err = sink_change E.taken E.faults err.old err.new;
-    }) }
-{
-    match words_of(alloc, args) {
-        Ok(words) => run(rt, alloc, words.as_slice(), scene, shelf, out, err),
-        Err(_) => conclude(alloc, Outcome::without_frame(Err(Stop::Memory)), err),
-    }
-}
-
 /// All that `main` does with what it is given: `args` is what [`env::args`](std::env::args) gives, the program's name and the
 /// words after it, and the answer is the code that the process exits with.
 ///
@@ -82,6 +58,13 @@ pub fn start<R: Threads + Sync + AllocGlobal, S: Source, H: Shelf, O: Sink, E: S
       err = sink_change E.taken E.faults err.old err.new;
     }) }
 {
-    let ran = run_of(rt, rt.alloc(), args, scene, shelf, out, err);
-    ExitCode::from(ran.status)
+    let alloc = rt.alloc();
+    match words_of(alloc, args) {
+        Ok(words) => ExitCode::from(
+            run(rt, alloc, words.as_slice(), scene, shelf, out, err).status,
+        ),
+        Err(_) => ExitCode::from(
+            conclude(alloc, Outcome::without_frame(Err(Stop::Memory)), err).status,
+        ),
+    }
 }
