@@ -358,7 +358,8 @@ def module_file(crate: str, name: str) -> Source:
 
 
 def public_items(crate: str) -> Iterator[Quote]:
-    """What the root of a crate makes public, in its order: by `pub use`, and the modules that are public."""
+    """What the root of a crate makes public, in its order: by `pub use`, and the modules that are public. What it gives on of another
+    crate stands on the page of that one."""
     for item in source(crate, "src/lib.rt").items:
         if item.kind == "mod" and item.is_public:
             file = module_file(crate, item.name)
@@ -368,6 +369,8 @@ def public_items(crate: str) -> Iterator[Quote]:
             found = re.match(r"pub use (\w+)::(?:\{([^}]*)\}|(\w+))", re.sub(r"\s+", " ", item.head))
             if not found:
                 raise Fault(f"{crate}/src/lib.rt: a `pub use` of no known form: {item.head}")
+            if found.group(1) in crates():
+                continue
             file = module_file(crate, found.group(1))
             for name in re.findall(r"\w+", found.group(2) or found.group(3)):
                 named = [inner for inner in file.items if inner.is_public and inner.name == name and inner.kind != "use"]

@@ -185,7 +185,7 @@ class Box(NamedTuple):
     makes: str
 
 
-LANES: dict[str, tuple[float, float]] = {"A": (20, 132), "B": (156, 326), "C": (338, 460), "D": (20, 236), "E": (244, 460)}
+LANES: dict[str, tuple[float, float]] = {"A": (20, 132), "B": (156, 326), "C": (338, 460)}
 INPUTS = {"A": ("Words", "command line"), "B": ("Source", "the scene"), "C": ("Shelf", "libraries, path")}
 WAY = [
     Box(0, "A", "abuf_cli", "the job"),
@@ -210,16 +210,17 @@ ASIDE = [  # rows below
     {
         "A": ("abuf", ("main, which", "calls abuf_top")),
         "B": ("abuf_num", ("numbers and lists,", "below all others")),
+        "C": ("abuf_refused", ("main, where the", "scene is refused")),
+    },
+    {
+        "A": ("abuf_share", ("work shared", "among threads")),
+        "B": ("abuf_reading_rows", ("tests of the calls", "that read and write")),
         "C": ("abuf_rows", ("tests of whole", "commands")),
     },
     {
         "A": ("abuf_watch", ("looks while", "others draw")),
-        "B": ("abuf_refused", ("main, where the", "scene is refused")),
+        "B": ("abuf_drawing_rows", ("tests of the calls", "that draw")),
         "C": ("abuf_uses", ("callers of the", "crates")),
-    },
-    {
-        "D": ("abuf_reading_rows", ("tests of the calls", "that read and write")),
-        "E": ("abuf_drawing_rows", ("tests of the calls", "that draw")),
     },
 ]
 FLOWS = [

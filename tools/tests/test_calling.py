@@ -17,6 +17,7 @@ mod shape;
 #[cfg(test)]
 mod tests;
 
+pub use abuf_uses::{Given, given};
 pub use shape::{Shape, double};
 """
 SHAPE = """// Shapes.
@@ -200,7 +201,7 @@ class OfACheckout(unittest.TestCase):
         for name, value in (("TOP", self.top), ("CRATES", os.path.join(self.top, "crates"))):
             self.addCleanup(setattr, calling, name, getattr(calling, name))
             setattr(calling, name, value)
-        for path, text in (("crates.txt", "# Crates.\nabuf_one:\n"), ("README.md", "# One\n"), ("crates/abuf_one/src/lib.rt", LIB),
+        for path, text in (("crates.txt", "# Crates.\nabuf_one: abuf_uses\nabuf_uses:\n"), ("README.md", "# One\n"), ("crates/abuf_one/src/lib.rt", LIB),
                            ("crates/abuf_one/src/shape.rt", SHAPE), ("crates/abuf_one/src/laws.rt", LAWS),
                            ("crates/abuf_one/src/tests.rt", TESTS), ("crates/abuf_one/specs/Sides.antt", SIDES),
                            ("crates/abuf_one/CALLING.md", PAGE)):

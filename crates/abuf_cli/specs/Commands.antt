@@ -7,8 +7,8 @@ use Rattle.clap.specs.declared.builder.action.ArgAction.TheVariants.{SetTrue}
 use Rattle.abuf_cli.specs.Options.{name_of, default_of, options_of}
 use Rattle.abuf_cli.specs.declared.job.Opt.{Opt}
 use Rattle.abuf_cli.specs.declared.job.Opt.TheVariants.{At, Number, Path}
-use Rattle.abuf_cli.specs.declared.command.CommandName.{CommandName}
-use Rattle.abuf_cli.specs.declared.command.CommandName.TheVariants.{Render, Pick, Demo, Sequence}
+use Rattle.abuf_cli.specs.declared.parsing.CommandName.{CommandName}
+use Rattle.abuf_cli.specs.declared.parsing.CommandName.TheVariants.{Render, Pick, Demo, Sequence}
 
 -- An option that takes a value: `--name value` or `--name=value`.
 abbrev pub option_rule : Text → Rule

@@ -2,12 +2,12 @@
 use Rattle.std.specs.Prelude.{ℕ, List}
 use Rattle.abuf_raster.specs.declared.pattern.Pattern.{Pattern}
 use Rattle.abuf_view.specs.Camera.{Camera}
-use Rattle.abuf_cli.specs.declared.job.What.{What}
+use Rattle.abuf_cli.specs.declared.job.Command.{Command}
 use Rattle.abuf_cli.specs.declared.job.Storage.{Storage}
 
--- What is to be made, and how its image is drawn and stored.
+-- What is to be done, and how its images are drawn and stored.
 pub record Job : Type 0 where
-  pub what : What
+  pub command : Command
   pub camera : Camera
   pub pattern : Pattern
   pub threads : ℕ
@@ -17,9 +17,9 @@ pub record Job : Type 0 where
   pub storage : Storage
 
 -- The job of these values.
-abbrev pub asked : What → Camera → Pattern → ℕ → ℕ → List ℕ → ℕ → Storage → Job
-asked what camera pattern threads nodes background maxval storage = record {
-  what = what;
+abbrev pub asked : Command → Camera → Pattern → ℕ → ℕ → List ℕ → ℕ → Storage → Job
+asked command camera pattern threads nodes background maxval storage = record {
+  command = command;
   camera = camera;
   pattern = pattern;
   threads = threads;

@@ -5,15 +5,16 @@ use Rattle.abuf_view.specs.Camera.{camera}
 use Rattle.abuf_cli.specs.Options.{name_of}
 use Rattle.abuf_cli.specs.Commands.{app_of_command, command_named, is_given, matches, text_of}
 use Rattle.abuf_cli.specs.Values.{size_of, pattern_of, threads_of, nodes_of, turn_of, shift_of, focal_of, near_of, background_of, maxval_of, bands_of, at_of, number_of, path_of}
-use Rattle.abuf_cli.specs.declared.command.CommandName.{CommandName}
-use Rattle.abuf_cli.specs.declared.command.CommandName.TheVariants.{Render, Pick, Demo, Sequence}
+use Rattle.abuf_cli.specs.declared.parsing.CommandName.{CommandName}
+use Rattle.abuf_cli.specs.declared.parsing.CommandName.TheVariants.{Render, Pick, Demo, Sequence}
 use Rattle.abuf_cli.specs.declared.values.Size.{Size}
 use Rattle.abuf_cli.specs.Job.{Job}
 use Rattle.abuf_cli.specs.declared.settings.Pose.{Pose}
 use Rattle.abuf_cli.specs.declared.settings.Lens.{Lens}
 use Rattle.abuf_cli.specs.declared.settings.Settings.{Settings}
-use Rattle.abuf_cli.specs.declared.job.What.{What}
 use Rattle.abuf_cli.specs.declared.job.What.TheVariants as what
+use Rattle.abuf_cli.specs.declared.job.Command.{Command}
+use Rattle.abuf_cli.specs.declared.job.Command.TheVariants as command
 use Rattle.abuf_cli.specs.declared.job.Storage.{Storage}
 use Rattle.abuf_cli.specs.declared.job.Storage.TheVariants as stored
 use Rattle.abuf_cli.specs.declared.job.Opt.{Opt}
@@ -75,15 +76,15 @@ storage_of Demo height rows = Ok stored.OneFrame
 storage_of Sequence height rows = Ok stored.OneFrame
 
 -- The sequence of the path file of this name.
-abbrev pub sequence_of : List ℕ → Result What WordFault
-sequence_of text = need opt.Path (path_of text) (λ name. Ok (what.Sequence name))
+abbrev pub sequence_of : List ℕ → Result Command WordFault
+sequence_of text = need opt.Path (path_of text) (λ name. Ok (command.Sequence name))
 
--- What a command makes, where the image has this size. Its value has to be given, so that no text stands by default.
-abbrev pub what_of : CommandName → Size → List Row → Result What WordFault
-what_of Render size rows = Ok what.Render
-what_of Pick size rows = need opt.At (at_of size (text_of opt.At rows)) (λ pixel. Ok (what.Pick pixel.x pixel.y))
-what_of Demo size rows = need opt.Number (number_of (text_of opt.Number rows)) (λ number. Ok (what.Demo number))
-what_of Sequence size rows = sequence_of (text_of opt.Path rows)
+-- The command of this name, where the image has this size. Its value has to be given, so that no text stands by default.
+abbrev pub command_of : CommandName → Size → List Row → Result Command WordFault
+command_of Render size rows = Ok (command.Draw what.Render)
+command_of Pick size rows = need opt.At (at_of size (text_of opt.At rows)) (λ pixel. Ok (command.Draw (what.Pick pixel.x pixel.y)))
+command_of Demo size rows = need opt.Number (number_of (text_of opt.Number rows)) (λ number. Ok (command.Draw (what.Demo number)))
+command_of Sequence size rows = sequence_of (text_of opt.Path rows)
 
 -- What the options ask for, in the order in which their texts are refused, each with the text of its default.
 abbrev pub settings_of : CommandName → List Row → Result Settings WordFault
@@ -109,10 +110,10 @@ settings_of name rows =
       storage = storage;
     }))))))))))
 
--- The job of these settings that makes this.
-abbrev pub job_from : Settings → What → Job
-job_from s what = record {
-  what = what;
+-- The job of these settings that does this.
+abbrev pub job_from : Settings → Command → Job
+job_from s command = record {
+  command = command;
   camera = camera s.size.width s.size.height s.pose.turn s.pose.shift s.lens.focal s.lens.near;
   pattern = s.pattern;
   threads = s.threads;
@@ -122,10 +123,10 @@ job_from s what = record {
   storage = s.storage;
 }
 
--- The options come first, and then what the command makes.
+-- The options come first, and then the command's own value.
 abbrev pub job_of : CommandName → List Row → Result Job WordFault
 job_of name rows =
-    and_then (settings_of name rows) (λ settings. and_then (what_of name settings.size rows) (λ what. Ok (job_from settings what)))
+    and_then (settings_of name rows) (λ settings. and_then (command_of name settings.size rows) (λ command. Ok (job_from settings command)))
 
 -- Without matches the words aren't understood.
 abbrev pub of_matches : CommandName → Option (List Row) → Result Job WordFault

@@ -3,8 +3,8 @@ use Rattle.std.specs.Prelude.{List, [], ◌∷◌, ◌++◌, codes}
 use Rattle.clap.specs.Words.{Text}
 use Rattle.abuf_cli.specs.declared.job.Opt.{Opt}
 use Rattle.abuf_cli.specs.declared.job.Opt.TheVariants.{Size, Samples, Threads, Nodes, Turn, Shift, Focal, Near, Background, Maxval, Bands, Path, At, Number}
-use Rattle.abuf_cli.specs.declared.command.CommandName.{CommandName}
-use Rattle.abuf_cli.specs.declared.command.CommandName.TheVariants.{Render, Pick, Demo, Sequence}
+use Rattle.abuf_cli.specs.declared.parsing.CommandName.{CommandName}
+use Rattle.abuf_cli.specs.declared.parsing.CommandName.TheVariants.{Render, Pick, Demo, Sequence}
 
 -- The name of an option, as it stands after `--`, or of a positional value.
 abbrev pub name_of : Opt → Text

@@ -3,13 +3,13 @@ ghost use Rattle.std.specs.Prelude.{◌≡◌, ℕ, map, IfOk};
 ghost use Rattle.std.specs.String.{string_bytes};
 ghost use Rattle.clap.specs.Words.{rows_of, found_of};
 ghost use Rattle.abuf_cli.specs.Commands.{app_of_command, matches};
-ghost use Rattle.abuf_cli.specs.Sound.{IsWhat, command_of};
-ghost use Rattle.abuf_cli.specs.declared.command.CommandName.TheVariants.{Sequence};
-ghost use Rattle.abuf_cli.specs.Jobs.{sequence_of, what_of, job_of, of_matches, first_command, job, Answers};
+ghost use Rattle.abuf_cli.specs.Sound.{IsCommand, name_of};
+ghost use Rattle.abuf_cli.specs.declared.parsing.CommandName.TheVariants.{Sequence};
+ghost use Rattle.abuf_cli.specs.Jobs.{sequence_of, command_of, job_of, of_matches, first_command, job, Answers};
 
-use crate::command::{CommandName, command_named, matches_of, text_of};
+use crate::parsing::{CommandName, command_named, matches_of, text_of};
 use crate::settings::{Settings, camera_of};
-use crate::values::{Size, at_of, number_of};
+use crate::values::{Pixel, Size, at_of, number_of};
 use abuf_num::List;
 use abuf_raster::Pattern;
 use abuf_view::Camera;
@@ -17,8 +17,8 @@ use clap::ArgMatches;
 use std::alloc::Global;
 use std::marker::Model;
 
-/// What is to be made: the command that the first word names, and the positional value that it takes.
-#[derive(Drop)]
+/// What is made of one drawing: the command that the first word names, and the positional value that it takes.
+#[derive(Clone, Copy, Debug, PartialEq, Eq)]
 pub enum What {
     /// The image of a scene, by `render`.
     Render,
@@ -26,6 +26,13 @@ pub enum What {
     Pick { x: u32, y: u32 },
     /// The demonstration scene of this many triangles, from 1 to 200000, by `demo`.
     Demo { number: u32 },
+}
+
+/// What is to be done.
+#[derive(Drop)]
+pub enum Command {
+    /// One drawing, of which this is made.
+    Draw(What),
     /// An image for each shot of a path file, by `sequence`: the name of that file, which isn't empty.
     Sequence { name: List<u8> },
 }
@@ -90,7 +97,7 @@ pub enum WordFault {
 /// What the words ask for. Each value is within the range of its option.
 #[derive(Drop)]
 pub struct Job {
-    what: What,
+    command: Command,
     camera: Camera,
     pattern: Pattern,
     threads: u32,
@@ -106,24 +113,24 @@ impl Model for Job {
 
     ghost Value = { Asked };
 
-    ghost view = { λ j. asked j.what j.camera j.pattern j.threads j.nodes j.background j.maxval j.storage };
+    ghost view = { λ j. asked j.command j.camera j.pattern j.threads j.nodes j.background j.maxval j.storage };
 
-    ghost invariant = { λ j. IsJob (asked j.what j.camera j.pattern j.threads j.nodes j.background j.maxval j.storage) };
+    ghost invariant = { λ j. IsJob (asked j.command j.camera j.pattern j.threads j.nodes j.background j.maxval j.storage) };
 }
 
 impl Job {
     ghost use Rattle.abuf_cli.specs.Jobs.{job_from};
-    ghost use Rattle.abuf_cli.specs.Sound.{IsSettings, IsWhat, IsJob, command_of};
+    ghost use Rattle.abuf_cli.specs.Sound.{IsSettings, IsCommand, IsJob, name_of};
 
-    // The job of these settings that makes this.
-    fn of(settings: Settings, what: What) -> Job
-        requires settings { IsSettings (command_of what) settings }
-        requires what { IsWhat settings.size.width settings.size.height what }
-        ensures { result ≡ job_from settings what }
+    // The job of these settings that does this.
+    fn of(settings: Settings, command: Command) -> Job
+        requires settings { IsSettings (name_of command) settings }
+        requires command { IsCommand settings.size.width settings.size.height command }
+        ensures { result ≡ job_from settings command }
     {
         let background = settings.background;
         Job {
-            what,
+            command,
             camera: camera_of(settings.size, settings.pose, settings.lens),
             pattern: settings.pattern,
             threads: settings.threads,
@@ -134,13 +141,13 @@ impl Job {
         }
     }
 
-    /// What is to be made.
+    /// What is to be done.
     #[inline(always)]
-    pub fn what(&self) -> &What
-        ensures value { result.now ≡ self.now.what }
+    pub fn command(&self) -> &Command
+        ensures value { result.now ≡ self.now.command }
         ensures job { IsJob self.now }
     {
-        &self.what
+        &self.command
     }
 
     /// The camera, and with it the size of the image. For `sequence` it has the turn and the shift of their defaults.
@@ -208,44 +215,41 @@ impl Job {
 }
 
 // The sequence of the path file of this name.
-fn sequence_of(alloc: Global, name: &[u8]) -> Result<What, WordFault>
+fn sequence_of(alloc: Global, name: &[u8]) -> Result<Command, WordFault>
     ensures answer { Answers (sequence_of name.now) result }
-    ensures sound { (width height : ℕ) → IfOk result (IsWhat width height) }
-    ensures command { IfOk result (λ what. command_of what ≡ Sequence) }
+    ensures sound { (width height : ℕ) → IfOk result (IsCommand width height) }
+    ensures named { IfOk result (λ command. name_of command ≡ Sequence) }
 {
     if name.is_empty() {
         return Err(WordFault::Value { option: Opt::Path });
     }
     match name.to_vec(alloc) {
-        Ok(name) => Ok(What::Sequence {
+        Ok(name) => Ok(Command::Sequence {
             name: List::from_vec(name),
         }),
         Err(_) => Err(WordFault::Memory),
     }
 }
 
-// What a command makes, where the image has this size.
-fn what_of(
+// The command of this name, where the image has this size.
+fn command_of(
     alloc: Global,
     name: CommandName,
     size: Size,
     matches: &ArgMatches,
-) -> Result<What, WordFault>
-    ensures answer { Answers (what_of name size (rows_of (found_of matches.now))) result }
-    ensures sound { IfOk result (IsWhat size.width size.height) }
-    ensures command { IfOk result (λ what. command_of what ≡ name) }
+) -> Result<Command, WordFault>
+    ensures answer { Answers (command_of name size (rows_of (found_of matches.now))) result }
+    ensures sound { IfOk result (IsCommand size.width size.height) }
+    ensures named { IfOk result (λ command. name_of command ≡ name) }
 {
     match name {
-        CommandName::Render => Ok(What::Render),
+        CommandName::Render => Ok(Command::Draw(What::Render)),
         CommandName::Pick => match at_of(size, text_of(matches, Opt::At).as_bytes()) {
-            Some(pixel) => Ok(What::Pick {
-                x: pixel.x,
-                y: pixel.y,
-            }),
+            Some(Pixel { x, y }) => Ok(Command::Draw(What::Pick { x, y })),
             None => Err(WordFault::Value { option: Opt::At }),
         },
         CommandName::Demo => match number_of(text_of(matches, Opt::Number).as_bytes()) {
-            Some(number) => Ok(What::Demo { number }),
+            Some(number) => Ok(Command::Draw(What::Demo { number })),
             None => Err(WordFault::Value {
                 option: Opt::Number,
             }),
@@ -258,23 +262,17 @@ fn what_of(
 fn job_of(alloc: Global, name: CommandName, matches: &ArgMatches) -> Result<Job, WordFault>
     ensures answer { Answers (job_of name (rows_of (found_of matches.now))) result }
 {
-    match Settings::read(name, matches) {
-        Ok(settings) => match what_of(alloc, name, settings.size, matches) {
-            Ok(what) => Ok(Job::of(settings, what)),
-            Err(fault) => Err(fault),
-        },
-        Err(fault) => Err(fault),
-    }
+    let settings = Settings::read(name, matches)?;
+    let command = command_of(alloc, name, settings.size, matches)?;
+    Ok(Job::of(settings, command))
 }
 
 // The job of the words of a command, of which the first is its name.
 fn command_job(alloc: Global, name: CommandName, words: &[String]) -> Result<Job, WordFault>
     ensures answer { Answers (of_matches name (matches (app_of_command name) (map string_bytes words.now))) result }
 {
-    match matches_of(alloc, name, words) {
-        Ok(matches) => job_of(alloc, name, &matches),
-        Err(fault) => Err(fault),
-    }
+    let matches = matches_of(alloc, name, words)?;
+    job_of(alloc, name, &matches)
 }
 
 // The command that the first word names.

@@ -5,11 +5,11 @@
 //! texts; every form, range and default is read here.
 #![tactic(auto)]
 
-mod command;
 mod job;
 mod options;
+mod parsing;
 mod settings;
 mod splits;
 mod values;
 
-pub use job::{Job, Opt, Storage, What, WordFault, read_words};
+pub use job::{Command, Job, Opt, Storage, What, WordFault, read_words};

@@ -2,8 +2,8 @@
 ghost use Rattle.std.specs.Prelude.{◌≡◌};
 ghost use Rattle.abuf_cli.specs.Options.{name_of, default_of, options_of};
 
-use crate::command::CommandName;
 use crate::job::Opt;
+use crate::parsing::CommandName;
 
 impl Opt {
     /// The name, as it stands after `--`, or of a positional value.

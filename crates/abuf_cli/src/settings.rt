@@ -4,8 +4,8 @@ ghost use Rattle.clap.specs.Words.{rows_of, found_of};
 ghost use Rattle.abuf_view.specs.Camera.{IsSize, IsLens, IsCamera, camera};
 ghost use Rattle.abuf_cli.specs.Poses.{IsPose};
 
-use crate::command::{CommandName, given_text, is_given, text_of};
 use crate::job::{Opt, Storage, WordFault};
+use crate::parsing::{CommandName, given_text, is_given, text_of};
 use crate::values::{
     Size, background_of, bands_of, focal_of, maxval_of, near_of, nodes_of, pattern_of, shift_of,
     size_of, threads_of, turn_of,
@@ -24,7 +24,7 @@ pub struct Pose {
 impl Pose {
     ghost use Rattle.std.specs.Prelude.{IfOk};
     ghost use Rattle.abuf_cli.specs.Poses.{IsPose};
-    ghost use Rattle.abuf_cli.specs.Jobs.{given_pose, default_pose, pose_of};
+    ghost use Rattle.abuf_cli.specs.Jobs.{given_pose, pose_of};
 
     // The pose that the texts give.
     fn given(matches: &ArgMatches) -> Result<Pose, WordFault>
@@ -40,25 +40,17 @@ impl Pose {
         Ok(Pose { turn, shift })
     }
 
-    // The pose where no texts are taken for it.
-    fn by_default() -> Pose
-        ensures value { result ≡ default_pose }
-        ensures sound { IsPose result }
-    {
-        Pose {
-            turn: [1, 0, 0, 0],
-            shift: [0, 0, -262144],
-        }
-    }
-
-    // The pose of a command.
+    // The pose of a command: that of the texts, where it takes them.
     fn read(name: CommandName, matches: &ArgMatches) -> Result<Pose, WordFault>
         ensures value { result ≡ pose_of name (rows_of (found_of matches.now)) }
         ensures sound { IfOk result IsPose }
     {
         match name {
             CommandName::Render | CommandName::Pick | CommandName::Demo => Pose::given(matches),
-            CommandName::Sequence => Ok(Pose::by_default()),
+            CommandName::Sequence => Ok(Pose {
+                turn: [1, 0, 0, 0],
+                shift: [0, 0, -262144],
+            }),
         }
     }
 }

@@ -9,14 +9,7 @@ ghost use Rattle.abuf_draw.specs.Waiting.{Passes};
 
 use crate::batch::Batch;
 use abuf_frame::{Frame, Pass};
-use abuf_raster::{Fragment, Hit, Pattern, Region, ScreenTri, TileHits, meets};
-
-/// A hit of no triangle, where none was written yet.
-const NO_HIT: Hit = Hit {
-    x: 0,
-    y: 0,
-    fragment: Fragment { prim: 0, mask: 0 },
-};
+use abuf_raster::{Hit, NO_HIT, Pattern, Region, ScreenTri, TileHits, meets};
 
 /// Draws triangles into a region, sampled in a pattern. Fragments, of one triangle after another, wait until there are up to 64 of
 /// them, and are then put into the frame by one claim, since a claim costs as much as a fragment, and more where many threads draw.

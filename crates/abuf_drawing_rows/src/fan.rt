@@ -1,9 +1,9 @@
-// Drawing on threads, and a desk.
+// Drawing on threads.
 ghost use Rattle.std.specs.Prelude.{◌≡◌, ◌≤◌};
 ghost use Rattle.abuf_num.specs.declared.limits.TheConstants.{MAX_THREADS};
 ghost use Rattle.abuf_raster.specs.Region.{IsImageSize, whole_image};
 
-use abuf_fan::{Desk, Gate, MeetingGate, draw_all, most_fragments};
+use abuf_fan::{Gate, MeetingGate, draw_all, most_fragments};
 use abuf_frame::{Frame, Pass};
 use abuf_raster::{Pattern, Region, ScreenTri};
 use std::alloc::Global;
@@ -219,32 +219,5 @@ fn every_worker_passes_the_gate_twice(rt: HostRuntime) -> Result<(), Fail> {
         );
         assert!(rt; closed.full().is_none());
     }
-    Ok(())
-}
-
-// A value that may be moved to another thread, and one that may be shared.
-fn moved<T: Send>(value: T) -> T
-    ensures { result ≡ value }
-{
-    value
-}
-
-fn shared<T: Sync>(_value: &T) {}
-
-#[test]
-fn a_desk_of_two_parts_and_one_of_none(rt: HostRuntime) -> Result<(), Fail> {
-    let alloc = rt.alloc();
-    let (desk, mut a) = Desk::start(alloc, 2)?;
-    shared(&desk);
-    let mut b = moved(a.split(&desk, 5));
-    let first = desk.take(&mut a);
-    let second = desk.take(&mut b);
-    let third = desk.take(&mut a);
-    let fourth = desk.take(&mut b);
-    a.join(&desk, b);
-    assert!(rt; first == Some(0) && second == Some(1));
-    assert!(rt; third.is_none() && fourth.is_none());
-    let (empty, mut turn) = Desk::start(alloc, 0)?;
-    assert!(rt; empty.take(&mut turn).is_none());
     Ok(())
 }

@@ -26,4 +26,6 @@ mod resolving;
 #[cfg(test)]
 mod sequence;
 #[cfg(test)]
+mod share;
+#[cfg(test)]
 mod walks;

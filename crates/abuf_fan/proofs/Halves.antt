@@ -5,9 +5,9 @@ use Rattle.std.proofs.lemmas.Grind.{flat_map-append}
 use Rattle.abuf_raster.specs.Region.{Region}
 use Rattle.abuf_raster.specs.Triangle.{Triangle}
 use Rattle.abuf_frame.specs.declared.view.View.{View}
-use Rattle.abuf_frame.specs.Counting.{below, times}
+use Rattle.abuf_num.specs.Counting.{below, times}
 use Rattle.abuf_frame.specs.Steps.{united}
-use Rattle.abuf_frame.proofs.Counting.{times-append}
+use Rattle.abuf_num.proofs.Counting.{times-append}
 use Rattle.abuf_frame.proofs.Draws.{adds_permuted}
 use Rattle.std.proofs.lemmas.List.Sorted.{IsPermutation-trans, length_permutation}
 use Rattle.std.proofs.Common.{IsPermutation}
@@ -15,8 +15,8 @@ use Rattle.abuf_raster.specs.Hits.{all_fragments}
 use Rattle.abuf_fan.specs.Grows.{Grows}
 use Rattle.abuf_fan.specs.Workers.{Parted}
 use Rattle.abuf_fan.proofs.Growing.{grows_both}
-use Rattle.abuf_fan.specs.declared.rule.Hand.{Hand}
-use Rattle.abuf_fan.specs.Desk.{EachOnceIfWhole, holding, whole_hand}
+use Rattle.abuf_share.specs.declared.rule.Hand.{Hand}
+use Rattle.abuf_share.specs.Desk.{EachOnceIfWhole, holding, whole_hand}
 use Rattle.abuf_fan.specs.Parts.{IsOrder, fragments_of, part_fragments}
 use Rattle.abuf_fan.specs.Workers.{Served}
 use Rattle.abuf_fan.proofs.Taken.{taken_all, past_all}

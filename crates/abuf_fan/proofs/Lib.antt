@@ -1,6 +1,5 @@
 pub mod Parts
 pub mod Growing
-pub mod DeskSteps
 pub mod Taken
 pub mod Serving
 pub mod Halves

@@ -6,12 +6,12 @@ use Rattle.std.proofs.lemmas.Grind.{flat_map-append}
 use Rattle.abuf_raster.specs.Region.{Region}
 use Rattle.abuf_raster.specs.Triangle.{Triangle}
 use Rattle.abuf_frame.specs.declared.view.View.{View}
-use Rattle.abuf_frame.proofs.Counting.{times-append}
+use Rattle.abuf_num.proofs.Counting.{times-append}
 use Rattle.abuf_frame.specs.Draws.{Draws}
 use Rattle.abuf_frame.proofs.Draws.{draws_then}
 use Rattle.abuf_fan.proofs.Growing.{grows_once}
-use Rattle.abuf_fan.specs.declared.rule.Hand.{Hand}
-use Rattle.abuf_fan.specs.Desk.{EachOnceIfWhole, drawing}
+use Rattle.abuf_share.specs.declared.rule.Hand.{Hand}
+use Rattle.abuf_share.specs.Desk.{EachOnceIfWhole, drawing}
 use Rattle.abuf_fan.specs.Parts.{fragments_of, part_fragments, parts_of}
 use Rattle.abuf_fan.specs.Workers.{Served}
 

@@ -1,18 +1,18 @@
 -- The parts of numbers that were taken.
-use Rattle.std.proofs.Common.{◌≡◌, ℕ, zero, suc, ◌+◌, ◌-◌, ◌*◌, ◌<◌, ◌≤◌, Bool, cond, ℤ, List, [], ◌∷◌, ◌++◌, length, take, drop, sym, refl, ap, ◌∙◌, subst, arith, eq-eqb, ⊎_elim, ◌⊎◌, inl, inr, IsPermutation, All, min, append_assoc, append-nil}
+use Rattle.std.proofs.Common.{◌≡◌, ℕ, zero, suc, ◌+◌, ◌-◌, ◌*◌, ◌<◌, ◌≤◌, Bool, cond, ℤ, List, [], ◌∷◌, ◌++◌, length, take, drop, sym, refl, ap, ◌∙◌, subst, arith, eq-eqb, ⊎_elim, IsPermutation, All, min, append_assoc, append-nil}
 use Rattle.std.proofs.lemmas.Bool.{cases_lt}
 use Rattle.std.proofs.Math.Nat.{mul-le-mul, le_refl}
 use Rattle.std.specs.List.{flat_map, range_with_len}
-use Rattle.std.proofs.lemmas.List.{length-take, length-take-le, length-drop, nil_from_length, take_all}
+use Rattle.std.proofs.lemmas.List.{length-take, length-drop, nil_from_length, take_all}
 use Rattle.std.proofs.lemmas.List.Folds.{drop_split}
 use Rattle.std.proofs.lemmas.List.Elements.{All-head, All-tail}
 use Rattle.std.proofs.lemmas.Grind.{flat_map-append}
 use Rattle.std.proofs.lemmas.List.Sorted.{IsPermutation-refl, IsPermutation-trans, IsPermutation-append, IsPermutation-append_comm, IsPermutation-append_right}
 use Rattle.abuf_raster.specs.Region.{Region}
 use Rattle.abuf_raster.specs.Triangle.{Triangle}
-use Rattle.abuf_frame.specs.Counting.{below, times}
-use Rattle.abuf_frame.proofs.Counting.{times-append, below_more, below_from}
-use Rattle.abuf_frame.proofs.Counting.{split_at, none_in}
+use Rattle.abuf_num.specs.Counting.{below, times}
+use Rattle.abuf_num.proofs.Counting.{times-append, below_more, below_from}
+use Rattle.abuf_num.proofs.Counting.{split_at, none_in}
 use Rattle.abuf_fan.specs.Parts.{fragments_of, part_fragments, parts_of}
 
 -- Lists of the same numbers lead to the same items, in some order.

@@ -1,4 +1,3 @@
-pub mod Desk
 pub mod Parts
 pub mod Grows
 pub mod Workers

@@ -4,7 +4,7 @@ use Rattle.std.specs.List.{flat_map}
 use Rattle.abuf_raster.specs.Region.{Region}
 use Rattle.abuf_raster.specs.Triangle.{Triangle}
 use Rattle.abuf_raster.specs.Hits.{all_fragments}
-use Rattle.abuf_frame.specs.Counting.{below, times}
+use Rattle.abuf_num.specs.Counting.{below, times}
 
 -- the number of parts of so many triangles
 abbrev pub parts_of : ℕ → ℕ

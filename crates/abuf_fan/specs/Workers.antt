@@ -5,13 +5,13 @@ use Rattle.abuf_raster.specs.Region.{Region}
 use Rattle.abuf_raster.specs.Samples.{offsets_of}
 use Rattle.abuf_raster.specs.Triangle.{Triangle}
 use Rattle.abuf_frame.specs.declared.view.View.{View}
-use Rattle.abuf_frame.specs.Counting.{times}
+use Rattle.abuf_num.specs.Counting.{times}
 use Rattle.abuf_frame.specs.Pass.{PassState}
 use Rattle.abuf_frame.specs.Steps.{split_left, split_right}
-use Rattle.abuf_fan.specs.declared.desk.TheConstants.{MAX_PARTS}
-use Rattle.abuf_fan.specs.declared.rule.Hand.{Hand}
+use Rattle.abuf_share.specs.declared.desk.TheConstants.{MAX_PARTS}
+use Rattle.abuf_share.specs.declared.rule.Hand.{Hand}
 use Rattle.abuf_fan.specs.declared.work.Work.{Work}
-use Rattle.abuf_fan.specs.Desk.{EachOnceIfWhole, TurnState}
+use Rattle.abuf_share.specs.Desk.{EachOnceIfWhole, TurnState}
 use Rattle.abuf_fan.specs.Grows.{Grows}
 use Rattle.abuf_fan.specs.Parts.{part_fragments, parts_of}
 

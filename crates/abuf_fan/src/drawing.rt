@@ -8,7 +8,6 @@ ghost use Rattle.abuf_fan.specs.Grows.{Grows};
 ghost use Rattle.abuf_fan.specs.Workers.{CanServe, HaveServed, Parted, credit_for};
 ghost use denote.Param.Send.{IsSync};
 
-use crate::desk::{Desk, MAX_PARTS, Turn};
 use crate::gate::Gate;
 use crate::order::order_of;
 use crate::part::{draw_part, part_of};
@@ -16,6 +15,7 @@ use crate::work::{Work, Workers};
 use abuf_frame::{Frame, Pass};
 use abuf_num::NoMemory;
 use abuf_raster::{Pattern, Region, ScreenTri};
+use abuf_share::{Desk, MAX_PARTS, Turn};
 use std::alloc::Global;
 use std::thread::{Threads, join_mut};
 

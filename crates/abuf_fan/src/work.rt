@@ -3,9 +3,9 @@ ghost use Rattle.std.specs.Prelude.{◌≡◌, ◌+◌, ◌-◌, ◌*◌, ◌/�
 ghost use Rattle.abuf_num.specs.declared.limits.TheConstants.{MAX_PRIMITIVES, MAX_THREADS};
 ghost use Rattle.abuf_fan.specs.Parts.{IsOrder, parts_of};
 
-use crate::desk::Desk;
 use abuf_frame::Frame;
 use abuf_raster::{Pattern, Region, ScreenTri};
+use abuf_share::Desk;
 
 /// What all workers of a drawing share: the frame, the desk from which they take the numbers of parts, and what is drawn.
 #[derive(Clone, Copy)]

@@ -14,12 +14,12 @@ use Rattle.abuf_frame.specs.declared.view.Entry.{Entry}
 use Rattle.abuf_frame.specs.declared.view.View.{View}
 use Rattle.abuf_frame.specs.declared.view.Size.{Size}
 use Rattle.abuf_frame.specs.Chains.{AreChained, IsListAt, first_of, payload_in}
-use Rattle.abuf_frame.specs.Counting.{times}
+use Rattle.abuf_num.specs.Counting.{times}
 use Rattle.abuf_frame.specs.Lawful.{Agree, Follows, Lawful}
 use Rattle.abuf_frame.specs.Stages.{Precedes, old_of, payload_of, stands}
 use Rattle.abuf_frame.specs.Views.{at_pixel, endowment, loose, number_of}
 use Rattle.abuf_frame.specs.Walks.{head_of}
-use Rattle.abuf_frame.proofs.Counting.{none_in}
+use Rattle.abuf_num.proofs.Counting.{none_in}
 use Rattle.abuf_frame.proofs.Ends.{chain_nodes, nodes_at, stands_le}
 
 -- The states of a frame's table.

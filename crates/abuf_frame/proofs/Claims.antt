@@ -2,6 +2,7 @@
 use Rattle.std.proofs.Common.{◌≡◌, ◌≢◌, ℕ, zero, suc, ◌+◌, ◌-◌, ◌*◌, ◌%◌, ◌^◌, min, ◌<◌, ◌≤◌, Bool, cond, ltb, true, false, List, [], ◌∷◌, ◌++◌, map, length, set, get_or, sym, refl, ap, ◌∙◌, subst, arith, ⊎_elim, length-append, length-set, get_or-set_same, get_or-set_other, slice_index, eq-eqb}
 use mathlib.Core.Option.{some, some-injective, some-ne-none}
 use mathlib.Core.List.{map-append}
+use Rattle.std.specs.List.{AllByRecursion}
 use lib.ListN.{get_elem?}
 use Rattle.std.proofs.lemmas.List.Sums.{sum_by-append, count_by-le-length}
 use Rattle.std.proofs.lemmas.Bool.Decides.{nat_tests}
@@ -13,14 +14,14 @@ use Rattle.abuf_frame.specs.declared.view.Stage.TheVariants.{Claimed, Lost}
 use Rattle.abuf_frame.specs.declared.view.Entry.{Entry}
 use Rattle.abuf_frame.specs.declared.view.View.{View}
 use Rattle.abuf_frame.specs.declared.view.Size.{Size}
-use Rattle.abuf_frame.specs.Counting.{below, times}
+use Rattle.abuf_num.specs.Counting.{below, times}
 use Rattle.abuf_frame.specs.Views.{Below, endowment, loose, number_of, numbers, whole_view}
 use Rattle.abuf_frame.specs.Lawful.{Agree, AreWalks, Lawful, Told}
 use Rattle.abuf_frame.specs.Steps.{claimed, new_entry, new_entries}
 use Rattle.abuf_frame.specs.Words.{head_word, mark, next_word, payload_word}
 use Rattle.abuf_frame.specs.Stages.{Stores, is_loose, is_lost, next_of, stands}
 use Rattle.abuf_frame.specs.Pass.{AllInRange, InRange, Ties}
-use Rattle.abuf_frame.proofs.Counting.{count_by-cons, sum_set, sum_le, sum_both, times-append, below_more, below_no, below_from}
+use Rattle.abuf_num.proofs.Counting.{count_by-cons, sum_set, sum_le, sum_both, times-append, below_more, below_no, below_from}
 
 -- The states of a frame's table.
 abbrev St : Type 0
@@ -77,10 +78,10 @@ starts k words wide zeros marks = record {
   exact = λ p n h. sym (stands_first p (ltb n k.nodes));
 }
 
--- Entries agree if those of two lists do.
-pub agree-append : (stage : ℕ → Stage) (l m : List Entry) → Agree stage l → Agree stage m → Agree stage (l ++ m)
-agree-append stage [] m a b = b
-agree-append stage (e ∷ es) m a b = (a.0, agree-append stage es m a.1 b)
+-- What holds of the items of two lists holds of those of both together.
+pub all-append : {X : Type 0} (P : X → Type 0) (l m : List X) → AllByRecursion P l → AllByRecursion P m → AllByRecursion P (l ++ m)
+all-append P [] m a b = b
+all-append P (x ∷ xs) m a b = (a.0, all-append P xs m a.1 b)
 
 -- New entries agree where each number is at its first stage.
 agree_new : (stage : ℕ → Stage) (nodes first count : ℕ) → ((n : ℕ) → first ≤ n → stage n ≡ first_stage nodes n) → Agree stage (new_entries nodes first count)
@@ -125,7 +126,7 @@ claim_state k s r id count c v at fits is = let w : View = claimed k.nodes c cou
           let z = ap (below n) here in let y = ap (below n) is in omega arith;
       counted = let t = sum_set (λ (u : View). length u.entries) s.views id v w at in let o = r.counted in omega arith;
       endowed = let t = sum_set endowment s.views id v w at in let o = r.endowed in omega arith;
-      agree = all_views (λ u. Agree r.stage u.entries) s.views id w (agree-append r.stage v.entries (new_entries k.nodes c count) (r.agree id v at)
+      agree = all_views (λ u. Agree r.stage u.entries) s.views id w (all-append _ v.entries (new_entries k.nodes c count) (r.agree id v at)
           (agree_new r.stage k.nodes c count (λ n l. ⊎_elim (λ (h : n < k.nodes). r.fresh n (omega arith) h ∙ sym (first_claimed k.nodes n h)) (λ (h : k.nodes ≤ n). r.lost n h ∙ sym (first_lost k.nodes n h)) (cases_lt n k.nodes)))) r.agree;
       told = all_views (λ u. Told r.stage u.told) s.views id w (r.told id v at) r.told;
       seen = all_views (λ u. u.seen ≤ get_or (set s.words 0 (c + count)) 0 0) s.views id w (let l = r.seen id v at in omega arith) (λ j u e. let l = r.seen j u e in omega arith);
@@ -172,11 +173,6 @@ loose_new nodes first (suc count) = let r = loose_new nodes (first + 1) count in
     (λ (h : first < nodes). let e : is_loose (first_stage nodes first) ≡ true = ap is_loose (first_claimed nodes first h) in let z = ap (λ (b : Bool). cond {A = ℕ} b 1 0) e in omega arith)
     (λ (h : nodes ≤ first). let e : is_loose (first_stage nodes first) ≡ false = ap is_loose (first_lost nodes first h) in let z = ap (λ (b : Bool). cond {A = ℕ} b 1 0) e in omega arith) (cases_lt first nodes)
 
--- Entries are in range if those of two lists are.
-pub sound-append : (pixels nodes : ℕ) (l m : List Entry) → AllInRange pixels nodes l → AllInRange pixels nodes m → AllInRange pixels nodes (l ++ m)
-sound-append pixels nodes [] m a b = b
-sound-append pixels nodes (e ∷ es) m a b = (a.0, sound-append pixels nodes es m a.1 b)
-
 -- New entries are in range.
 sound_new : (pixels nodes first count : ℕ) → AllInRange pixels nodes (new_entries nodes first count)
 sound_new pixels nodes first zero = tt
@@ -193,5 +189,5 @@ ties_claimed pixels nodes me now credit own ones first count t fits is = subst (
       own_is = omega arith;
       loose_is = omega arith;
       small = omega arith;
-      sound = sound-append pixels nodes me.0.entries (new_entries nodes first count) t.sound (sound_new pixels nodes first count);
+      sound = all-append _ me.0.entries (new_entries nodes first count) t.sound (sound_new pixels nodes first count);
     })

@@ -11,7 +11,7 @@ use Rattle.abuf_frame.specs.Stages.{is_loose, is_lost}
 use Rattle.abuf_frame.specs.Views.{endowment, loose, lost}
 use Rattle.abuf_frame.specs.Steps.{grown, united}
 use Rattle.abuf_frame.specs.Draws.{Adds, CarriesItem, CarryInOrder, Draws, pairs, with_pair}
-use Rattle.abuf_frame.proofs.Counting.{count_by-cons}
+use Rattle.abuf_num.proofs.Counting.{count_by-cons}
 use Rattle.abuf_frame.proofs.Runs.{carry_length}
 
 -- An entry that carries an item isn't loose.

@@ -11,7 +11,7 @@ use Rattle.abuf_frame.specs.declared.view.Stage.TheVariants.{Claimed, Filled, Sw
 use Rattle.abuf_frame.specs.declared.view.Entry.{Entry}
 use Rattle.abuf_frame.specs.declared.view.View.{View}
 use Rattle.abuf_frame.specs.declared.view.Size.{Size}
-use Rattle.abuf_frame.specs.Counting.{below, times}
+use Rattle.abuf_num.specs.Counting.{below, times}
 use Rattle.abuf_frame.specs.Views.{Below, endowment, loose, lost, number_of, numbers}
 use Rattle.abuf_frame.specs.Lawful.{Agree, Follows, Lawful}
 use Rattle.abuf_frame.specs.Words.{head_word, next_word, payload_word}
@@ -19,7 +19,7 @@ use Rattle.abuf_frame.specs.Stages.{Precedes, Stores, is_loose, is_lost, next_of
 use Rattle.abuf_frame.specs.Walks.{head_of}
 use Rattle.abuf_frame.specs.Closing.{Threaded, payloads_from}
 use Rattle.abuf_frame.specs.Pass.{AllInRange, InRange}
-use Rattle.abuf_frame.proofs.Counting.{Under, count_by-cons, pigeons, same_times, sum_only}
+use Rattle.abuf_num.proofs.Counting.{Under, count_by-cons, pigeons, same_times, sum_only}
 use Rattle.abuf_frame.specs.Draws.{pairs, payloads_at, with_pair}
 
 -- The states of a frame's table.

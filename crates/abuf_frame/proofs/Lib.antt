@@ -1,4 +1,3 @@
-pub mod Counting
 pub mod Claims
 pub mod Moves
 pub mod Tied

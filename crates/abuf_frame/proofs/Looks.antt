@@ -18,16 +18,17 @@ use Rattle.std.proofs.Common.{append-nil, IsPermutation}
 use Rattle.abuf_frame.proofs.Ends.{all_mine, chain_list, settled_pairs}
 use Rattle.abuf_frame.specs.Chains.{IsListAt}
 use Rattle.abuf_frame.proofs.Chains.{list_is}
-use Rattle.abuf_frame.proofs.Counting.{Under, below_yes, pigeons, times-append}
+use Rattle.abuf_num.proofs.Counting.{Under, below_yes, pigeons, times-append}
 use Rattle.abuf_frame.specs.Views.{IsSettled, IsWhole, at_pixel, due_of, linked_of, number_of}
 use Rattle.abuf_frame.specs.Closing.{IsSuffix}
 use Rattle.abuf_frame.specs.Walks.{AllMet, AllPaid, HasPassed, IsNoted, IsWalk, LastHasNoted, Noted, going, head_of, new_walk, node_of, noting, on_last, passing, payload_at, walked_on, with_walk}
 use Rattle.abuf_frame.specs.Look.{SeesWhole}
 use Rattle.abuf_frame.specs.Lawful.{Agree, AreWalks, Follows, Lawful, Told}
 use Rattle.abuf_frame.specs.Stages.{Precedes, is_linked, is_loose, next_of, payload_of, stands}
-use Rattle.abuf_frame.specs.Counting.{times}
+use Rattle.abuf_num.specs.Counting.{times}
 use Rattle.abuf_frame.specs.Words.{head_word, mark, next_word, payload_word}
-use Rattle.abuf_frame.proofs.Shares.{looks, told-append, told_linked, walks-append}
+use Rattle.abuf_frame.proofs.Claims.{all-append}
+use Rattle.abuf_frame.proofs.Shares.{looks, told_linked}
 use Rattle.abuf_frame.proofs.Ends.{carries_after, next_after, stands_le, tight_at}
 use Rattle.abuf_frame.specs.Draws.{pairs, payloads_at}
 
@@ -83,11 +84,6 @@ all_front : (stage : ℕ → Stage) (chain : ℕ → List ℕ) (pixels : ℕ) (w
 all_front stage chain pixels [] w a = (tt, a.0)
 all_front stage chain pixels (x ∷ xs) w a = let r = all_front stage chain pixels xs w a.1 in ((a.0, r.0), r.1)
 
--- Payloads passed are right if those of two lists are.
-paid-append : (stage : ℕ → Stage) (xs ys : List Passed) → AllPaid stage xs → AllPaid stage ys → AllPaid stage (xs ++ ys)
-paid-append stage [] ys a b = b
-paid-append stage (x ∷ xs) ys a b = (a.0, paid-append stage xs ys a.1 b)
-
 -- The end of numbers below one is below it.
 under-append : (m : ℕ) (xs ys : List ℕ) → Under m (xs ++ ys) → Under m ys
 under-append m [] ys u = u
@@ -123,7 +119,7 @@ module _ (k : Size) (s : St) (r : Lawful k s) where
     paid = tt;
     note = tt;
     marked = λ e. absurd (true≢false (sym e));
-    due = λ n h. let a = due_there r.stage p n (linked_of v.entries ++ v.told) (told-append r.stage (linked_of v.entries) v.told (told_linked r.stage v.entries (r.agree id v at)) (r.told id v at)) h in let b = r.exact p n on in omega arith;
+    due = λ n h. let a = due_there r.stage p n (linked_of v.entries ++ v.told) (all-append _ (linked_of v.entries) v.told (told_linked r.stage v.entries (r.agree id v at)) (r.told id v at)) h in let b = r.exact p n on in omega arith;
   }
 
   module _ (w : Walk) (o : IsWalk r.stage r.chain k.pixels w) where
@@ -174,7 +170,7 @@ module _ (k : Size) (s : St) (r : Lawful k s) where
               rest = ns;
               suffix = suf ∙ ap (λ (l : List ℕ). o.before ++ l) (sym nodes);
               stands_at = next_linked (r.stage n) w.pixel (head_of ns) found f.0 (sym (r.next n (node_in w.pixel n (head_of ns) f.0)) ∙ (ap (λ (i : ℕ). slice_index s.words (next_word k.pixels i)) (sym at) ∙ is)) (λ m. true≢false (sym (eq-eqb found mark m) ∙ b));
-              paid = paid-append r.stage w.passed (record { node = w.cursor - 1; payload = y } ∷ []) o.paid (nt ∙ ap (λ (i : ℕ). payload_of (r.stage i)) (sym at), tt);
+              paid = all-append _ w.passed (record { node = w.cursor - 1; payload = y } ∷ []) o.paid (nt ∙ ap (λ (i : ℕ). payload_of (r.stage i)) (sym at), tt);
               note = tt;
               marked = λ m. absurd (true≢false (sym m));
               due = λ m h. subst (λ (l : List ℕ). 0 < times m l) (sym nodes) (due m h);
@@ -310,7 +306,7 @@ told_at stage p (e ∷ es) t = pick (eqb (stands p e.stage) 1) (told_at stage p 
 
 -- what is due stands as it is known
 told_due : (k : Size) (s : St) (r : Lawful k s) (id : ℕ) (v : View) → get_elem? s.views id ≡ some v → (p : ℕ) → Told r.stage (due_of p v)
-told_due k s r id v at p = told_at r.stage p (linked_of v.entries ++ v.told) (told-append r.stage (linked_of v.entries) v.told (told_linked r.stage v.entries (r.agree id v at)) (r.told id v at))
+told_due k s r id v at p = told_at r.stage p (linked_of v.entries ++ v.told) (all-append _ (linked_of v.entries) v.told (told_linked r.stage v.entries (r.agree id v at)) (r.told id v at))
 
 -- a walk that has reached the end has passed a suffix of its list
 pub seen_end : (k : Size) (s : St) (r : Lawful k s) (w : Walk) (o : IsWalk r.stage r.chain k.pixels w) → w.cursor ≡ 0 → IsSuffix (map payload_at w.passed) (map (λ n. payload_of (r.stage n)) (r.chain w.pixel))
@@ -358,7 +354,7 @@ module _ (k : Size) (slots id : ℕ) (me : Me (Unit {0}) View) (bare : me.1 ≡ 
     v',
     keeps,
     tt,
-    looks k s r id (head_word p) me v' at refl refl refl (r.seen id me.0 at) (walks-append r.stage r.chain k.pixels me.0.walks (w ∷ []) (r.walked id me.0 at) (o, tt)),
+    looks k s r id (head_word p) me v' at refl refl refl (r.seen id me.0 at) (all-append _ me.0.walks (w ∷ []) (r.walked id me.0 at) (o, tt)),
     (
       (λ i. (v', bare i)),
       (
@@ -378,7 +374,7 @@ module _ (k : Size) (slots id : ℕ) (me : Me (Unit {0}) View) (bare : me.1 ≡ 
     -- The walks are sound after the last went on, if it is.
     replaced : (s : St) (r : Lawful k s) → get_elem? s.views id ≡ some me.0 → (f : Walk → Walk) → (IsWalk r.stage r.chain k.pixels w → IsWalk r.stage r.chain k.pixels (f w)) → AreWalks r.stage r.chain k.pixels (on_last f me.0.walks)
     replaced s r at f go = let a = all_front r.stage r.chain k.pixels ws w (subst (AreWalks r.stage r.chain k.pixels) last (r.walked id me.0 at)) in
-        subst (AreWalks r.stage r.chain k.pixels) (sym (ap (on_last f) last ∙ on_last-snoc f ws w)) (walks-append r.stage r.chain k.pixels ws (f w ∷ []) a.0 (go a.1, tt))
+        subst (AreWalks r.stage r.chain k.pixels) (sym (ap (on_last f) last ∙ on_last-snoc f ws w)) (all-append _ ws (f w ∷ []) a.0 (go a.1, tt))
 
     -- The walk is sound.
     mine : (s : St) (r : Lawful k s) → get_elem? s.views id ≡ some me.0 → IsWalk r.stage r.chain k.pixels w

@@ -12,14 +12,14 @@ use Rattle.abuf_frame.specs.declared.view.Passed.{Passed}
 use Rattle.abuf_frame.specs.declared.view.Walk.{Walk}
 use Rattle.abuf_frame.specs.declared.view.View.{View}
 use Rattle.abuf_frame.specs.declared.view.Size.{Size}
-use Rattle.abuf_frame.specs.Counting.{below, times}
+use Rattle.abuf_num.specs.Counting.{below, times}
 use Rattle.abuf_frame.specs.Views.{endowment, number_of, numbers, stage_of}
 use Rattle.abuf_frame.specs.Lawful.{Agree, AreWalks, Follows, Lawful, Told}
 use Rattle.abuf_frame.specs.Walks.{AllPaid, Noted, head_of, node_of}
 use Rattle.abuf_frame.specs.Stages.{Precedes, Stores, filled, is_linked, is_lost, linked, next_of, payload_of, stands, swapped}
 use Rattle.abuf_frame.specs.Words.{head_word, next_word, payload_word}
 use Rattle.abuf_frame.specs.Steps.{moved, restage}
-use Rattle.abuf_frame.proofs.Counting.{times-append, sum_set, sum_two, sum_le, below_le, below_from}
+use Rattle.abuf_num.proofs.Counting.{times-append, sum_set, sum_two, sum_le, below_le, below_from}
 
 -- The states of a frame's table.
 abbrev St : Type 0

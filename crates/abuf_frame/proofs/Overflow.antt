@@ -10,12 +10,12 @@ use Rattle.abuf_frame.specs.declared.view.Stage.TheVariants.{Claimed, Filled, Sw
 use Rattle.abuf_frame.specs.declared.view.Entry.{Entry}
 use Rattle.abuf_frame.specs.declared.view.View.{View}
 use Rattle.abuf_frame.specs.declared.view.Size.{Size}
-use Rattle.abuf_frame.specs.Counting.{below, times}
+use Rattle.abuf_num.specs.Counting.{below, times}
 use Rattle.abuf_frame.specs.Lawful.{Lawful}
 use Rattle.abuf_frame.specs.Pass.{AllInRange, InRange}
 use Rattle.abuf_frame.specs.Stages.{is_lost}
 use Rattle.abuf_frame.specs.Views.{IsWhole, lost, number_of}
-use Rattle.abuf_frame.proofs.Counting.{below_more, below_no, count_by-cons, same_times}
+use Rattle.abuf_num.proofs.Counting.{below_more, below_no, count_by-cons, same_times}
 use Rattle.abuf_frame.proofs.Ends.{all_mine, count_mine}
 
 -- 1 where a number has no node, and else 0.

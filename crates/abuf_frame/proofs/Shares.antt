@@ -13,30 +13,20 @@ use Rattle.abuf_frame.specs.declared.view.Entry.{Entry}
 use Rattle.abuf_frame.specs.declared.view.Walk.{Walk}
 use Rattle.abuf_frame.specs.declared.view.View.{View}
 use Rattle.abuf_frame.specs.declared.view.Size.{Size}
-use Rattle.abuf_frame.specs.Counting.{times}
+use Rattle.abuf_num.specs.Counting.{times}
 use Rattle.abuf_frame.specs.Views.{Below, endowment, linked_of, number_of, numbers, spent_view}
 use Rattle.abuf_frame.specs.Lawful.{Agree, AreWalks, Lawful, Told}
 use Rattle.abuf_frame.specs.Stages.{is_linked, is_loose}
 use Rattle.abuf_frame.specs.Steps.{split_left, split_right, having_seen, united}
 use Rattle.abuf_frame.specs.Walks.{with_walk}
 use Rattle.abuf_frame.specs.Pass.{Ties}
-use Rattle.abuf_frame.proofs.Counting.{sum_set, sum_le, times-append}
-use Rattle.abuf_frame.proofs.Claims.{agree-append, sound-append, all_below, all_views}
+use Rattle.abuf_num.proofs.Counting.{sum_set, sum_le, times-append}
+use Rattle.abuf_frame.proofs.Claims.{all-append, all_below, all_views}
 use Rattle.abuf_frame.proofs.Ends.{count_mine}
 
 -- The states of a frame's table.
 abbrev St : Type 0
 St = State (Unit {0}) View
-
--- What was told of in two lists was told of.
-pub told-append : (stage : ℕ → Stage) (l m : List Entry) → Told stage l → Told stage m → Told stage (l ++ m)
-told-append stage [] m a b = b
-told-append stage (e ∷ es) m a b = (a.0, told-append stage es m a.1 b)
-
--- The walks are sound if those of two lists are.
-pub walks-append : (stage : ℕ → Stage) (chain : ℕ → List ℕ) (pixels : ℕ) (l m : List Walk) → AreWalks stage chain pixels l → AreWalks stage chain pixels m → AreWalks stage chain pixels (l ++ m)
-walks-append stage chain pixels [] m a b = b
-walks-append stage chain pixels (w ∷ ws) m a b = (a.0, walks-append stage chain pixels ws m a.1 b)
 
 -- Linked entries may be told of.
 pub told_linked : (stage : ℕ → Stage) (es : List Entry) → Agree stage es → Told stage (linked_of es)
@@ -90,7 +80,7 @@ splits k id credit v enough s r at = let l : View = split_left credit v in let w
     (let a = sum_by-append (λ (u : View). length u.entries) vs (w ∷ []) in let b = sum_set (λ (u : View). length u.entries) s.views id v l at in omega arith)
     (let a = sum_by-append endowment vs (w ∷ []) in let b = sum_set endowment s.views id v l at in omega arith)
     (λ j u e. ⊎_elim (λ (h : get_elem? vs j ≡ some u). all_views (Fits k s r) s.views id l mine (fits k s r) j u h)
-    (λ (h : w ≡ u). subst (Fits k s r) h (tt, told-append r.stage (linked_of v.entries) v.told (told_linked r.stage v.entries mine.0) mine.1, mine.2, tt)) (at_snoc vs w u j e))
+    (λ (h : w ≡ u). subst (Fits k s r) h (tt, all-append _ (linked_of v.entries) v.told (told_linked r.stage v.entries mine.0) mine.1, mine.2, tt)) (at_snoc vs w u j e))
 
 -- Two views may be joined.
 pub joins : (k : Size) (id other : ℕ) (v w : View) → Joins (Lawful k) id v other w (united v w) spent_view
@@ -103,7 +93,7 @@ joins k id other v w s r at apart at' = let b : View = united v w in let vs : Li
     (let p = sum_set (λ (u : View). length u.entries) s.views id v b at in let q = sum_set (λ (u : View). length u.entries) vs other w spent_view at' in omega arith)
     (let p = sum_set endowment s.views id v b at in let q = sum_set endowment vs other w spent_view at' in omega arith)
     (all_views (Fits k s r) vs other spent_view (tt, tt, omega arith, tt)
-    (all_views (Fits k s r) s.views id b (agree-append r.stage v.entries w.entries mine.0 theirs.0, told-append r.stage v.told w.told mine.1 theirs.1, (let x = mine.2 in let y = theirs.2 in omega arith), walks-append r.stage r.chain k.pixels v.walks w.walks mine.3 theirs.3) (fits k s r)))
+    (all_views (Fits k s r) s.views id b (all-append _ v.entries w.entries mine.0 theirs.0, all-append _ v.told w.told mine.1 theirs.1, (let x = mine.2 in let y = theirs.2 in omega arith), all-append _ v.walks w.walks mine.3 theirs.3) (fits k s r)))
 
 -- What was told of is below the counter.
 told_below : (k : Size) (s : St) (r : Lawful k s) (es : List Entry) → Told r.stage es → Below (slice_index s.words 0) es
@@ -159,7 +149,7 @@ ties_united pixels nodes me other now credit own ones credit' own' ones' t u is 
       own_is = omega arith;
       loose_is = omega arith;
       small = fit;
-      sound = sound-append pixels nodes me.0.entries other.0.entries t.sound u.sound;
+      sound = all-append _ me.0.entries other.0.entries t.sound u.sound;
     })
 
 -- It holds after a look.

@@ -6,12 +6,12 @@ use Rattle.abuf_frame.specs.declared.view.Stage.{Stage}
 use Rattle.abuf_frame.specs.declared.view.Stage.TheVariants.{Claimed, Filled, Swapped, Linked, Lost}
 use Rattle.abuf_frame.specs.declared.view.Entry.{Entry}
 use Rattle.abuf_frame.specs.declared.view.View.{View}
-use Rattle.abuf_frame.specs.Counting.{times}
+use Rattle.abuf_num.specs.Counting.{times}
 use Rattle.abuf_frame.specs.Views.{loose, number_of, stage_of}
 use Rattle.abuf_frame.specs.Stages.{IsFilled, IsSwapped, filled, is_loose, linked, swapped}
 use Rattle.abuf_frame.specs.Steps.{moved, restage}
 use Rattle.abuf_frame.specs.Pass.{AllInRange, InRange, Ties}
-use Rattle.abuf_frame.proofs.Counting.{count_by-cons}
+use Rattle.abuf_num.proofs.Counting.{count_by-cons}
 use Rattle.abuf_frame.proofs.Moves.{length_restage}
 
 -- A stage that is found is in range.

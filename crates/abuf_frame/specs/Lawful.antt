@@ -11,7 +11,7 @@ use Rattle.abuf_frame.specs.declared.view.Entry.{Entry}
 use Rattle.abuf_frame.specs.declared.view.Walk.{Walk}
 use Rattle.abuf_frame.specs.declared.view.View.{View}
 use Rattle.abuf_frame.specs.declared.view.Size.{Size}
-use Rattle.abuf_frame.specs.Counting.{times, below}
+use Rattle.abuf_num.specs.Counting.{times, below}
 use Rattle.abuf_frame.specs.Words.{head_word, payload_word, next_word}
 use Rattle.abuf_frame.specs.Stages.{is_linked, is_lost, stands, Precedes, Stores, next_of}
 use Rattle.abuf_frame.specs.Views.{endowment, numbers}

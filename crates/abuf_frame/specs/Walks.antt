@@ -8,7 +8,7 @@ use Rattle.abuf_frame.specs.declared.view.Entry.{Entry}
 use Rattle.abuf_frame.specs.declared.view.Passed.{Passed}
 use Rattle.abuf_frame.specs.declared.view.Walk.{Walk}
 use Rattle.abuf_frame.specs.declared.view.View.{View}
-use Rattle.abuf_frame.specs.Counting.{times}
+use Rattle.abuf_num.specs.Counting.{times}
 use Rattle.abuf_frame.specs.Words.{mark}
 use Rattle.abuf_frame.specs.Stages.{payload_of}
 use Rattle.abuf_frame.specs.Views.{number_of, due_of}

@@ -3,3 +3,5 @@ pub mod Powers
 pub mod Signs
 pub mod Notation
 pub mod Ranges
+pub mod Counting
+pub mod Estimates

@@ -5,3 +5,4 @@ pub mod Parts
 pub mod Size
 pub mod Leading
 pub mod Texts
+pub mod Counting

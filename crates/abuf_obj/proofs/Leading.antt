@@ -1,8 +1,8 @@
 -- Numbers and elements that are read at the start of a text.
-use Rattle.std.proofs.Common.{◌≡◌, ◌∙◌, ℕ, zero, suc, ◌+◌, ◌-◌, ◌*◌, ◌<◌, ◌≤◌, ◌==◌, ◌&&◌, ◌||◌, Bool, true, false, nat_lt, nat_le, List, [], ◌∷◌, ◌++◌, length, take, drop, get_or, position, Option, Some, None, refl, sym, ap, ap₂, subst, arith, ⊎_elim, if◌then◌else◌}
+use Rattle.std.proofs.Common.{◌≡◌, ◌∙◌, ℕ, zero, suc, ◌+◌, ◌-◌, ◌*◌, ◌<◌, ◌≤◌, ◌==◌, ◌&&◌, Bool, true, false, nat_lt, nat_le, List, [], ◌∷◌, ◌++◌, length, take, drop, get_or, position, Some, None, refl, sym, ap, subst, arith, ⊎_elim, if◌then◌else◌}
 use Rattle.std.specs.List.{position_or_len, list_all, list_any}
 use Rattle.std.proofs.Math.Seq.{take-append_seam, drop-append-add}
-use Rattle.std.proofs.lemmas.List.{length-drop, length-take-le}
+use Rattle.std.proofs.lemmas.List.{length-take-le}
 use Rattle.std.proofs.lemmas.List.Folds.{list_all-append}
 use Rattle.std.proofs.lemmas.Bool.{cases_Bool}
 use Rattle.std.proofs.lemmas.Bool.Decides.{nat_tests}
@@ -10,8 +10,9 @@ use Rattle.std.proofs.lemmas.Grind.{common_steps}
 use Rattle.abuf_num.specs.Decimal as decimal
 use Rattle.abuf_num.specs.Leading.{is_number_byte}
 use Rattle.abuf_num.proofs.Notation.{seam}
-use Rattle.abuf_text.specs.Statement.{is_space, is_comment, IsPlain}
-use Rattle.abuf_obj.specs.Elements.{is_digit, is_slash, is_negative, without_minus, spelled_from, spelled, before_slash, after_slash, is_unused_index, is_normal, is_texture_and_normal, place_of, place_of_index}
+use Rattle.abuf_text.specs.Statement.{is_space, IsPlain}
+use Rattle.abuf_num.specs.Decimal.{is_negative}
+use Rattle.abuf_obj.specs.Elements.{is_digit, is_slash, without_minus, spelled_from, spelled, before_slash, after_slash, is_unused_index, is_normal, is_texture_and_normal, place_of, place_of_index}
 use Rattle.abuf_obj.specs.LeadingElement.{is_index_byte, is_element_byte}
 
 one_more : (n : ℕ) → 1 + n ≡ suc n

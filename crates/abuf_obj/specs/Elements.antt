@@ -1,6 +1,7 @@
 -- The elements of an `f` line: a point's index, and optionally `/` and a texture's index, and `/` and
 -- a normal's, of which only the point's is used.
-use Rattle.std.specs.Prelude.{◌==◌, ◌&&◌, ◌||◌, ◌+◌, ◌*◌, ◌-◌, ℕ, Bool, nat_le, nat_lt, true, List, [], ◌∷◌, length, take, drop, position, slice_index, is_some, Option, Some, None, option_and_then, if◌then◌else◌}
+use Rattle.std.specs.Prelude.{◌==◌, ◌&&◌, ◌||◌, ◌+◌, ◌*◌, ◌-◌, ℕ, Bool, nat_le, nat_lt, true, List, [], ◌∷◌, length, take, drop, position, is_some, Option, Some, None, option_and_then, if◌then◌else◌}
+use Rattle.abuf_num.specs.Decimal.{is_negative}
 
 -- the byte is a decimal digit
 abbrev pub is_digit : ℕ → Bool
@@ -14,10 +15,6 @@ spelled_from n (b ∷ rest) = if is_digit b then spelled_from (10 * n + (b - 48)
 -- the number that one to ten digits spell
 abbrev pub spelled : List ℕ → Option ℕ
 spelled text = if nat_lt 0 (length text) && nat_le (length text) 10 then spelled_from 0 text else None
-
--- the text begins with `-` (45)
-abbrev pub is_negative : List ℕ → Bool
-is_negative text = slice_index text 0 == 45
 
 abbrev pub without_minus : List ℕ → List ℕ
 without_minus text = if is_negative text then drop 1 text else text

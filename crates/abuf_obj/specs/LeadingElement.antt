@@ -1,7 +1,8 @@
 -- Elements at the start of a text.
 use Rattle.std.specs.Prelude.{◌≡◌, ◌<◌, ◌==◌, ◌||◌, ℕ, Bool, true, List, [], ◌∷◌, length, Option, Some, None, if◌then◌else◌}
 use Rattle.std.specs.List.{list_all}
-use Rattle.abuf_obj.specs.Elements.{is_digit, is_slash, is_negative, without_minus, spelled, from_first, from_last, place_of}
+use Rattle.abuf_num.specs.Decimal.{is_negative}
+use Rattle.abuf_obj.specs.Elements.{is_digit, is_slash, without_minus, spelled, from_first, from_last, place_of}
 use Rattle.abuf_obj.specs.declared.element.Index.{Index}
 
 -- a digit or `-`

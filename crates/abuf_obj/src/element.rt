@@ -1,22 +1,13 @@
 // The elements of an `f` line.
 ghost use Rattle.std.specs.Prelude.{◌≡◌, ◌≤◌, ◌<◌, ℕ, Some, true, length, map, min, position, option_map, take, drop, IfOk, IfSome};
 ghost use Rattle.std.specs.List.{list_all};
-ghost use Rattle.abuf_obj.specs.Elements.{spelled_from, spelled, is_negative, without_minus, is_slash, before_slash, after_slash, is_unused_index, is_normal, is_texture_and_normal, from_last, from_first, place_of_index, place_of, places_of};
+ghost use Rattle.abuf_obj.specs.Elements.{spelled_from, spelled, without_minus, is_slash, before_slash, after_slash, is_unused_index, is_normal, is_texture_and_normal, from_last, from_first, place_of_index, place_of, places_of};
 ghost use Rattle.abuf_obj.specs.LeadingElement.{is_index_byte, is_element_byte, place_by, first_place, IsIndex};
 ghost use Rattle.abuf_obj.specs.Places.{clamped};
 
-use abuf_num::{List, NoMemory, leading_digits};
+use abuf_num::{List, NoMemory, begins_negative, leading_digits};
 use abuf_text::Statement;
 use std::alloc::Global;
-
-fn begins_negative(text: &[u8]) -> bool
-    ensures { result ≡ is_negative text.now }
-{
-    match text.first() {
-        Some(b) => *b == b'-',
-        None => false,
-    }
-}
 
 fn without_minus(text: &[u8]) -> &[u8]
     ensures { result.now ≡ without_minus text.now }

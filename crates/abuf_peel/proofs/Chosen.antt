@@ -1,9 +1,7 @@
 -- The primitives that are offered to a region.
-use Rattle.std.proofs.Common.{◌≡◌, ℕ, ◌*◌, ◌/◌, ◌%◌, ◌<◌, ◌≤◌, Bool, false, List, [], ◌∷◌, ◌++◌, length, ℤ, All, ap, ◌∙◌, sym, arith, if◌then◌else◌}
-use Rattle.std.specs.List.{range_with_len}
+use Rattle.std.proofs.Common.{◌≡◌, ℕ, ◌*◌, ◌/◌, ◌%◌, ◌<◌, ◌≤◌, Bool, false, List, [], ◌∷◌, ◌++◌, length, ℤ, ap, ◌∙◌, sym, subst, arith, if◌then◌else◌}
 use Rattle.std.proofs.lemmas.List.{append-nil}
-use Rattle.std.proofs.lemmas.List.Elements.{filter-append}
-use Rattle.std.proofs.lemmas.List.FromFn.{length-range_with_len, get_or-range_with_len}
+use Rattle.std.proofs.lemmas.List.Elements.{filter-append, All-push}
 use Rattle.std.proofs.lemmas.List.Sums.{length-filter, count_by-le-length}
 use Rattle.std.proofs.lemmas.Nat.{div_below, mod_below}
 use Rattle.abuf_raster.specs.declared.pattern.Pattern.{Pattern}
@@ -13,7 +11,7 @@ use Rattle.abuf_raster.specs.Region.{Region, IsRegion}
 use Rattle.abuf_raster.specs.Samples.{offsets_of}
 use Rattle.abuf_resolve.specs.Colour.{triangle_at, covering}
 use Rattle.abuf_peel.specs.Layers.{count_of, sample_at, size_of}
-use Rattle.abuf_peel.specs.Members.{HaveAll, IsSampleIn, Keep}
+use Rattle.abuf_peel.specs.Members.{HaveAll, IsSampleIn, Keep, KeepsOne}
 use Rattle.abuf_peel.specs.Next.{Sample, covering_among}
 
 -- The samples of a region lie in it.
@@ -31,23 +29,22 @@ covering_few os tris r members s have is =
     let few : length (covering_among os tris s members) ≤ length members = omega (arith, length-filter (λ n. covers (triangle_at tris n) os s.x s.y s.k) members, count_by-le-length (λ n. covers (triangle_at tris n) os s.x s.y s.k) members) in
     omega (arith, ap (λ (ns : List ℕ). length ns) (have.each s is))
 
--- A number whose primitive doesn't cover the sample may be left out.
-pub left_out : (os : List (ℤ × ℤ)) (tris : List Triangle) (s : Sample) (members : List ℕ) (n : ℕ) (t : Triangle) → t ≡ triangle_at tris n → covers t os s.x s.y s.k ≡ false → covering_among os tris s members ≡ covering_among os tris s (members ++ n ∷ [])
-left_out os tris s members n t e none =
-    let off : covers (triangle_at tris n) os s.x s.y s.k ≡ false = ap (λ (u : Triangle). covers u os s.x s.y s.k) (sym e) ∙ none in
-    sym (filter-append (λ m. covers (triangle_at tris m) os s.x s.y s.k) members (n ∷ [])
-    ∙ (ap (λ (v : Bool). covering_among os tris s members ++ (if v then n ∷ [] else [])) off ∙ append-nil (covering_among os tris s members)))
+-- A number whose primitive covers no sample of the region may be left out.
+pub keeps_none : (os : List (ℤ × ℤ)) (tris : List Triangle) (r : Region) (n : ℕ) (t : Triangle) (old : List ℕ) → t ≡ triangle_at tris n → ((s : Sample) → IsSampleIn r os s → covers t os s.x s.y s.k ≡ false) → KeepsOne os tris r n old old
+keeps_none os tris r n t old e none among k = record {
+  known = k.known;
+  each = λ s is.
+      let off : covers (triangle_at tris n) os s.x s.y s.k ≡ false = ap (λ (u : Triangle). covers u os s.x s.y s.k) (sym e) ∙ none s is in
+      k.each s is
+      ∙ sym (filter-append (λ m. covers (triangle_at tris m) os s.x s.y s.k) among (n ∷ [])
+      ∙ (ap (λ (v : Bool). covering_among os tris s among ++ (if v then n ∷ [] else [])) off ∙ append-nil (covering_among os tris s among)));
+}
 
--- All primitives are known, and have all.
-pub all_numbers : (os : List (ℤ × ℤ)) (tris : List Triangle) → All (λ n. n < length tris) (range_with_len 0 (length tris))
-all_numbers os tris i d l =
-    let inside : i < length tris = omega (arith, length-range_with_len 0 (length tris)) in
-    omega (arith, get_or-range_with_len 0 (length tris) i d inside)
-
--- Members that are kept of all are all that are wanted;
-pub kept_all : (os : List (ℤ × ℤ)) (tris : List Triangle) (r : Region) (all members : List ℕ) → all ≡ range_with_len 0 (length tris) → Keep os tris r all members → HaveAll os tris r members
-kept_all os tris r all members e k = record { known = k.known; each = λ s is. k.each s is ∙ ap (covering_among os tris s) e }
-
--- so are those that are kept of what has all of a region around.
-pub kept_have : (os : List (ℤ × ℤ)) (tris : List Triangle) (outer r : Region) (among members : List ℕ) → ((s : Sample) → IsSampleIn r os s → IsSampleIn outer os s) → HaveAll os tris outer among → Keep os tris r among members → HaveAll os tris r members
-kept_have os tris outer r among members inside have k = record { known = k.known; each = λ s is. k.each s is ∙ have.each s (inside s is) }
+-- Or else it is put last.
+pub keeps_one : (os : List (ℤ × ℤ)) (tris : List Triangle) (r : Region) (n : ℕ) (old new : List ℕ) → n < length tris → new ≡ old ++ n ∷ [] → KeepsOne os tris r n old new
+keeps_one os tris r n old new l e among k =
+    let p : (s : Sample) (m : ℕ) → Bool = λ s m. covers (triangle_at tris m) os s.x s.y s.k in
+    subst (Keep os tris r (among ++ n ∷ [])) (sym e) (record {
+      known = All-push (λ m. m < length tris) old n k.known l;
+      each = λ s is. filter-append (p s) old (n ∷ []) ∙ (ap (λ (ns : List ℕ). ns ++ covering_among os tris s (n ∷ [])) (k.each s is) ∙ sym (filter-append (p s) among (n ∷ [])));
+    })

@@ -1,10 +1,10 @@
 -- Hits, and the samples that they have.
-use Rattle.std.proofs.Common.{◌≡◌, ℕ, zero, suc, ◌+◌, ◌-◌, ◌*◌, ◌/◌, ◌%◌, ◌<◌, ◌≤◌, ◌⊎◌, inl, inr, Bool, true, false, ◌&&◌, ◌||◌, if◌then◌else◌, List, [], ◌∷◌, length, ℤ, Some, None, IsPermutation, All, refl, ap, ap₂, ◌∙◌, sym, arith, mul-le-mul, ◌==◌}
-use Rattle.std.specs.List.{filter_map, cons_option, count_by, range_with_len, list_any}
+use Rattle.std.proofs.Common.{◌≡◌, ℕ, zero, suc, ◌+◌, ◌-◌, ◌*◌, ◌/◌, ◌%◌, ◌<◌, ◌≤◌, ◌⊎◌, inl, inr, Bool, true, false, ◌&&◌, if◌then◌else◌, List, [], ◌∷◌, length, ℤ, Some, None, IsPermutation, All, refl, ap, ap₂, ◌∙◌, sym, arith, ◌==◌}
+use Rattle.std.specs.List.{filter_map, cons_option, count_by, range_with_len}
 use Rattle.std.proofs.lemmas.Bool.{eq-eqb, ne_eqb, eqb-true, cases_eq}
 use Rattle.std.proofs.lemmas.Nat.{div-add-mod', div-mul-add, mod-mul-add, div_below, mod_below}
 use Rattle.std.proofs.lemmas.List.Elements.{All-nil, All-cons}
-use Rattle.std.proofs.lemmas.List.Sorted.{All-permutation, IsPermutation-sym, list_any-IsPermutation, sum_by-IsPermutation}
+use Rattle.std.proofs.lemmas.List.Sorted.{All-permutation, IsPermutation-sym, sum_by-IsPermutation}
 use Rattle.std.proofs.lemmas.List.Sums.{sum_by-cons}
 use Rattle.abuf_raster.specs.declared.region.Hit.{Hit}
 use Rattle.abuf_raster.specs.declared.pattern.Pattern.{Pattern}
@@ -15,15 +15,8 @@ use Rattle.abuf_raster.specs.Region.{Region, IsRegion, place_of}
 use Rattle.abuf_raster.specs.Samples.{offsets_of}
 use Rattle.abuf_raster.proofs.Bits.{bit_covers, none_covered}
 use Rattle.abuf_peel.specs.Layers.{count_of, size_of, sample_at}
-use Rattle.abuf_peel.specs.Offers.{HasMask, has_at, has_sample, is_covered, is_covered_at}
+use Rattle.abuf_peel.specs.Offers.{IsHitOf, has_at, has_sample, is_covered}
 use Rattle.abuf_peel.proofs.Standing.{sample_is}
-
--- A hit lies at a place of the region.
-pub place_in : (r : Region) (h : Hit) → IsHitIn r h → place_of r h.x h.y < r.w * r.h
-place_in r h is =
-    let row : suc (h.y - r.y0) ≤ r.h = omega (arith, is.y_low, is.y_high) in
-    let m : suc (h.y - r.y0) * r.w ≤ r.h * r.w = mul-le-mul row (let z : r.w ≤ r.w = omega arith in z) in
-    omega (arith, is.x_low, is.x_high)
 
 -- Sample k of its pixel, by the index.
 pub hit_sample : (r : Region) (size k : ℕ) (h : Hit) → IsHitIn r h → k < size → sample_at r size (place_of r h.x h.y * size + k) ≡ record { x = h.x; y = h.y; k = k }
@@ -52,18 +45,21 @@ hit_elsewhere r size j h f = ap (λ (b : Bool). b && has_sample h (j % size)) (n
 -- ---- the hits of a triangle
 module _ (t : Triangle) (n : ℕ) (os : List (ℤ × ℤ)) (r : Region) (is : IsRegion r) where
   -- Their masks are those of the triangle.
-  masks_are : (qs : List ℕ) → All (HasMask t os) (filter_map (hit_at t n os r) qs)
-  masks_are [] = All-nil (HasMask t os)
+  masks_are : (qs : List ℕ) → All (λ h. h.fragment.mask ≡ mask t os h.x h.y) (filter_map (hit_at t n os r) qs)
+  masks_are [] = All-nil (λ h. h.fragment.mask ≡ mask t os h.x h.y)
   masks_are (q ∷ qs) =
       elim (mask t os (r.x0 + q % r.w) (r.y0 + q / r.w) == 0) as (λ (v : Bool).
-      All (HasMask t os) (cons_option (if v then None else Some (record { x = r.x0 + q % r.w; y = r.y0 + q / r.w; fragment = record { prim = n; mask = mask t os (r.x0 + q % r.w) (r.y0 + q / r.w) } })) (filter_map (hit_at t n os r) qs))) [
+      All (λ h. h.fragment.mask ≡ mask t os h.x h.y) (cons_option (if v then None else Some (record { x = r.x0 + q % r.w; y = r.y0 + q / r.w; fragment = record { prim = n; mask = mask t os (r.x0 + q % r.w) (r.y0 + q / r.w) } })) (filter_map (hit_at t n os r) qs))) [
         | true ↦ masks_are qs
-        | false ↦ All-cons (HasMask t os) _ (filter_map (hit_at t n os r) qs) refl (masks_are qs)
+        | false ↦ All-cons (λ h. h.fragment.mask ≡ mask t os h.x h.y) _ (filter_map (hit_at t n os r) qs) refl (masks_are qs)
       ]
 
   -- So are those of the hits in another order.
-  pub masks_of : (all : List Hit) → IsPermutation all (hits t n os r) → All (HasMask t os) all
-  masks_of all p = All-permutation (HasMask t os) (hits t n os r) all (IsPermutation-sym _ _ p) (masks_are (range_with_len 0 (r.w * r.h)))
+  pub hits_of : (all : List Hit) → IsPermutation all (hits t n os r) → All (IsHitIn r) all → All (IsHitOf t r os) all
+  hits_of all p within i d l = record {
+    within = within i d l;
+    mask = All-permutation (λ h. h.fragment.mask ≡ mask t os h.x h.y) (hits t n os r) all (IsPermutation-sym _ _ p) (masks_are (range_with_len 0 (r.w * r.h))) i d l;
+  }
 
   module _ (j : ℕ) (known : j % length os < length os) where
     -- The place of the sample's pixel.
@@ -73,49 +69,6 @@ module _ (t : Triangle) (n : ℕ) (os : List (ℤ × ℤ)) (r : Region) (is : Is
     -- Whether the triangle covers the sample.
     abbrev here : Bool
     here = covers t os (r.x0 + at % r.w) (r.y0 + at / r.w) (j % length os)
-
-    -- Whether the hit of a place has the sample.
-    step : (q : ℕ) (rest : List Hit) → list_any (has_at r (length os) j) (cons_option (hit_at t n os r q) rest) ≡ (((q == (j / length os)) && covers t os (r.x0 + q % r.w) (r.y0 + q / r.w) (j % length os)) || list_any (has_at r (length os) j) rest)
-    unfolding has_at
-    step q rest = go (mask t os (r.x0 + q % r.w) (r.y0 + q / r.w) == 0) refl where
-      place : ((r.y0 + q / r.w) - r.y0) * r.w + ((r.x0 + q % r.w) - r.x0) ≡ q
-      place = ap₂ (λ (a b : ℕ). a * r.w + b) (omega arith) (omega arith) ∙ div-add-mod' q r.w
-
-      go : (b : Bool) → b ≡ (mask t os (r.x0 + q % r.w) (r.y0 + q / r.w) == 0)
-          → list_any (has_at r (length os) j) (cons_option (if b then None else Some (record { x = r.x0 + q % r.w; y = r.y0 + q / r.w; fragment = record { prim = n; mask = mask t os (r.x0 + q % r.w) (r.y0 + q / r.w) } })) rest)
-          ≡ (((q == (j / length os)) && covers t os (r.x0 + q % r.w) (r.y0 + q / r.w) (j % length os)) || list_any (has_at r (length os) j) rest)
-      go true e =
-          let none = none_covered t os (r.x0 + q % r.w) (r.y0 + q / r.w) (j % length os) known (eqb-true (mask t os (r.x0 + q % r.w) (r.y0 + q / r.w)) 0 (sym e)) in
-          sym (ap (λ (v : Bool). ((q == (j / length os)) && v) || list_any (has_at r (length os) j) rest) none ∙ off (q == (j / length os)) (list_any (has_at r (length os) j) rest)) where
-            off : (a b : Bool) → ((a && false) || b) ≡ b
-            off true b = refl
-            off false b = refl
-      go false e =
-          ap₂ (λ (p : ℕ) (v : Bool). ((p == (j / length os)) && v) || list_any (has_at r (length os) j) rest) place
-          (bit_covers t os (r.x0 + q % r.w) (r.y0 + q / r.w) (j % length os) known)
-
-    -- No hit at another place has it.
-    other : (count a : ℕ) → (at < a) ⊎ (a + count ≤ at) → list_any (has_at r (length os) j) (filter_map (hit_at t n os r) (range_with_len a count)) ≡ false
-    other zero a h = refl
-    other (suc count) a (inl h) = step a (filter_map (hit_at t n os r) (range_with_len (a + 1) count)) ∙ rw (ne_eqb a (j / length os) (λ e. omega arith)) (other count (a + 1) (inl (omega arith)))
-    other (suc count) a (inr h) = step a (filter_map (hit_at t n os r) (range_with_len (a + 1) count)) ∙ rw (ne_eqb a (j / length os) (λ e. omega arith)) (other count (a + 1) (inr (omega arith)))
-
-    -- A hit has it where the triangle covers it.
-    within : (count a : ℕ) → a ≤ at → at < a + count → list_any (has_at r (length os) j) (filter_map (hit_at t n os r) (range_with_len a count)) ≡ here
-    within zero a l h = absurd (omega arith)
-    within (suc count) a l h = go (λ m. within count (a + 1) m (omega arith)) (cases_eq a (j / length os)) where
-      go : (a + 1 ≤ at → list_any (has_at r (length os) j) (filter_map (hit_at t n os r) (range_with_len (a + 1) count)) ≡ here)
-          → (a ≡ j / length os) ⊎ (a ≡ j / length os → ⊥)
-          → list_any (has_at r (length os) j) (cons_option (hit_at t n os r a) (filter_map (hit_at t n os r) (range_with_len (a + 1) count))) ≡ here
-      go later (inl e) =
-          step a (filter_map (hit_at t n os r) (range_with_len (a + 1) count))
-          ∙ (ap₂ (λ (b v : Bool). (b && covers t os (r.x0 + a % r.w) (r.y0 + a / r.w) (j % length os)) || v) (eq-eqb a (j / length os) e) (other count (a + 1) (inl (omega arith)))
-          ∙ (alone (covers t os (r.x0 + a % r.w) (r.y0 + a / r.w) (j % length os))
-          ∙ ap (λ (q : ℕ). covers t os (r.x0 + q % r.w) (r.y0 + q / r.w) (j % length os)) e)) where
-            alone : (v : Bool) → (v || false) ≡ v
-            alone true = refl
-            alone false = refl
-      go later (inr f) = step a (filter_map (hit_at t n os r) (range_with_len (a + 1) count)) ∙ rw (ne_eqb a (j / length os) f) (later (omega arith))
 
     -- How many hits of a place have the sample.
     step_count : (q : ℕ) (rest : List Hit) → count_by (has_at r (length os) j) (cons_option (hit_at t n os r q) rest)
@@ -159,17 +112,9 @@ module _ (t : Triangle) (n : ℕ) (os : List (ℤ × ℤ)) (r : Region) (is : Is
           ∙ ap (λ (q : ℕ). (if covers t os (r.x0 + q % r.w) (r.y0 + q / r.w) (j % length os) then 1 else 0)) e))
       go later (inr f) = step_count a (filter_map (hit_at t n os r) (range_with_len (a + 1) count)) ∙ rw (ne_eqb a (j / length os) f) (omega (arith, later (omega arith)))
 
--- Of all hits of a triangle, in any order, one has a sample exactly where the triangle covers it.
-pub any_covered : (t : Triangle) (n : ℕ) (r : Region) (pattern : Pattern) (all : List Hit) (j : ℕ) → IsRegion r → 0 < size_of pattern → j < count_of r pattern → IsPermutation all (hits t n (offsets_of pattern) r)
-    → list_any (has_at r (size_of pattern) j) all ≡ is_covered_at t r pattern j
-unfolding is_covered
-any_covered t n r pattern all j is some h p =
-    list_any-IsPermutation (has_at r (size_of pattern) j) all (hits t n (offsets_of pattern) r) p
-    ∙ within t n (offsets_of pattern) r is j (mod_below j (size_of pattern) some) (r.w * r.h) 0 (omega arith) (omega (arith, div_below j (size_of pattern) (r.w * r.h) some h))
-
--- More than one never has it.
+-- Of all hits of a triangle, in any order, one has a sample that the triangle covers, and else none.
 pub once_covered : (t : Triangle) (n : ℕ) (r : Region) (pattern : Pattern) (all : List Hit) (j : ℕ) → IsRegion r → 0 < size_of pattern → j < count_of r pattern → IsPermutation all (hits t n (offsets_of pattern) r)
-    → count_by (has_at r (size_of pattern) j) all ≡ (if is_covered_at t r pattern j then 1 else 0)
+    → count_by (has_at r (size_of pattern) j) all ≡ (if is_covered t (offsets_of pattern) (sample_at r (size_of pattern) j) then 1 else 0)
 unfolding is_covered
 once_covered t n r pattern all j is some h p =
     sym (sum_by-IsPermutation (λ x. (if has_at r (size_of pattern) j x then 1 else 0)) all (hits t n (offsets_of pattern) r) p)

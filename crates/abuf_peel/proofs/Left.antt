@@ -1,26 +1,28 @@
 -- The primitives that samples still take.
-use Rattle.std.proofs.Common.{◌≡◌, ℕ, zero, suc, nat_lt, ◌^◌, ◌+◌, ◌<◌, ◌≤◌, ◌⊎◌, inl, inr, Bool, true, false, ◌&&◌, if◌then◌else◌, List, [], ◌∷◌, ◌++◌, map, take, length, get_or, set, ℤ, Option, Some, None, All, refl, ap, ◌∙◌, sym, subst, arith}
-use Rattle.std.specs.List.{filter}
+use Rattle.std.proofs.Common.{◌≡◌, ℕ, zero, suc, nat_lt, ◌^◌, ◌+◌, ◌<◌, ◌≤◌, ◌⊎◌, inl, inr, Bool, true, false, ◌&&◌, if◌then◌else◌, List, [], ◌∷◌, ◌++◌, map, take, length, get_or, set, ℤ, Option, Some, None, All, IsPermutation, refl, ap, ◌∙◌, sym, subst, arith}
+use Rattle.std.specs.List.{count_by, filter}
 use Rattle.std.proofs.lemmas.Bool.{lt-ltb, le-ltb, cases_lt}
-use Rattle.std.proofs.lemmas.List.{append-nil, length-set, get_or-set_other, take-set, take_more, take_more_set, take_all}
+use Rattle.std.proofs.lemmas.List.{append-nil, length-set, map-append, get_or-set_other, take-set, take_more, take_more_set, take_all}
 use Rattle.std.proofs.lemmas.List.Elements.{filter-append, All-nil, All-push}
 use Rattle.abuf_num.specs.declared.plain.Paint.{Paint}
 use Rattle.abuf_raster.specs.declared.pattern.Pattern.{Pattern}
 use Rattle.abuf_raster.specs.Triangle.{Triangle}
 use Rattle.abuf_raster.specs.Coverage.{covers}
+use Rattle.abuf_raster.specs.Hits.{hits}
 use Rattle.abuf_raster.specs.Region.{Region, IsRegion}
+use Rattle.abuf_raster.specs.declared.region.Hit.{Hit}
 use Rattle.abuf_raster.specs.Samples.{offsets_of}
 use Rattle.abuf_raster.proofs.Masks.{offsets_some}
 use Rattle.abuf_resolve.specs.Colour.{triangle_at, numbers}
 use Rattle.abuf_resolve.specs.Words.{layer_word, prim_of, reaches, IsDepthWord}
 use Rattle.abuf_peel.specs.Layers.{Seen, TakesTimes, count_of, sample_at, size_of, taken, taken_times}
 use Rattle.abuf_peel.specs.Members.{HaveAll, HaveLeft, left_at}
-use Rattle.abuf_peel.specs.Next.{Sample, least, lower_of, left_among, left_from, next_among, next_word, words_among}
-use Rattle.abuf_peel.specs.Offers.{Tells, inserted, is_covered, is_covered_at, is_left, offered_times, word_at, word_of}
+use Rattle.abuf_peel.specs.Next.{Sample, covering_among, least, lower_of, left_among, left_from, next_among, next_word, words_among}
+use Rattle.abuf_peel.specs.Offers.{AreNext, AreNextAmong, IsDone, OffersHits, OffersNext, has_at, inserted, is_covered, offered_times, word_at, word_of}
 use Rattle.abuf_peel.specs.Taking.{FindsLowest, lowest}
 use Rattle.abuf_peel.proofs.Insertion.{lowest_more}
 use Rattle.abuf_peel.proofs.Chosen.{sample_in}
-use Rattle.abuf_peel.proofs.Found.{words_more}
+use Rattle.abuf_peel.proofs.Hits.{once_covered}
 use Rattle.abuf_peel.proofs.Words.{narrower}
 
 -- ---- the words from which on a sample takes only rise
@@ -49,66 +51,89 @@ times_rise os tris paints s (suc n) seen = omega (arith, next_rises os tris s se
 
 -- ---- what is left of some primitives
 module _ (os : List (ℤ × ℤ)) (tris : List Triangle) (s : Sample) where
+  -- What is left of some primitives and others.
+  left_append : (from : ℕ) (ms ns : List ℕ) → left_among os tris s from (ms ++ ns) ≡ left_among os tris s from ms ++ left_among os tris s from ns
+  unfolding left_among
+  left_append from ms ns =
+      ap (filter (reaches from)) (ap (map (layer_word os tris s.x s.y s.k)) (filter-append (λ n. covers (triangle_at tris n) os s.x s.y s.k) ms ns) ∙ map-append (layer_word os tris s.x s.y s.k) (covering_among os tris s ms) (covering_among os tris s ns))
+      ∙ filter-append (reaches from) (words_among os tris s ms) (words_among os tris s ns)
+
   -- What is left of some primitives and one more.
   left_more : (from : ℕ) (ns : List ℕ) (n : ℕ)
       → left_among os tris s from (ns ++ n ∷ [])
-      ≡ left_among os tris s from ns ++ (if is_left (is_covered (triangle_at tris n) os s) from (word_of (triangle_at tris n) n os s) then word_of (triangle_at tris n) n os s ∷ [] else [])
+      ≡ left_among os tris s from ns ++ (if is_covered (triangle_at tris n) os s && reaches from (word_of (triangle_at tris n) n os s) then word_of (triangle_at tris n) n os s ∷ [] else [])
   unfolding left_among is_covered word_of
   left_more from ns n =
-      ap (filter (reaches from)) (words_more os tris s ns n)
-      ∙ (filter-append (reaches from) (words_among os tris s ns) (if covers (triangle_at tris n) os s.x s.y s.k then layer_word os tris s.x s.y s.k n ∷ [] else [])
-      ∙ ap (λ (ws : List ℕ). filter (reaches from) (words_among os tris s ns) ++ ws)
+      left_append from ns (n ∷ [])
+      ∙ ap (λ (ws : List ℕ). left_among os tris s from ns ++ ws)
       (elim (covers (triangle_at tris n) os s.x s.y s.k) as (λ (v : Bool).
-      filter (reaches from) (if v then layer_word os tris s.x s.y s.k n ∷ [] else []) ≡ (if v && reaches from (layer_word os tris s.x s.y s.k n) then layer_word os tris s.x s.y s.k n ∷ [] else []))
-      [ true ↦ refl | false ↦ refl ]))
+      filter (reaches from) (map (layer_word os tris s.x s.y s.k) (if v then n ∷ [] else [])) ≡ (if v && reaches from (layer_word os tris s.x s.y s.k n) then layer_word os tris s.x s.y s.k n ∷ [] else []))
+      [ true ↦ refl | false ↦ refl ])
 
   -- A primitive of which nothing is left may be dropped.
-  pub left_dropped : (from : ℕ) (ns : List ℕ) (n : ℕ) (t : Triangle) → t ≡ triangle_at tris n → is_left (is_covered t os s) from (word_of t n os s) ≡ false
-      → left_among os tris s from ns ≡ left_among os tris s from (ns ++ n ∷ [])
-  left_dropped from ns n t same none =
-      let off : is_left (is_covered (triangle_at tris n) os s) from (word_of (triangle_at tris n) n os s) ≡ false = subst (λ (u : Triangle). is_left (is_covered u os s) from (word_of u n os s) ≡ false) same none in
+  left_dropped : (from : ℕ) (ns : List ℕ) (n : ℕ) → (0 < (if is_covered (triangle_at tris n) os s then 1 else 0) → reaches from (word_of (triangle_at tris n) n os s) ≡ false) → left_among os tris s from ns ≡ left_among os tris s from (ns ++ n ∷ [])
+  left_dropped from ns n none =
       sym (left_more from ns n
-      ∙ (ap (λ (v : Bool). left_among os tris s from ns ++ (if v then word_of (triangle_at tris n) n os s ∷ [] else [])) off
-      ∙ append-nil (left_among os tris s from ns)))
+      ∙ (ap (λ (v : Bool). left_among os tris s from ns ++ (if v then word_of (triangle_at tris n) n os s ∷ [] else [])) (go (is_covered (triangle_at tris n) os s) none)
+      ∙ append-nil (left_among os tris s from ns))) where
+        go : (v : Bool) → (0 < (if v then 1 else 0) → reaches from (word_of (triangle_at tris n) n os s) ≡ false) → (v && reaches from (word_of (triangle_at tris n) n os s)) ≡ false
+        go true f = f (omega arith)
+        go false f = refl
 
   -- Where as much is left of some as of others, so it is with one more.
   pub left_kept : (from : ℕ) (ms ns : List ℕ) (n : ℕ) → left_among os tris s from ms ≡ left_among os tris s from ns → left_among os tris s from (ms ++ n ∷ []) ≡ left_among os tris s from (ns ++ n ∷ [])
-  left_kept from ms ns n e =
-      left_more from ms n
-      ∙ (ap (λ (ws : List ℕ). ws ++ (if is_left (is_covered (triangle_at tris n) os s) from (word_of (triangle_at tris n) n os s) then word_of (triangle_at tris n) n os s ∷ [] else [])) e
-      ∙ sym (left_more from ns n))
+  left_kept from ms ns n e = left_append from ms (n ∷ []) ∙ (ap (λ (ws : List ℕ). ws ++ left_among os tris s from (n ∷ [])) e ∙ sym (left_append from ns (n ∷ [])))
 
   -- So it is from a higher word on.
   pub left_rises : (a b : ℕ) (ms ns : List ℕ) → a ≤ b → left_among os tris s a ms ≡ left_among os tris s a ns → left_among os tris s b ms ≡ left_among os tris s b ns
   unfolding left_among
   left_rises a b ms ns h e = sym (narrower a b (words_among os tris s ms) h) ∙ (ap (filter (reaches b)) e ∙ narrower a b (words_among os tris s ns) h)
 
-  -- Among no primitives nothing is found.
-  pub lowest_none : (from count : ℕ) (best : List ℕ) → best ≡ lowest [] → FindsLowest count (left_among os tris s from []) best
-  unfolding left_among
-  lowest_none from count best e = record { is = e; known = tt }
-
   -- What is found among some primitives, once one more is offered.
-  pub lowest_next : (t : Triangle) (from : ℕ) (ns : List ℕ) (n : ℕ) (best new : List ℕ) → t ≡ triangle_at tris n → n < length tris → length tris ≤ 2 ^ 24
+  lowest_next : (from : ℕ) (ns : List ℕ) (n : ℕ) (best new : List ℕ) → n < length tris → length tris ≤ 2 ^ 24
       → FindsLowest (length tris) (left_among os tris s from ns) best
-      → new ≡ offered_times (if is_covered t os s then 1 else 0) from (word_of t n os s) best
-      → (is_covered t os s ≡ true → word_of t n os s < 2 ^ 48)
+      → new ≡ offered_times (if is_covered (triangle_at tris n) os s then 1 else 0) from (word_of (triangle_at tris n) n os s) best
+      → (0 < (if is_covered (triangle_at tris n) os s then 1 else 0) → word_of (triangle_at tris n) n os s < 2 ^ 48)
       → FindsLowest (length tris) (left_among os tris s from (ns ++ n ∷ [])) new
   unfolding word_of
-  lowest_next t from ns n best new same known few f e fit =
+  lowest_next from ns n best new known few f e fit =
       subst (λ (ws : List ℕ). FindsLowest (length tris) ws new) (sym (left_more from ns n))
-      (subst (λ (u : Triangle). FindsLowest (length tris) (left_among os tris s from ns ++ (if is_left (is_covered u os s) from (word_of u n os s) then word_of u n os s ∷ [] else [])) new) same
-      (subst (λ (b : List ℕ). FindsLowest (length tris) (left_among os tris s from ns ++ (if is_left (is_covered t os s) from (word_of t n os s) then word_of t n os s ∷ [] else [])) b) (sym e)
-      (go (is_covered t os s) fit))) where
+      (subst (λ (b : List ℕ). FindsLowest (length tris) (left_among os tris s from ns ++ (if is_covered (triangle_at tris n) os s && reaches from (word_of (triangle_at tris n) n os s) then word_of (triangle_at tris n) n os s ∷ [] else [])) b) (sym e)
+      (go (is_covered (triangle_at tris n) os s) fit)) where
         here : (w : ℕ) (v : Bool) → IsDepthWord (length tris) w
             → FindsLowest (length tris) (left_among os tris s from ns ++ (if v then w ∷ [] else [])) (if v && nat_lt w (get_or best 15 0) then inserted 0 w best else best)
         here w false i = subst (λ (ws : List ℕ). FindsLowest (length tris) ws best) (sym (append-nil (left_among os tris s from ns))) f
         here w true i = lowest_more (length tris) w (left_among os tris s from ns) best i f
 
-        go : (v : Bool) → (v ≡ true → word_of t n os s < 2 ^ 48)
-            → FindsLowest (length tris) (left_among os tris s from ns ++ (if is_left v from (word_of t n os s) then word_of t n os s ∷ [] else [])) (offered_times (if v then 1 else 0) from (word_of t n os s) best)
+        go : (v : Bool) → (0 < (if v then 1 else 0) → word_of (triangle_at tris n) n os s < 2 ^ 48)
+            → FindsLowest (length tris) (left_among os tris s from ns ++ (if v && reaches from (word_of (triangle_at tris n) n os s) then word_of (triangle_at tris n) n os s ∷ [] else [])) (offered_times (if v then 1 else 0) from (word_of (triangle_at tris n) n os s) best)
         go false small = subst (λ (ws : List ℕ). FindsLowest (length tris) ws best) (sym (append-nil (left_among os tris s from ns))) f
-        go true small = here (word_of t n os s) (reaches from (word_of t n os s)) (record { fits = small refl; known = let p : prim_of (word_of t n os s) ≡ n = omega arith in omega arith })
+        go true small = here (word_of (triangle_at tris n) n os s) (reaches from (word_of (triangle_at tris n) n os s)) (record { fits = small (omega arith); known = let p : prim_of (word_of (triangle_at tris n) n os s) ≡ n = omega arith in omega arith })
+
+module _ (tris : List Triangle) (r : Region) (pattern : Pattern) (from : List ℕ) where
+  -- Among no primitives nothing is found.
+  pub next_none : (best : List (List ℕ)) → length best ≡ count_of r pattern → ((j : ℕ) → j < length best → get_or best j [] ≡ lowest []) → AreNextAmong tris r pattern from [] best
+  unfolding left_among
+  next_none best e each = record { size = e; each = λ j l. record { is = each j (omega (arith, e)); known = tt } }
+
+  -- Once a triangle is offered to the samples of all its hits, it is offered to all samples.
+  pub offers_next : (t : Triangle) (n : ℕ) (all : List Hit) (old new : List (List ℕ)) (left : Bool) → t ≡ triangle_at tris n → n < length tris → length tris ≤ 2 ^ 24 → IsRegion r → IsPermutation all (hits t n (offsets_of pattern) r)
+      → OffersHits t n r pattern from all old new left → OffersNext tris n r pattern from old new left
+  offers_next t n all old new left same known few is p o =
+      subst (λ (u : Triangle). IsPermutation all (hits u n (offsets_of pattern) r) → OffersHits u n r pattern from all old new left → OffersNext tris n r pattern from old new left) (sym same) go p o where
+        go : IsPermutation all (hits (triangle_at tris n) n (offsets_of pattern) r) → OffersHits (triangle_at tris n) n r pattern from all old new left → OffersNext tris n r pattern from old new left
+        go p o = record {
+          next = λ ns f. record {
+            size = o.size ∙ f.size;
+            each = λ j l.
+                lowest_next (offsets_of pattern) tris (sample_at r (size_of pattern) j) (get_or from j 0) ns n (get_or old j []) (get_or new j []) known few (f.each j l)
+                (o.each j l ∙ ap (λ (m : ℕ). offered_times m (get_or from j 0) (word_at (triangle_at tris n) n r pattern j) (get_or old j [])) (once j l))
+                (λ m. (o.told j l (omega (arith, m, once j l))).0);
+          };
+          done = λ e ns j l. left_dropped (offsets_of pattern) tris (sample_at r (size_of pattern) j) (get_or from j 0) ns n (λ m. (o.told j l (omega (arith, m, once j l))).1 e);
+        } where
+          once : (j : ℕ) → j < count_of r pattern → count_by (has_at r (size_of pattern) j) all ≡ (if is_covered (triangle_at tris n) (offsets_of pattern) (sample_at r (size_of pattern) j) then 1 else 0)
+          once j l = once_covered (triangle_at tris n) n r pattern all j is (offsets_some pattern) l p
 
 -- ---- members of which something is left
 -- All that cover a sample of a region are all that its samples still take, whatever they have taken.
@@ -149,11 +174,10 @@ module _ (tris : List Triangle) (r : Region) (pattern : Pattern) (from : List �
   sifted_starts all = record { size = refl; low = omega arith; rest = λ m l. refl; known = All-nil (λ n. n < length tris); each = λ j l. refl }
 
   -- One member more is kept where something is left of it.
-  pub sifted_more : (all : List ℕ) (i kept : ℕ) (members : List ℕ) (t : Triangle) (n : ℕ) (left : Bool) → i < length all → n ≡ get_or all i 0 → n < length tris → t ≡ triangle_at tris n
-      → Sifted all i kept members
-      → Tells (λ j. is_left (is_covered_at t r pattern j) (get_or from j 0) (word_at t n r pattern j)) (count_of r pattern) left
+  pub sifted_more : (all : List ℕ) (i kept : ℕ) (members : List ℕ) (n : ℕ) (left : Bool) → i < length all → n ≡ get_or all i 0 → n < length tris → Sifted all i kept members
+      → (left ≡ false → IsDone tris r pattern from n)
       → Sifted all (i + 1) (if left then kept + 1 else kept) (set members kept n)
-  sifted_more all i kept members t n left within e known same f tells = go left tells where
+  sifted_more all i kept members n left within e known f done = go left done where
     inside : kept < length members
     inside = omega (arith, f.size, f.low)
 
@@ -163,7 +187,7 @@ module _ (tris : List Triangle) (r : Region) (pattern : Pattern) (from : List �
     front : take (kept + 1) (set members kept n) ≡ take kept members ++ n ∷ []
     front = take_more_set members kept n inside
 
-    go : (v : Bool) → Tells (λ j. is_left (is_covered_at t r pattern j) (get_or from j 0) (word_at t n r pattern j)) (count_of r pattern) v → Sifted all (i + 1) (if v then kept + 1 else kept) (set members kept n)
+    go : (v : Bool) → (v ≡ false → IsDone tris r pattern from n) → Sifted all (i + 1) (if v then kept + 1 else kept) (set members kept n)
     go true u = record {
       size = length-set members kept n ∙ f.size;
       low = omega (arith, f.low);
@@ -182,7 +206,7 @@ module _ (tris : List Triangle) (r : Region) (pattern : Pattern) (from : List �
       each = λ j l.
           ap (left_at r pattern tris from j) (take-set members kept n)
           ∙ (f.each j l
-          ∙ (left_dropped (offsets_of pattern) tris (sample_at r (size_of pattern) j) (get_or from j 0) (take i all) n t same (u.none refl j l)
+          ∙ (u refl (take i all) j l
           ∙ sym (ap (left_at r pattern tris from j) longer)));
     }
 
@@ -191,4 +215,11 @@ module _ (tris : List Triangle) (r : Region) (pattern : Pattern) (from : List �
   sifted_ends all i kept members l f have = record {
     known = f.known;
     each = λ j m. f.each j m ∙ (ap (left_at r pattern tris from j) (take_all i all l) ∙ have.each j m);
+  }
+
+  -- What is found among all of them are the next of all primitives.
+  pub next_all : (all : List ℕ) (i : ℕ) (best : List (List ℕ)) → length all ≤ i → HaveLeft tris r pattern from all → AreNextAmong tris r pattern from (take i all) best → AreNext tris r pattern from best
+  next_all all i best l have f = record {
+    size = f.size;
+    each = λ j m. subst (λ (ws : List ℕ). FindsLowest (length tris) ws (get_or best j [])) (ap (left_at r pattern tris from j) (take_all i all l) ∙ have.each j m) (f.each j m);
   }

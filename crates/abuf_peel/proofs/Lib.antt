@@ -9,6 +9,5 @@ pub mod Offered
 pub mod Found
 pub mod Taken
 pub mod Chosen
-pub mod Tells
 pub mod Left
-pub mod Joined
+pub mod Blocks

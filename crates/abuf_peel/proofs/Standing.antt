@@ -1,6 +1,7 @@
 -- What is seen of a layer: after which steps it stands, and the sums of its colours.
-use Rattle.std.proofs.Common.{◌≡◌, ℕ, suc, ◌+◌, ◌*◌, ◌/◌, ◌%◌, ◌^◌, ◌<◌, ◌≤◌, List, [], ℤ, length, get_or, None, refl, ap, ap₂, ◌∙◌, sym, subst, arith, mul-le-mul}
-use Rattle.std.proofs.lemmas.List.{get_or-replicate}
+use Rattle.std.proofs.Common.{◌≡◌, ℕ, suc, Global, Vec, ◌+◌, ◌*◌, ◌/◌, ◌%◌, ◌^◌, ◌<◌, ◌≤◌, List, [], ℤ, length, get_or, Option, Some, None, is_some, false, true≢false, refl, ap, ap₂, ◌∙◌, sym, subst, arith, mul-le-mul}
+use Rattle.std.specs.Vec.{with_items}
+use Rattle.std.proofs.lemmas.List.{get_or-replicate, with_items_is}
 use Rattle.std.proofs.lemmas.Nat.{div-mul-add, mod-mul-add}
 use Rattle.abuf_num.specs.declared.plain.Paint.{Paint}
 use Rattle.abuf_raster.specs.Region.{Region}
@@ -11,9 +12,8 @@ use Rattle.abuf_resolve.specs.Colour.{colour, covering}
 use Rattle.abuf_resolve.specs.Sums.{sums_at, region_sums}
 use Rattle.abuf_resolve.proofs.Totals.{summed_same, same_on_range}
 use Rattle.abuf_peel.specs.Next.{Sample, next_word}
-use Rattle.abuf_peel.specs.Layers.{Peeled, Seen, peeled_of, seen_at, taken, taken_times, after, started, Takes, TakesTimes, StandsFor, HaveLayer, AreWhole, count_of, size_of, sample_at, next_at, sum_of_place, layer_sums, whole_colour}
-use Rattle.abuf_peel.proofs.Steps.{after-layer, after-none, after-many}
-use Rattle.abuf_peel.proofs.Times.{after_times}
+use Rattle.abuf_peel.specs.Layers.{Peeled, Seen, peeled_of, seen_at, taken_times, after, started, TakesTimes, StandsFor, HaveLayer, AreWhole, NoneLeft, count_of, size_of, sample_at, sum_of_place, layer_sums, whole_colour}
+use Rattle.abuf_peel.proofs.Steps.{after-layer, after-none, after-many, after_times}
 
 -- ---- a layer whose parts are read, and written again
 -- The same parts show the same layer.
@@ -21,13 +21,17 @@ pub same_parts : (r : Region) (pattern : Pattern) (words words' : List ℕ) (col
     → peeled_of r pattern words colours ≡ peeled_of r pattern words' colours'
 same_parts r pattern words words' colours colours' e f = λ i. peeled_of r pattern (e i) (f i)
 
+-- What a layer shows once words and colours are written to its parts.
+abbrev pub shown : Region → Pattern → Vec ℕ Global → Vec (List ℕ) Global → List ℕ → List (List ℕ) → Peeled
+shown r pattern from colours words over = peeled_of r pattern (with_items from words).items (with_items colours over).items
+
+-- It shows these.
+pub are_shown : (r : Region) (pattern : Pattern) (from : Vec ℕ Global) (colours : Vec (List ℕ) Global) (words : List ℕ) (over : List (List ℕ)) → length words ≡ from.len → length over ≡ colours.len → peeled_of r pattern words over ≡ shown r pattern from colours words over
+are_shown r pattern from colours words over e f = same_parts r pattern words _ over _ (sym (with_items_is from words e)) (sym (with_items_is colours over f))
+
 -- Steps from what was read to what is written are steps of the layer.
 pub takes_as : (tris : List Triangle) (paints : List Paint) (n : ℕ) (old read written new : Peeled) → read ≡ old → written ≡ new → TakesTimes tris paints n read written → TakesTimes tris paints n old new
 takes_as tris paints n old read written new e f t = subst (TakesTimes tris paints n old) f (subst (λ (l : Peeled). TakesTimes tris paints n l written) e t)
-
--- One of them is a step.
-pub takes_one : (tris : List Triangle) (paints : List Paint) (old new : Peeled) → TakesTimes tris paints 1 old new → Takes tris paints old new
-takes_one tris paints old new t = record { region = t.region; pattern = t.pattern; each = t.each }
 
 -- Sample k of the pixel at a place.
 pub sample_is : (r : Region) (size place k : ℕ) → k < size → sample_at r size (place * size + k) ≡ record { x = r.x0 + place % r.w; y = r.y0 + place / r.w; k = k }
@@ -42,16 +46,6 @@ module _ (background : List ℕ) (tris : List Triangle) (paints : List Paint) wh
   -- At the start a layer stands for no step.
   pub stands_start : (r : Region) (pattern : Pattern) → StandsFor background tris paints 0 (started r pattern background)
   stands_start r pattern = record { each = λ j l i. record { from = get_or-replicate (count_of r pattern) j 0 0 l i; colour = get_or-replicate (count_of r pattern) j background [] l i } }
-
-  -- Once every sample takes its next primitive, it stands for one more.
-  pub stands_next : (n : ℕ) (old new : Peeled) → Takes tris paints old new → StandsFor background tris paints n old → StandsFor background tris paints (suc n) new
-  stands_next n old new t p = record {
-    each = λ j l.
-        let here : j < count_of old.region old.pattern = subst (λ (k : ℕ). j < k) (ap₂ count_of t.region t.pattern) l in
-        let step : seen_at new j ≡ after (offsets_of old.pattern) background tris paints (sample_at old.region (size_of old.pattern) j) (suc n)
-        = t.each j here ∙ ap (taken (offsets_of old.pattern) tris paints (sample_at old.region (size_of old.pattern) j)) (p.each j here) in
-        step ∙ ap₂ (λ (r : Region) (q : Pattern). after (offsets_of q) background tris paints (sample_at r (size_of q) j) (suc n)) (sym t.region) (sym t.pattern);
-  }
 
   -- Once every sample takes its next several times, it stands for so many more.
   pub stands_times : (n k : ℕ) (old new : Peeled) → TakesTimes tris paints k old new → StandsFor background tris paints n old → StandsFor background tris paints (n + k) new
@@ -70,15 +64,16 @@ module _ (background : List ℕ) (tris : List Triangle) (paints : List Paint) wh
     layers_are n l p j m = ap (λ (v : Seen). v.colour) (p.each j m) ∙ after-layer (offsets_of l.pattern) background tris paints (sample_at l.region (size_of l.pattern) j) few n
 
     -- Where no primitive is left, the colours are whole.
-    pub whole_none : (n : ℕ) (l : Peeled) → StandsFor background tris paints n l
-        → ((j : ℕ) → j < count_of l.region l.pattern → next_at l.region l.pattern tris l.from j ≡ None) → AreWhole background tris paints l
+    pub whole_none : (n : ℕ) (l : Peeled) → StandsFor background tris paints n l → NoneLeft tris l → AreWhole background tris paints l
     whole_none n l p none = record {
       each = λ j m.
           let os : List (ℤ × ℤ) = offsets_of l.pattern in
           let s : Sample = sample_at l.region (size_of l.pattern) j in
-          let last : next_word os tris s (after os background tris paints s n).from ≡ None = ap (λ (v : Seen). next_word os tris s v.from) (sym (p.each j m)) ∙ none j m in
-          ap (λ (v : Seen). v.colour) (p.each j m) ∙ after-none os background tris paints s few n last;
-    }
+          ap (λ (v : Seen). v.colour) (p.each j m) ∙ after-none os background tris paints s few n (no_word_left _ (ap (λ (v : Seen). is_some (next_word os tris s v.from)) (sym (p.each j m)) ∙ none j m));
+    } where
+      no_word_left : (o : Option ℕ) → is_some o ≡ false → o ≡ None
+      no_word_left None e = refl
+      no_word_left (Some w) e = absurd (true≢false e)
 
     -- So they are after as many steps as primitives cover a sample.
     pub whole_many : (n : ℕ) (l : Peeled)

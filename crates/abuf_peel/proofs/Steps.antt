@@ -1,22 +1,21 @@
 -- Steps take the primitives of a sample from the lowest to the topmost.
-use Rattle.std.proofs.Common.{◌≡◌, ℕ, zero, suc, ◌+◌, ◌^◌, ◌<◌, ◌≤◌, ◌⊎◌, inl, inr, Bool, true, false, if◌then◌else◌, List, [], ◌∷◌, map, take, drop, length, ℤ, Option, Some, None, refl, ap, ap₂, ◌∙◌, sym, arith, ◌==◌, nat_lt}
+use Rattle.std.proofs.Common.{◌≡◌, ℕ, zero, suc, ◌+◌, ◌^◌, ◌<◌, ◌≤◌, ◌⊎◌, inl, inr, Bool, true, false, if◌then◌else◌, List, [], ◌∷◌, map, take, drop, length, ℤ, Option, None, refl, ap, ap₂, ◌∙◌, sym, subst, arith, ◌==◌, nat_lt}
 use Rattle.std.specs.List.{filter, range_with_len}
 use Rattle.std.proofs.lemmas.Bool.{ne_eqb, eq-eqb, cases_eq}
-use Rattle.std.proofs.lemmas.List.{length-map, map-append, take-map, take_all}
-use Rattle.std.proofs.lemmas.List.Sums.{fold-append}
+use Rattle.std.proofs.lemmas.List.{drop_all, length-map, take-map, take_all}
 use Rattle.abuf_num.specs.declared.plain.Paint.{Paint}
 use Rattle.abuf_raster.specs.Triangle.{Triangle}
 use Rattle.abuf_raster.specs.Coverage.{covers}
 use Rattle.abuf_raster.specs.Depth.{depth_key}
 use Rattle.abuf_resolve.specs.Colour.{triangle_at, covering, numbers, paint_at, layers, is_beneath}
 use Rattle.abuf_resolve.specs.Order.{in_order, put_in_order}
-use Rattle.abuf_resolve.specs.Over.{layered, laid_over}
+use Rattle.abuf_resolve.specs.Over.{layered}
 use Rattle.abuf_resolve.specs.Words.{layer_word, paint_of, prim_of, folded, reaches}
 use Rattle.abuf_resolve.proofs.Orders.{kept, kept-in_order, Rises-in_order}
 use Rattle.abuf_resolve.proofs.Words.{Below, Below-range, Below-filter, Below-in_order, map-in_order, words_ordered}
 use Rattle.abuf_peel.specs.Next.{Sample, left_among, next_word, next_among, left_from, with_word}
-use Rattle.abuf_peel.specs.Layers.{Seen, taken, after, layer, whole_colour}
-use Rattle.abuf_peel.proofs.Words.{Climbs, Climbs-from, kept-filter_le, all_reach, none_below, one_more, no_more, first, least-left, left_next}
+use Rattle.abuf_peel.specs.Layers.{Seen, taken, taken_times, after, layer, whole_colour}
+use Rattle.abuf_peel.proofs.Words.{Climbs, Climbs-from, kept-filter_le, all_reach, none_below, first, least-left, rest_left}
 
 -- A list with one number put in its place is one longer.
 length-put : (before : ℕ → ℕ → Bool) (x : ℕ) (ys : List ℕ) → length (put_in_order before x ys) ≡ suc (length ys)
@@ -27,12 +26,6 @@ length-put before x (y ∷ ys) = elim (before x y) as (λ (v : Bool). length (if
 pub length-in_order : (before : ℕ → ℕ → Bool) (xs : List ℕ) → length (in_order before xs) ≡ length xs
 length-in_order before [] = refl
 length-in_order before (x ∷ xs) = length-put before x (in_order before xs) ∙ ap suc (length-in_order before xs)
-
--- The first of several small numbers are small.
-Below-take : (bound n : ℕ) (xs : List ℕ) → Below bound xs → Below bound (take n xs)
-Below-take bound zero xs b = tt
-Below-take bound (suc n) [] b = tt
-Below-take bound (suc n) (x ∷ xs) b = (b.0, Below-take bound n xs b.1)
 
 -- No number of a range is before it.
 before_range : (v a n : ℕ) → v < a → kept (λ m. m == v) (range_with_len a n) ≡ 0
@@ -46,6 +39,18 @@ range_once v a (suc n) = go (range_once v (a + 1) n) (cases_eq a v) where
   go : kept (λ m. m == v) (range_with_len (a + 1) n) ≤ 1 → (a ≡ v) ⊎ (a ≡ v → ⊥) → kept (λ m. m == v) (a ∷ range_with_len (a + 1) n) ≤ 1
   go k (inl e) = rw (eq-eqb a v e) (omega (arith, before_range v (a + 1) n (omega arith)))
   go k (inr f) = rw (ne_eqb a v f) (omega arith)
+
+-- Where none is left after the first n, they are all.
+all_taken : (n : ℕ) (xs : List ℕ) → first (drop n xs) ≡ None → take n xs ≡ xs
+all_taken zero [] e = refl
+all_taken zero (x ∷ xs) e = cc
+all_taken (suc n) [] e = refl
+all_taken (suc n) (x ∷ xs) e = ap (λ (ys : List ℕ). x ∷ ys) (all_taken n xs e)
+
+-- Several steps after n.
+pub after_times : (os : List (ℤ × ℤ)) (background : List ℕ) (tris : List Triangle) (paints : List Paint) (s : Sample) (n k : ℕ) → taken_times os tris paints s k (after os background tris paints s n) ≡ after os background tris paints s (n + k)
+after_times os background tris paints s n zero = ap (after os background tris paints s) (let e : n ≡ n + 0 = omega arith in e)
+after_times os background tris paints s n (suc k) = after_times os background tris paints s (suc n) k ∙ ap (after os background tris paints s) (let e : suc n + k ≡ n + suc k = omega arith in e)
 
 module _ (os : List (ℤ × ℤ)) (background : List ℕ) (tris : List Triangle) (paints : List Paint) (s : Sample) (few : length tris ≤ 2 ^ 24) where
   -- The word of a primitive in the sample.
@@ -108,70 +113,61 @@ module _ (os : List (ℤ × ℤ)) (background : List ℕ) (tris : List Triangle)
   unfolding next_among left_among
   next_is from = least-left from (map word these)
 
-  -- A sample that has taken the lowest n primitives, or all where there are fewer.
-  record Took (n : ℕ) (seen : Seen) : Type 0 where
-    rest : filter (reaches seen.from) sorted ≡ drop n sorted
-    colour : seen.colour ≡ folded background paints (take n sorted)
+  -- The next word is the first of what is left in order.
+  pub next_first : (from : ℕ) (rest : List ℕ) → filter (reaches from) sorted ≡ rest → next_word os tris s from ≡ first rest
+  next_first from rest e = next_is from ∙ ap first e
 
-  -- One paint more is laid over.
-  laid_more : (rest : List ℕ) (n : ℕ) (under : List ℕ) → rest ≡ drop n sorted → under ≡ folded background paints (take n sorted)
-      → with_word paints (first rest) under ≡ folded background paints (take (suc n) sorted)
-  laid_more [] n under e f = f ∙ ap (folded background paints) (sym (no_more n sorted (sym e)).1)
-  laid_more (h ∷ r) n under e f =
-      ap (λ (u : List ℕ). laid_over u (paint_of paints h)) f
-      ∙ sym (ap (folded background paints) (one_more n sorted h r (sym e)).0
-      ∙ (ap (layered background) (map-append (paint_of paints) (take n sorted) (h ∷ []))
-      ∙ fold-append laid_over background (map (paint_of paints) (take n sorted)) (paint_of paints h ∷ [])))
+  -- What is left once the next is taken.
+  pub left_next : (seen : Seen) (w : ℕ) (rest : List ℕ) → filter (reaches seen.from) sorted ≡ w ∷ rest → filter (reaches (taken os tris paints s seen).from) sorted ≡ rest
+  left_next seen w rest e = ap (λ (o : Option ℕ). filter (reaches (left_from o seen.from)) sorted) (next_first seen.from (w ∷ rest) e) ∙ rest_left seen.from w rest sorted climbs e
 
-  -- One step more.
-  next : (n : ℕ) (seen : Seen) → Took n seen → Took (suc n) (taken os tris paints s seen)
-  next n seen t =
-      let is : next_word os tris s seen.from ≡ first (drop n sorted) = next_is seen.from ∙ ap first t.rest in
-      record {
-        rest = ap (λ (o : Option ℕ). filter (reaches (left_from o seen.from)) sorted) is ∙ left_next seen.from n sorted climbs t.rest;
-        colour = ap (λ (o : Option ℕ). with_word paints o seen.colour) is ∙ laid_more (drop n sorted) n seen.colour refl t.colour;
-      }
+  -- Nothing is left where nothing was.
+  pub left_nothing : (seen : Seen) → filter (reaches seen.from) sorted ≡ [] → filter (reaches (taken os tris paints s seen).from) sorted ≡ []
+  left_nothing seen e = ap (λ (o : Option ℕ). filter (reaches (left_from o seen.from)) sorted) (next_first seen.from [] e) ∙ e
 
-  -- So it is after n steps.
-  took : (n : ℕ) → Took n (after os background tris paints s n)
-  took zero = record { rest = all_reach 0 sorted (none_below sorted); colour = refl }
-  took (suc n) = next n (after os background tris paints s n) (took n)
+  -- What is left after n steps, and the colour: the first n of what was left are laid over.
+  pub steps : (n : ℕ) (rest : List ℕ) (seen : Seen) → filter (reaches seen.from) sorted ≡ rest
+      → (filter (reaches (taken_times os tris paints s n seen).from) sorted ≡ drop n rest) × ((taken_times os tris paints s n seen).colour ≡ folded seen.colour paints (take n rest))
+  steps zero rest seen e = (e, refl)
+  steps (suc n) [] seen e =
+      let later = steps n [] (taken os tris paints s seen) (left_nothing seen e) in
+      (later.0 ∙ drop_all n [] (omega arith), later.1 ∙ (ap (folded (taken os tris paints s seen).colour paints) (take_all n [] (omega arith)) ∙ ap (λ (o : Option ℕ). with_word paints o seen.colour) (next_first seen.from [] e)))
+  steps (suc n) (w ∷ rest) seen e =
+      let later = steps n rest (taken os tris paints s seen) (left_next seen w rest e) in
+      (later.0, later.1 ∙ ap (λ (o : Option ℕ). folded (with_word paints o seen.colour) paints (take n rest)) (next_first seen.from (w ∷ rest) e))
 
   -- The paints of words are those of their primitives.
   paints_are : (ns : List ℕ) → Below (2 ^ 24) ns → map (paint_of paints) (map word ns) ≡ map (paint_at paints) ns
   paints_are [] b = refl
   paints_are (n ∷ ns) b = ap₂ ◌∷◌ (ap (paint_at paints) (told n b.0)) (paints_are ns b.1)
 
-  -- The fold of the lowest n words is that of the lowest n primitives.
-  layer_is : (n : ℕ) → folded background paints (take n sorted) ≡ layer os background tris paints s n
-  layer_is n =
-      let ns : List ℕ = layers os tris s.x s.y s.k in
-      ap (λ (ws : List ℕ). folded background paints (take n ws)) (sym sorted_is)
-      ∙ (ap (folded background paints) (take-map word n ns)
-      ∙ ap (layered background) (paints_are (take n ns) (Below-take (2 ^ 24) n ns layers_below)))
+  -- So they are in order.
+  paints_in_order : map (paint_of paints) sorted ≡ map (paint_at paints) (layers os tris s.x s.y s.k)
+  paints_in_order = ap (map (paint_of paints)) (sym sorted_is) ∙ paints_are (layers os tris s.x s.y s.k) layers_below
 
-  -- That of all is the colour.
+  -- The colour of the whole is that of all words.
   whole_is : folded background paints sorted ≡ whole_colour os background tris paints s
-  whole_is = ap (folded background paints) (sym sorted_is) ∙ ap (layered background) (paints_are (layers os tris s.x s.y s.k) layers_below)
+  whole_is = ap (layered background) paints_in_order
 
-  -- After n steps a sample has the paints of the lowest n primitives.
+  -- After n steps from the background on,
+  after_steps : (n : ℕ) → (filter (reaches (after os background tris paints s n).from) sorted ≡ drop n sorted) × ((after os background tris paints s n).colour ≡ folded background paints (take n sorted))
+  after_steps n =
+      subst (λ (seen : Seen). (filter (reaches seen.from) sorted ≡ drop n sorted) × (seen.colour ≡ folded background paints (take n sorted)))
+      (after_times os background tris paints s 0 n ∙ ap (after os background tris paints s) (let e : 0 + n ≡ n = omega arith in e))
+      (steps n sorted (record { from = 0; colour = background }) (all_reach 0 sorted (none_below sorted)))
+
+  -- a sample has the paints of the lowest n primitives.
   pub after-layer : (n : ℕ) → (after os background tris paints s n).colour ≡ layer os background tris paints s n
-  after-layer n = (took n).colour ∙ layer_is n
+  after-layer n =
+      (after_steps n).1
+      ∙ ap (layered background) (sym (take-map (paint_of paints) n sorted) ∙ (ap (take n) paints_in_order ∙ take-map (paint_at paints) n (layers os tris s.x s.y s.k)))
 
   -- Where none is left, its colour is whole.
   pub after-none : (n : ℕ) → next_word os tris s (after os background tris paints s n).from ≡ None → (after os background tris paints s n).colour ≡ whole_colour os background tris paints s
-  after-none n none = go (drop n sorted) refl where
-    seen : Seen
-    seen = after os background tris paints s n
-
-    go : (rest : List ℕ) → rest ≡ drop n sorted → (after os background tris paints s n).colour ≡ whole_colour os background tris paints s
-    go [] e = (took n).colour ∙ (ap (folded background paints) (no_more n sorted (sym e)).0 ∙ whole_is)
-    go (h ∷ r) e =
-        let is : None ≡ Some h = sym none ∙ (next_is (after os background tris paints s n).from ∙ (ap first (took n).rest ∙ ap first (sym e))) in
-        cc
+  after-none n none = (after_steps n).1 ∙ (ap (folded background paints) (all_taken n sorted (sym (next_first _ (drop n sorted) (after_steps n).0) ∙ none)) ∙ whole_is)
 
   -- So it is after as many steps as primitives cover it.
   pub after-many : (n : ℕ) → length these ≤ n → (after os background tris paints s n).colour ≡ whole_colour os background tris paints s
   after-many n h =
       let count : length sorted ≤ n = omega (arith, length-in_order nat_lt (map word these), length-map these word) in
-      (took n).colour ∙ (ap (folded background paints) (take_all n sorted count) ∙ whole_is)
+      (after_steps n).1 ∙ (ap (folded background paints) (take_all n sorted count) ∙ whole_is)

@@ -1,24 +1,18 @@
 -- Rising lists of words, and the least of those that are left.
-use Rattle.std.proofs.Common.{◌≡◌, ℕ, zero, suc, ◌+◌, ◌<◌, ◌≤◌, min, ◌⊎◌, inl, inr, Bool, true, false, if◌then◌else◌, List, [], ◌∷◌, ◌++◌, take, drop, length, Option, Some, None, get_or, refl, ap, ◌∙◌, sym, subst, true≢false, arith, ◌==◌, nat_lt}
+use Rattle.std.proofs.Common.{◌≡◌, ℕ, suc, ◌+◌, ◌<◌, ◌≤◌, min, ◌⊎◌, inl, inr, Bool, true, false, if◌then◌else◌, List, [], ◌∷◌, length, Option, Some, None, get_or, refl, ap, ◌∙◌, sym, subst, true≢false, arith, ◌==◌, nat_lt}
 use Rattle.std.specs.List.{filter}
 use Rattle.std.proofs.lemmas.Bool.{lt-ltb, le-ltb, eq-eqb, ne_eqb, cases_lt, cases_order}
 use Rattle.std.proofs.lemmas.List.Elements.{filter_passes}
 use Rattle.abuf_resolve.specs.Order.{put_in_order, in_order}
 use Rattle.abuf_resolve.specs.Words.{reaches}
 use Rattle.abuf_resolve.proofs.Orders.{kept, Rises, Alike-filter, Rises-filter, Rises-in_order, kept-in_order, in_order_is}
-use Rattle.abuf_peel.specs.Next.{least, lower_of, left_from}
+use Rattle.abuf_peel.specs.Next.{least, lower_of}
 
 -- ---- lists that rise strictly
 -- Each later number is above each earlier one.
 abbrev pub Climbs : List ℕ → Type 0
 Climbs [] = Unit {0}
 Climbs (x ∷ xs) = (kept (λ y. nat_lt y (suc x)) xs ≡ 0) × Climbs xs
-
--- So it is after some of them.
-pub Climbs-drop : (n : ℕ) (xs : List ℕ) → Climbs xs → Climbs (drop n xs)
-Climbs-drop zero xs c = c
-Climbs-drop (suc n) [] c = tt
-Climbs-drop (suc n) (x ∷ xs) c = Climbs-drop n xs c.1
 
 -- At most x are those below x and those equal to it.
 at_most : (x : ℕ) (xs : List ℕ) → kept (λ y. nat_lt y (suc x)) xs ≡ kept (λ y. nat_lt y x) xs + kept (λ y. y == x) xs
@@ -84,21 +78,6 @@ reached a h r xs e = go (cases_lt h a) where
       let fails : reaches a h ≡ false = rw (lt-ltb h a l) refl in
       absurd (true≢false (sym passes ∙ fails))
 
--- ---- one more of a list
--- Where there is one more, it follows those taken.
-pub one_more : (n : ℕ) (xs : List ℕ) (h : ℕ) (r : List ℕ) → drop n xs ≡ h ∷ r → (take (suc n) xs ≡ take n xs ++ h ∷ []) × (drop (suc n) xs ≡ r)
-one_more zero [] h r e = absurd (omega (arith, ap (λ (ys : List ℕ). length ys) e))
-one_more zero (x ∷ xs) h r e = (cc, cc)
-one_more (suc n) [] h r e = absurd (omega (arith, ap (λ (ys : List ℕ). length ys) e))
-one_more (suc n) (x ∷ xs) h r e = let rest = one_more n xs h r e in (ap (λ (ys : List ℕ). x ∷ ys) rest.0, rest.1)
-
--- Where there is none, all are taken.
-pub no_more : (n : ℕ) (xs : List ℕ) → drop n xs ≡ [] → (take n xs ≡ xs) × (take (suc n) xs ≡ take n xs) × (drop (suc n) xs ≡ [])
-no_more zero [] e = (refl, refl, refl)
-no_more zero (x ∷ xs) e = absurd (omega (arith, ap (λ (ys : List ℕ). length ys) e))
-no_more (suc n) [] e = (refl, refl, refl)
-no_more (suc n) (x ∷ xs) e = let rest = no_more n xs e in (ap (λ (ys : List ℕ). x ∷ ys) rest.0, ap (λ (ys : List ℕ). x ∷ ys) rest.1, rest.2)
-
 -- ---- the least of them
 -- The first of a list, if there is one.
 abbrev pub first : List ℕ → Option ℕ
@@ -128,21 +107,6 @@ filter-in_order p xs =
 -- The least of those from a bound on is the first of those in order.
 pub least-left : (from : ℕ) (xs : List ℕ) → least (filter (reaches from) xs) ≡ first (filter (reaches from) (in_order nat_lt xs))
 least-left from xs = least-first (filter (reaches from) xs) ∙ ap first (sym (filter-in_order (reaches from) xs))
-
--- Once the first that is left of a strictly rising list is taken, the others are left.
-pub left_next : (from n : ℕ) (xs : List ℕ) → Climbs xs → filter (reaches from) xs ≡ drop n xs → filter (reaches (left_from (first (drop n xs)) from)) xs ≡ drop (suc n) xs
-left_next from n xs climbs e = go (drop n xs) refl where
-  go : (rest : List ℕ) → rest ≡ drop n xs → filter (reaches (left_from (first rest) from)) xs ≡ drop (suc n) xs
-  go [] f = e ∙ (sym f ∙ sym (no_more n xs (sym f)).2)
-  go (h ∷ r) f =
-      let low : from ≤ h = reached from h r xs (e ∙ sym f) in
-      let c : Climbs (h ∷ r) = subst Climbs (sym f) (Climbs-drop n xs climbs) in
-      let skip : filter (reaches (suc h)) (h ∷ r) ≡ filter (reaches (suc h)) r = rw (lt-ltb h (suc h) (omega arith)) refl in
-      let bound : h + 1 ≡ suc h = omega arith in
-      ap (λ (b : ℕ). filter (reaches b) xs) bound
-      ∙ (sym (narrower from (suc h) xs (omega arith))
-      ∙ (ap (filter (reaches (suc h))) (e ∙ sym f)
-      ∙ (skip ∙ (all_reach (suc h) r c.0 ∙ sym (one_more n xs h r (sym f)).1))))
 
 -- Once the first of what is left of a strictly rising list is taken, the rest is left.
 pub rest_left : (from h : ℕ) (r xs : List ℕ) → Climbs xs → filter (reaches from) xs ≡ h ∷ r → filter (reaches (h + 1)) xs ≡ r

@@ -1,14 +1,10 @@
 -- Loops that write a stretch of a list.
-use Rattle.std.proofs.Common.{◌≡◌, ℕ, ◌+◌, ◌<◌, ◌≤◌, ◌⊎◌, inl, inr, List, length, get_or, set, refl, ◌∙◌, ap, subst, arith}
+use Rattle.std.proofs.Common.{◌≡◌, ℕ, ◌+◌, ◌<◌, ◌≤◌, ◌⊎◌, inl, inr, List, length, get_or, set, ◌∙◌, ap, subst, arith}
 use Rattle.std.proofs.lemmas.Bool.{cases_lt}
 use Rattle.std.proofs.lemmas.List.{length-set, get_or-set_same, get_or-set_other, get_or_default}
 use Rattle.abuf_peel.specs.Rewrites.{Rewrites}
 
 module _ {A : Type 0} (f : ℕ → A → A) where
-  -- Nothing is written of an empty stretch.
-  pub rewrites_none : (low : ℕ) (xs : List A) → Rewrites f low low xs xs
-  rewrites_none low xs = record { size = refl; inside = λ j d h l. absurd (omega arith); below = λ j d h. refl; above = λ j d h. refl }
-
   -- A stretch and the one next to it make one.
   pub rewrites_more : (a b c : ℕ) (xs ys zs : List A) → a ≤ b → b ≤ c → Rewrites f a b xs ys → Rewrites f b c ys zs → Rewrites f a c xs zs
   rewrites_more a b c xs ys zs h l p q = record {

@@ -27,10 +27,9 @@ pub record Keep (offsets : List (ℤ × ℤ)) (triangles : List Triangle) (r : R
   pub known : All (λ n. n < length triangles) members
   pub each : (s : Sample) → IsSampleIn r offsets s → covering_among offsets triangles s members ≡ covering_among offsets triangles s among
 
--- One more number is put last, unless its primitive covers no sample of the region.
-abbrev pub KeepOne : List (ℤ × ℤ) → List Triangle → Region → ℕ → List ℕ → List ℕ → Type 0
-KeepOne offsets triangles r n old new =
-    (s : Sample) → IsSampleIn r offsets s → covering_among offsets triangles s new ≡ covering_among offsets triangles s (old ++ n ∷ [])
+-- So it is once one more is chosen among, whatever was before.
+abbrev pub KeepsOne : List (ℤ × ℤ) → List Triangle → Region → ℕ → List ℕ → List ℕ → Type 0
+KeepsOne offsets triangles r n old new = (among : List ℕ) → Keep offsets triangles r among old → Keep offsets triangles r (among ++ n ∷ []) new
 
 -- Of the primitives with these numbers, the words that the sample at an index still takes.
 abbrev pub left_at : Region → Pattern → List Triangle → List ℕ → ℕ → List ℕ → List ℕ

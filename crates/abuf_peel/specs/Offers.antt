@@ -1,12 +1,13 @@
 -- Primitives offered to the samples of a region.
-use Rattle.std.specs.Prelude.{◌≡◌, ℕ, zero, suc, ◌/◌, ◌%◌, ◌^◌, ◌<◌, min, max, Bool, true, false, ◌&&◌, ◌==◌, nat_lt, if◌then◌else◌, ℤ, List, [], ◌∷◌, length, slice_index_or}
-use Rattle.std.specs.List.{count_by, list_any}
+use Rattle.std.specs.Prelude.{◌≡◌, ℕ, zero, suc, ◌/◌, ◌%◌, ◌^◌, ◌<◌, min, max, Bool, false, ◌&&◌, ◌==◌, nat_lt, if◌then◌else◌, ℤ, List, [], ◌∷◌, ◌++◌, length, slice_index_or}
+use Rattle.std.specs.List.{count_by}
 use Rattle.std.specs.Int.{bit_at}
 use Rattle.abuf_raster.specs.declared.region.Hit.{Hit}
 use Rattle.abuf_raster.specs.declared.pattern.Pattern.{Pattern}
 use Rattle.abuf_raster.specs.Triangle.{Triangle}
 use Rattle.abuf_raster.specs.Coverage.{covers, mask}
 use Rattle.abuf_raster.specs.Depth.{depth_key}
+use Rattle.abuf_raster.specs.Hits.{IsHitIn}
 use Rattle.abuf_raster.specs.Region.{Region, place_of}
 use Rattle.abuf_raster.specs.Samples.{offsets_of}
 use Rattle.abuf_resolve.specs.Colour.{numbers}
@@ -46,10 +47,6 @@ word_at t n r pattern j = word_of t n (offsets_of pattern) (sample_at r (size_of
 unfoldable pub is_covered : Triangle → List (ℤ × ℤ) → Sample → Bool
 is_covered t offsets s = covers t offsets s.x s.y s.k
 
--- The same at an index.
-abbrev pub is_covered_at : Triangle → Region → Pattern → ℕ → Bool
-is_covered_at t r pattern j = is_covered t (offsets_of pattern) (sample_at r (size_of pattern) j)
-
 -- The hit has sample k.
 abbrev pub has_sample : Hit → ℕ → Bool
 has_sample h k = bit_at h.fragment.mask k == 1
@@ -62,40 +59,36 @@ word_in t n pattern h k = word_of t n (offsets_of pattern) (record { x = h.x; y 
 unfoldable pub has_at : Region → ℕ → ℕ → Hit → Bool
 has_at r size j h = (place_of r h.x h.y == j / size) && has_sample h (j % size)
 
--- Its mask is that of the triangle.
-abbrev pub HasMask : Triangle → List (ℤ × ℤ) → Hit → Type 0
-HasMask t offsets h = h.fragment.mask ≡ mask t offsets h.x h.y
+-- It lies in the region, and has the mask of the triangle.
+pub record IsHitOf (t : Triangle) (r : Region) (offsets : List (ℤ × ℤ)) (h : Hit) : Type 0 where
+  pub within : IsHitIn r h
+  pub mask : h.fragment.mask ≡ mask t offsets h.x h.y
 
--- The answer tells whether a number below `count` passes the test.
-pub record Tells (test : ℕ → Bool) (count : ℕ) (answer : Bool) : Type 0 where
-  pub none : answer ≡ false → (j : ℕ) → j < count → test j ≡ false
-  pub some : answer ≡ true → (j : ℕ) × (j < count) × (test j ≡ true)
+-- A sample that was offered a word: it is the word of a primitive, and counts from `from` on unless nothing is left.
+abbrev pub IsTold : ℕ → ℕ → Bool → Type 0
+IsTold from word left = (word < 2 ^ 48) × (left ≡ false → reaches from word ≡ false)
 
--- The sample has something left of what is offered: it is covered, and the word isn't below `from`.
-abbrev pub is_left : Bool → ℕ → ℕ → Bool
-is_left covered from word = covered && reaches from word
-
--- Primitive number n was offered so many times to each sample, to those that pass the test at least once, and `left` tells
--- whether one of them still takes it.
-pub record Offers (t : Triangle) (n : ℕ) (r : Region) (pattern : Pattern) (from : List ℕ) (times : ℕ → ℕ) (covered : ℕ → Bool) (old new : List (List ℕ)) (left : Bool) : Type 0 where
+-- Primitive number n was offered to the samples of these hits, in any order.
+pub record OffersHits (t : Triangle) (n : ℕ) (r : Region) (pattern : Pattern) (from : List ℕ) (hits : List Hit) (old new : List (List ℕ)) (left : Bool) : Type 0 where
   pub size : length new ≡ length old
   pub each : (j : ℕ) → j < count_of r pattern
-      → slice_index_or new j [] ≡ offered_times (times j) (slice_index_or from j 0) (word_at t n r pattern j) (slice_index_or old j [])
-  pub fits : (j : ℕ) → j < count_of r pattern → covered j ≡ true → word_at t n r pattern j < 2 ^ 48
-  pub tells : Tells (λ j. is_left (covered j) (slice_index_or from j 0) (word_at t n r pattern j)) (count_of r pattern) left
+      → slice_index_or new j [] ≡ offered_times (count_by (has_at r (size_of pattern) j) hits) (slice_index_or from j 0) (word_at t n r pattern j) (slice_index_or old j [])
+  pub told : (j : ℕ) → j < count_of r pattern → 0 < count_by (has_at r (size_of pattern) j) hits → IsTold (slice_index_or from j 0) (word_at t n r pattern j) left
 
--- It was offered to the samples of these hits, in any order;
-abbrev pub OffersHits : Triangle → ℕ → Region → Pattern → List ℕ → List Hit → List (List ℕ) → List (List ℕ) → Bool → Type 0
-OffersHits t n r pattern from hits old new left =
-    Offers t n r pattern from (λ j. count_by (has_at r (size_of pattern) j) hits) (λ j. list_any (has_at r (size_of pattern) j) hits) old new left
-
--- and once to each sample that it covers.
-abbrev pub OffersAll : Triangle → ℕ → Region → Pattern → List ℕ → List (List ℕ) → List (List ℕ) → Bool → Type 0
-OffersAll t n r pattern from old new left =
-    Offers t n r pattern from (λ j. if is_covered_at t r pattern j then 1 else 0) (is_covered_at t r pattern) old new left
-
--- The words are those of the next 16 primitives of all samples.
-pub record AreNext (triangles : List Triangle) (r : Region) (pattern : Pattern) (from : List ℕ) (best : List (List ℕ)) : Type 0 where
+-- The words are those of the next 16 of some primitives, for all samples;
+pub record AreNextAmong (triangles : List Triangle) (r : Region) (pattern : Pattern) (from ns : List ℕ) (best : List (List ℕ)) : Type 0 where
   pub size : length best ≡ count_of r pattern
-  pub each : (j : ℕ) → j < count_of r pattern
-      → FindsLowest (length triangles) (left_at r pattern triangles from j (numbers triangles)) (slice_index_or best j [])
+  pub each : (j : ℕ) → j < count_of r pattern → FindsLowest (length triangles) (left_at r pattern triangles from j ns) (slice_index_or best j [])
+
+-- and of all primitives.
+abbrev pub AreNext : List Triangle → Region → Pattern → List ℕ → List (List ℕ) → Type 0
+AreNext triangles r pattern from best = AreNextAmong triangles r pattern from (numbers triangles) best
+
+-- Where as much is left of some primitives as of these and number n, n may be dropped.
+abbrev pub IsDone : List Triangle → Region → Pattern → List ℕ → ℕ → Type 0
+IsDone triangles r pattern from n = (ns : List ℕ) (j : ℕ) → j < count_of r pattern → left_at r pattern triangles from j ns ≡ left_at r pattern triangles from j (ns ++ n ∷ [])
+
+-- Primitive number n is offered to all samples: the words are those of the next ones among it too. It may be dropped unless something is left.
+pub record OffersNext (triangles : List Triangle) (n : ℕ) (r : Region) (pattern : Pattern) (from : List ℕ) (old new : List (List ℕ)) (left : Bool) : Type 0 where
+  pub next : (ns : List ℕ) → AreNextAmong triangles r pattern from ns old → AreNextAmong triangles r pattern from (ns ++ n ∷ []) new
+  pub done : left ≡ false → IsDone triangles r pattern from n

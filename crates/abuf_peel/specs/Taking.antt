@@ -1,5 +1,6 @@
 -- What a step finds, as it is kept in words of 64 bits.
 use Rattle.std.specs.Prelude.{◌≡◌, ℕ, zero, suc, ◌+◌, ◌^◌, ◌-◌, ◌<◌, ◌⊎◌, ◌==◌, if◌then◌else◌, nat_lt, List, [], ◌∷◌, length, slice_index_or, Option, Some, None}
+use Rattle.std.specs.List.{fold}
 use Rattle.abuf_num.specs.declared.plain.Paint.{Paint}
 use Rattle.abuf_resolve.specs.Order.{in_order}
 use Rattle.abuf_resolve.specs.Over.{laid_over}
@@ -48,10 +49,8 @@ painted paints best under = if best == no_word then under else laid_over under (
 
 -- The same, once the primitives of several words are taken one after another;
 abbrev pub marked_by : List ℕ → ℕ → ℕ
-marked_by [] from = from
-marked_by (word ∷ words) from = marked_by words (marked word from)
+marked_by words from = fold (λ mark word. marked word mark) from words
 
 -- and the colour.
 abbrev pub painted_by : List Paint → List ℕ → List ℕ → List ℕ
-painted_by paints [] under = under
-painted_by paints (word ∷ words) under = painted_by paints words (painted paints word under)
+painted_by paints words under = fold (λ colour word. painted paints word colour) under words

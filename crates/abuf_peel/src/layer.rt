@@ -48,18 +48,6 @@ impl Layer {
         ensures value { IfOk result (λ l. l ≡ started region pattern background) }
         ensures layers { IfOk result (StandsForNone background) }
     {
-        Layer::untouched(alloc, region, pattern, background)
-    }
-
-    /// The same, as it is seen.
-    fn untouched(
-        alloc: Global,
-        region: Region,
-        pattern: Pattern,
-        background: [u16; 3],
-    ) -> Result<Layer, NoMemory>
-        ensures { IfOk result (λ l. l ≡ started region pattern background) }
-    {
         let count = region.pixels() as usize * pattern.size() as usize;
         let from = vec![in alloc; 0; count]?;
         let best = vec![in alloc; no_words(); count]?;

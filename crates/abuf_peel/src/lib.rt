@@ -16,7 +16,6 @@ mod offering;
 mod peeling;
 mod rows;
 mod scene;
-mod shares;
 mod sums;
 mod taking;
 

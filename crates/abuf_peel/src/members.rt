@@ -1,33 +1,19 @@
 // Which primitives are offered to a row: only those whose box meets it.
-ghost use Rattle.std.specs.Prelude.{◌≡◌, ◌<◌, ◌≤◌, length, IfOk};
-ghost use Rattle.std.specs.List.{range_with_len, All};
-ghost use Rattle.abuf_num.specs.declared.limits.TheConstants.{MAX_PRIMITIVES};
+ghost use Rattle.std.specs.Prelude.{◌<◌, length, IfOk};
+ghost use Rattle.std.specs.List.{All};
 ghost use Rattle.abuf_raster.specs.Samples.{offsets_of};
-ghost use Rattle.abuf_peel.specs.Members.{Keep, KeepOne};
+ghost use Rattle.abuf_peel.specs.Members.{HaveAll, Keep, KeepsOne};
 
 use crate::scene::Scene;
 use abuf_num::NoMemory;
 use abuf_raster::{Region, meets};
 use std::alloc::Global;
 
-/// The numbers from 0 to before `count`.
-pub(crate) fn numbers(alloc: Global, count: usize) -> Result<Vec<u32>, NoMemory>
-    requires { count ≤ MAX_PRIMITIVES }
-    ensures { IfOk result (λ all. all.items ≡ range_with_len 0 count) }
-{
-    let mut all = Vec::with_capacity(alloc, count)?;
-    for n in 0..count {
-        all.push(n as u32)?;
-    }
-    Ok(all)
-}
-
 impl<'a, 'b> Scene<'a, 'b> {
     /// Puts the primitive of this number last, where its box meets the region.
     fn keep_one(&self, members: &mut Vec<u32>, n: u32, region: Region) -> Result<(), NoMemory>
-        requires known { n < length self.now.tris.now }
-        ensures known { All (λ m. m < length self.now.tris.now) members.old.items → All (λ m. m < length self.now.tris.now) members.new.items }
-        ensures kept { IfOk result (λ _. KeepOne (offsets_of self.now.pattern) self.now.tris.now region n members.old.items members.new.items) }
+        requires { n < length self.now.tris.now }
+        ensures { IfOk result (λ _. KeepsOne (offsets_of self.now.pattern) self.now.tris.now region n members.old.items members.new.items) }
     {
         if meets(&self.tris[n as usize], region, self.pattern) {
             members.push(n)?;
@@ -50,5 +36,16 @@ impl<'a, 'b> Scene<'a, 'b> {
             self.keep_one(members, *n, region)?;
         }
         Ok(())
+    }
+
+    /// The numbers of all primitives whose box meets the region, in order.
+    pub(crate) fn keep_all(&self, alloc: Global, region: Region) -> Result<Vec<u32>, NoMemory>
+        ensures { IfOk result (λ members. HaveAll (offsets_of self.now.pattern) self.now.tris.now region members.items) }
+    {
+        let mut members = Vec::new(alloc);
+        for n in 0..self.tris.len() {
+            self.keep_one(&mut members, n as u32, region)?;
+        }
+        Ok(members)
     }
 }

@@ -1,34 +1,24 @@
-// The rows of one worker, peeled until nothing is left.
-ghost use Rattle.std.specs.Prelude.{◌≡◌, ◌+◌, ◌-◌, ◌*◌, ◌/◌, ◌%◌, ◌<◌, ◌≤◌, length, IfOk};
-ghost use Rattle.std.specs.List.{range_with_len};
-ghost use Rattle.abuf_num.specs.declared.limits.TheConstants.{MAX_SIDE};
+// The rows of an image, peeled until nothing is left.
+ghost use Rattle.std.specs.Prelude.{◌≡◌, ◌+◌, ◌-◌, ◌*◌, ◌<◌, ◌≤◌, IfOk};
 ghost use Rattle.abuf_raster.specs.Samples.{offsets_of};
 ghost use Rattle.abuf_peel.specs.Layers.{AreWhole, StandsFor};
 ghost use Rattle.abuf_peel.specs.Members.{HaveAll};
-ghost use Rattle.abuf_peel.specs.Rows.{AreRows, AreSmall, HaveAllIn, HaveBlock, block_at, row_at, row_of, row_sums, row_count};
+ghost use Rattle.abuf_peel.specs.Rows.{AreSums, HaveAllIn, block_count, block_rows, rows_of};
 
 use crate::layer::Layer;
-use crate::members::numbers;
 use crate::scene::Scene;
-use crate::shares::Share;
 use abuf_num::{List, NoMemory, PixelSum};
 use abuf_raster::{Region, region_law};
 use std::alloc::Global;
 
-/// How many of so many rows a worker has: row after row in turn, since what is drawn often lies in the middle of the image.
-fn row_count(height: u32, share: Share) -> u32
-    requires { height ≤ MAX_SIDE }
-    ensures { result ≡ row_count height share.threads share.worker }
+/// The rows of a block, of those of an image of this height.
+fn block_rows(height: u32, n: u32) -> u32
+    requires { n < block_count height }
+    ensures value { result ≡ block_rows height n }
+    ensures some { 1 ≤ result }
+    ensures within { 4 * n + result ≤ height }
 {
-    (height + share.threads - 1 - share.worker) / share.threads
-}
-
-/// The worker's row with this number.
-fn row_at(share: Share, i: u32) -> u32
-    requires { i < MAX_SIDE }
-    ensures { result ≡ row_at share.threads share.worker i }
-{
-    i * share.threads + share.worker
+    (height - 4 * n).min(4)
 }
 
 impl<'a, 'b> Scene<'a, 'b> {
@@ -49,6 +39,15 @@ impl<'a, 'b> Scene<'a, 'b> {
         }
     }
 
+    /// So many rows of pixels, from row y on.
+    fn rows_of(&self, y: u32, count: u32) -> Region
+        requires some { 1 ≤ count }
+        requires within { y + count ≤ self.now.height }
+        ensures { result ≡ rows_of self.now y count }
+    {
+        Region::new(0, y, self.width, count)
+    }
+
     /// The sums of one row of pixels, from the primitives that cover one of its samples. Drops members that
     /// are done with.
     fn row_sums(
@@ -58,69 +57,31 @@ impl<'a, 'b> Scene<'a, 'b> {
         y: u32,
     ) -> Result<List<PixelSum>, NoMemory>
         requires y { y < self.now.height }
-        requires members { HaveAllIn self.now (row_of self.now.width y) members.old.items }
-        ensures value { IfOk result (λ sums. sums ≡ row_sums self.now y) }
-        ensures small { IfOk result (λ sums. AreSmall self.now sums) }
+        requires members { HaveAllIn self.now (rows_of self.now y 1) members.old.items }
+        ensures { IfOk result (AreSums self.now y 1) }
     {
-        let row = self.row_of(y);
+        let row = self.rows_of(y, 1);
         let mut layer = Layer::start(alloc, row, self.pattern, self.background)?;
         self.exhaust(&mut layer, members);
         let sums = layer.sums(alloc)?;
         Ok(sums)
     }
 
-    /// One row of pixels.
-    fn row_of(&self, y: u32) -> Region
-        requires { y < self.now.height }
-        ensures { result ≡ row_of self.now.width y }
+    /// The sums of a block's rows. The primitives that cover a sample of the block are found once, and each row's are among them.
+    pub(crate) fn block_sums(&self, alloc: Global, n: u32) -> Result<List<PixelSum>, NoMemory>
+        requires { n < block_count self.now.height }
+        ensures { IfOk result (AreSums self.now (4 * n) (block_rows self.now.height n)) }
     {
-        Region::new(0, y, self.width, 1)
-    }
-
-    /// The rows from one of a worker's down to its 16th from there on.
-    fn block_at(&self, share: Share, y: u32) -> Region
-        requires { y < self.now.height }
-        ensures { result ≡ block_at self.now.width self.now.height share.threads y }
-    {
-        let rows = (15 * share.threads + 1).min(self.height - y);
-        Region::new(0, y, self.width, rows)
-    }
-
-    /// Finds the primitives that cover a sample of a worker's 16 rows from this one on, where it is the first of 16; else they are
-    /// there. So not every primitive is asked for each row.
-    fn hold_block(
-        &self,
-        block: &mut Vec<u32>,
-        all: &[u32],
-        share: Share,
-        i: u32,
-    ) -> Result<(), NoMemory>
-        requires i { i < MAX_SIDE }
-        requires row { row_at share.threads share.worker i < self.now.height }
-        requires all { all.now ≡ range_with_len 0 (length self.now.tris.now) }
-        requires held { 0 < i % 16 → HaveBlock self.now share.threads share.worker i block.old.items }
-        ensures { IfOk result (λ _. HaveBlock self.now share.threads share.worker i block.new.items) }
-    {
-        if i % 16 == 0 {
-            self.keep(block, all, self.block_at(share, row_at(share, i)))?;
-        }
-        Ok(())
-    }
-
-    /// The sums of a worker's rows.
-    pub(crate) fn rows(&self, alloc: Global, share: Share) -> Result<List<List<PixelSum>>, NoMemory>
-        ensures { IfOk result (λ rows. AreRows self.now share.threads share.worker (row_count self.now.height share.threads share.worker) rows) }
-    {
-        let all = numbers(alloc, self.tris.len())?;
-        let mut block = Vec::new(alloc);
+        let rows = block_rows(self.height, n);
+        let block = self.keep_all(alloc, self.rows_of(4 * n, rows))?;
         let mut members = Vec::new(alloc);
-        let mut rows = List::new(alloc);
-        for i in 0..row_count(self.height, share) {
-            let y = row_at(share, i);
-            self.hold_block(&mut block, &all, share, i)?;
-            self.keep(&mut members, &block, self.row_of(y))?;
-            rows.push(self.row_sums(alloc, &mut members, y)?)?;
+        let mut sums = Vec::with_capacity(alloc, (self.width * rows) as usize)?;
+        for i in 0..rows {
+            let y = 4 * n + i;
+            self.keep(&mut members, &block, self.rows_of(y, 1))?;
+            let row = self.row_sums(alloc, &mut members, y)?;
+            sums.extend_from_slice(row.as_slice())?;
         }
-        Ok(rows)
+        Ok(List::from_vec(sums))
     }
 }

@@ -4,7 +4,7 @@ ghost use Rattle.abuf_resolve.specs.Words.{prim_of};
 ghost use Rattle.abuf_peel.specs.Layers.{NoneLeft, TakesTimes, SomeLeft, count_of};
 ghost use Rattle.abuf_peel.specs.Members.{HaveLeft};
 ghost use Rattle.abuf_peel.specs.Taking.{AreKnown, marked, marked_by, no_word, painted, painted_by};
-ghost use Rattle.abuf_peel.specs.Rewrites.{Rewrites};
+ghost use Rattle.abuf_peel.specs.Offers.{AreNext};
 ghost use Rattle.abuf_peel.specs.Seen.{seen_of};
 
 use crate::offering::{NO_WORD, Samples};
@@ -57,41 +57,35 @@ fn painted_by(paints: &[Paint], words: &[u64; 16], count: usize, under: [u16; 3]
     colour
 }
 
-/// Every sample lays the paints of the primitives of its first `count` words over its colour, one after another.
-pub(crate) fn take_colours(
-    paints: &[Paint],
-    best: &[[u64; 16]],
-    count: usize,
-    colours: &mut [[u16; 3]],
-)
-    requires count { count ≤ 16 }
-    requires size { length best.now ≡ length colours.old }
-    requires known { (j : ℕ) → j < length best.now → AreKnown (length paints.now) (slice_index_or best.now j []) }
-    ensures { Rewrites (λ j under. painted_by paints.now (take count (slice_index_or best.now j [])) under) 0 (length colours.old) colours.old colours.new }
-{
-    for i in 0..best.len() {
-        colours[i] = painted_by(paints, &best[i], count, colours[i]);
-    }
-}
-
-/// Every sample marks the primitives of its first `count` words as taken. True exactly where some sample has so many.
-pub(crate) fn take_words(best: &[[u64; 16]], count: usize, from: &mut [u64]) -> bool
-    requires some { 1 ≤ count }
-    requires count { count ≤ 16 }
-    requires size { length best.now ≡ length from.old }
-    ensures each { Rewrites (λ j from. marked_by (take count (slice_index_or best.now j [])) from) 0 (length from.old) from.old from.new }
-    ensures none { result ≡ false → (j : ℕ) → j < length best.now → slice_index_or (slice_index_or best.now j []) (count - 1) 0 ≡ no_word }
-    ensures some { result ≡ true → (j : ℕ) × (j < length best.now) × (slice_index_or (slice_index_or best.now j []) (count - 1) 0 < no_word) }
-{
-    let mut any = false;
-    for i in 0..best.len() {
-        from[i] = marked_by(&best[i], count, from[i]);
-        any |= best[i][count - 1] != NO_WORD;
-    }
-    any
-}
-
 impl Samples {
+    /// Every sample takes the primitives of its first `count` words, one after another. True exactly where some sample has so many.
+    fn take(
+        &self,
+        drawn: &Primitives,
+        count: usize,
+        best: &[[u64; 16]],
+        from: &mut [u64],
+        colours: &mut [[u16; 3]],
+    ) -> bool
+        requires some { 1 ≤ count }
+        requires count { count ≤ 16 }
+        requires next { AreNext drawn.now.tris.now self.now.region self.now.pattern from.old best.now }
+        requires from { length from.old ≡ count_of self.now.region self.now.pattern }
+        requires colours { length colours.old ≡ count_of self.now.region self.now.pattern }
+        ensures sizes { (length from.new ≡ length from.old) × (length colours.new ≡ length colours.old) }
+        ensures takes { TakesTimes drawn.now.tris.now drawn.now.paints.now count (seen_of self.now from.old colours.old) (seen_of self.now from.new colours.new) }
+        ensures none { result ≡ false → (j : ℕ) → j < length best.now → slice_index_or (slice_index_or best.now j []) (count - 1) 0 ≡ no_word }
+        ensures some { result ≡ true → (j : ℕ) × (j < length best.now) × (slice_index_or (slice_index_or best.now j []) (count - 1) 0 < no_word) }
+    {
+        let mut any = false;
+        for i in 0..best.len() {
+            from[i] = marked_by(&best[i], count, from[i]);
+            colours[i] = painted_by(drawn.paints, &best[i], count, colours[i]);
+            any |= best[i][count - 1] != NO_WORD;
+        }
+        any
+    }
+
     /// Every sample takes its next primitive. True exactly where some sample took one.
     pub(crate) fn take_next(
         &self,
@@ -109,8 +103,7 @@ impl Samples {
         ensures some { result ≡ true → SomeLeft drawn.now.tris.now (seen_of self.now from.old colours.old) }
     {
         self.offer_all(drawn.tris, from, best);
-        take_colours(drawn.paints, best, 1, colours);
-        take_words(best, 1, from)
+        self.take(drawn, 1, best, from, colours)
     }
 
     /// Every sample takes its next 16 primitives, or all that it has left. The members are all primitives that a sample still takes;
@@ -134,7 +127,6 @@ impl Samples {
     {
         let kept = self.offer_members(drawn.tris, members, from, best);
         members.truncate(kept);
-        take_colours(drawn.paints, best, 16, colours);
-        take_words(best, 16, from)
+        self.take(drawn, 16, best, from, colours)
     }
 }

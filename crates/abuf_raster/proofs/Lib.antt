@@ -18,7 +18,6 @@ pub mod Turned
 pub mod Outside
 pub mod Counts
 pub mod Ends
-pub mod Estimates
 pub mod Spread
 pub mod Planes
 pub mod Keys

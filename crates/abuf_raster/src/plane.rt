@@ -13,11 +13,10 @@ use crate::coverage::sample_place;
 use crate::depth::{depth_at, depth_bounds};
 use crate::pattern::Pattern;
 use crate::point::Point;
-use crate::reciprocal::Reciprocal;
 use crate::triangle::ScreenTri;
 use crate::width::Width;
-use abuf_num::difference;
 use abuf_num::limits::MAX_DEPTH;
+use abuf_num::{Reciprocal, difference};
 use std::marker::Model;
 use std::snapshot::Snapshot;
 

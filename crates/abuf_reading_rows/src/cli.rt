@@ -1,5 +1,5 @@
 // Words that are read, and what they ask for.
-use abuf_cli::{Job, Opt, Storage, What, WordFault, read_words};
+use abuf_cli::{Command, Job, Opt, Storage, What, WordFault, read_words};
 use std::alloc::Global;
 use std::test::Fail;
 
@@ -83,13 +83,13 @@ fn word_of(alloc: Global, text: &str) -> Result<String, Fail> {
     Ok(word)
 }
 
-// What a job makes.
-fn made_by(alloc: Global, what: &What) -> Result<String, Fail> {
-    Ok(match what {
-        What::Render => format!(in alloc; "render")?,
-        What::Pick { x, y } => format!(in alloc; "pick {x},{y}")?,
-        What::Demo { number } => format!(in alloc; "demo {number}")?,
-        What::Sequence { name } => {
+// What a job does.
+fn done_by(alloc: Global, command: &Command) -> Result<String, Fail> {
+    Ok(match command {
+        Command::Draw(What::Render) => format!(in alloc; "render")?,
+        Command::Draw(What::Pick { x, y }) => format!(in alloc; "pick {x},{y}")?,
+        Command::Draw(What::Demo { number }) => format!(in alloc; "demo {number}")?,
+        Command::Sequence { name } => {
             let mut text = format!(in alloc; "sequence ")?;
             text.push_str(str::from_utf8(name.as_slice()).unwrap_or("?"))?;
             text
@@ -108,14 +108,14 @@ fn storage_of(alloc: Global, job: &Job) -> Result<String, Fail> {
 
 // The job as it stands in the table, but for where its camera stands and looks.
 fn shown(alloc: Global, job: &Job) -> Result<String, Fail> {
-    let what = made_by(alloc, job.what())?;
+    let command = done_by(alloc, job.command())?;
     let (width, height) = (job.camera().width(), job.camera().height());
     let samples = job.pattern().size();
     let (threads, nodes, maxval) = (job.threads(), job.nodes(), job.maxval());
     let [r, g, b] = job.background();
     let stored = storage_of(alloc, job)?;
     Ok(format!(in alloc;
-        "{what} | {width}x{height} | {samples} | {threads} | {nodes} | {r},{g},{b} | {maxval} | {stored}"
+        "{command} | {width}x{height} | {samples} | {threads} | {nodes} | {r},{g},{b} | {maxval} | {stored}"
     )?)
 }
 
@@ -132,10 +132,10 @@ fn what_each_line_asks_for(rt: HostRuntime) -> Result<(), Fail> {
     Ok(())
 }
 
-fn is_sequence(what: &What, path: &[u8]) -> bool {
-    match what {
-        What::Sequence { name } => name.as_slice() == path,
-        _ => false,
+fn is_sequence(command: &Command, path: &[u8]) -> bool {
+    match command {
+        Command::Sequence { name } => name.as_slice() == path,
+        Command::Draw(_) => false,
     }
 }
 
@@ -146,12 +146,13 @@ fn answers_where_memory_runs_out(rt: HostRuntime) {
     let words = ["pick", "--size", "4x4", "--background=1,1,1", "--", "2,1"];
     match read(alloc, &words) {
         Ok(job) => assert!(rt;
-            matches!(job.what(), What::Pick { x: 2, y: 1 }) && job.background() == [65535; 3]
+            matches!(job.command(), Command::Draw(What::Pick { x: 2, y: 1 }))
+                && job.background() == [65535; 3]
         ),
         Err(fault) => assert!(rt; fault == WordFault::Memory),
     }
     match read(alloc, &["sequence", "path.txt"]) {
-        Ok(job) => assert!(rt; is_sequence(job.what(), b"path.txt")),
+        Ok(job) => assert!(rt; is_sequence(job.command(), b"path.txt")),
         Err(fault) => assert!(rt; fault == WordFault::Memory),
     }
     let named = WordFault::Value { option: Opt::Near };

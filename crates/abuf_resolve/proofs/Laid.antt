@@ -5,6 +5,7 @@ use Rattle.std.specs.List.Sorted.{IsNonDecreasing}
 use Rattle.std.proofs.lemmas.List.{length-map}
 use Rattle.std.proofs.lemmas.List.Sorted.{IsNonDecreasingBy-short, IsPermutation-refl}
 use Rattle.std.proofs.lemmas.List.Elements.{All-head, All-tail, All-filter}
+use Rattle.abuf_num.specs.declared.limits.TheConstants.{MAX_PRIMITIVES}
 use Rattle.abuf_num.specs.declared.plain.Paint.{Paint}
 use Rattle.abuf_raster.specs.Triangle.{Triangle}
 use Rattle.abuf_raster.specs.Packing.{unpacked}
@@ -30,7 +31,7 @@ shared_fold paints j k u (w ∷ words) all =
 pub ordered_is : (xs : List ℕ) → IsNonDecreasing xs → in_order nat_lt xs ≡ xs
 ordered_is xs h = sym (sorted_is xs xs (IsPermutation-refl xs) h)
 
-module _ (os : List (ℤ × ℤ)) (tris : List Triangle) (few : length tris ≤ 2 ^ 24) (x y k : ℕ) (paints : List Paint) where
+module _ (os : List (ℤ × ℤ)) (tris : List Triangle) (few : length tris ≤ MAX_PRIMITIVES) (x y k : ℕ) (paints : List Paint) where
   -- What is laid over by a pixel's words is laid over by their words in the sample.
   laid_is : (u words : List ℕ) → All (IsFragmentAt os tris x y) words → fold (with_fragment paints k) u words ≡ folded u paints (sample_words os tris x y k words)
   laid_is u [] all = refl
@@ -75,7 +76,7 @@ apart_ascend os tris x y k words l =
     IsNonDecreasingBy-short (λ x. x) (sample_words os tris x y k words) (omega (arith, l, length-map (filter (has_sample k) words) (sample_word os tris x y k)))
 
 -- The sums of words that stand in the order of each sample.
-pub sums_in_order : (os : List (ℤ × ℤ)) (tris : List Triangle) → length tris ≤ 2 ^ 24 → (x y : ℕ) (paints : List Paint) (u words : List ℕ) → All (IsFragmentAt os tris x y) words
+pub sums_in_order : (os : List (ℤ × ℤ)) (tris : List Triangle) → length tris ≤ MAX_PRIMITIVES → (x y : ℕ) (paints : List Paint) (u words : List ℕ) → All (IsFragmentAt os tris x y) words
     → ((k : ℕ) → k < length os → IsNonDecreasing (sample_words os tris x y k words))
     → summed (λ k. fold (with_fragment paints k) u words) (length os) ≡ pixel_sum os u tris paints x y words
 sums_in_order os tris few x y paints u words all ascend =

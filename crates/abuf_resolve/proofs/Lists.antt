@@ -20,7 +20,7 @@ use Rattle.abuf_resolve.specs.Words.{folded, has_sample, paint_of, prim_of, laye
 use Rattle.abuf_raster.proofs.Bits.{bit_covers, none_covered}
 use Rattle.abuf_resolve.proofs.Hits.{all_hits, word_of, word_if, words_are}
 use Rattle.abuf_resolve.proofs.Orders.{Alike, Alike-permutation, Alike-filter, Alike-map, Rises-from_order, in_order_is, in_order_same}
-use Rattle.abuf_resolve.proofs.Words.{Below, Below-range, Below-filter, Below-in_order, map-in_order, words_ordered}
+use Rattle.abuf_resolve.proofs.Words.{Below, Below-range, Below-filter, Below-in_order, map_below, map-in_order, words_ordered}
 
 module _ (tris : List Triangle) (os : List (ℤ × ℤ)) (few : length os ≤ 16) (x y : ℕ) where
   -- the parts of a word
@@ -58,11 +58,6 @@ module _ (tris : List Triangle) (os : List (ℤ × ℤ)) (few : length os ≤ 16
     sample_is : (n : ℕ) → n < 2 ^ 24 → sample_word os tris x y k (word_of (triangle_at tris n) os x y n) ≡ layer_word os tris x y k n
     sample_is n h = ap (layer_word os tris x y k) (prim_is n h)
 
-    -- In the sample they are these primitives' words.
-    samples_are : (ns : List ℕ) → Below (2 ^ 24) ns → map (sample_word os tris x y k) (map (λ n. word_of (triangle_at tris n) os x y n) ns) ≡ map (layer_word os tris x y k) ns
-    samples_are [] b = refl
-    samples_are (n ∷ ns) b = ap₂ ◌∷◌ (sample_is n b.0) (samples_are ns b.1)
-
     -- To lie beneath is to have the lower word.
     agree : (m n : ℕ) → m < 2 ^ 24 → n < 2 ^ 24 → is_beneath os tris x y k m n ≡ nat_lt (layer_word os tris x y k m) (layer_word os tris x y k n)
     agree m n h l = words_ordered (depth_key (triangle_at tris m) os x y k) (depth_key (triangle_at tris n) os x y k) m n h l
@@ -79,29 +74,19 @@ module _ (tris : List Triangle) (os : List (ℤ × ℤ)) (few : length os ≤ 16
     pub all_samples : length tris ≤ 2 ^ 24 → in_order nat_lt (sample_words os tris x y k (flat_map (λ n. word_if (triangle_at tris n) os x y n) (numbers tris))) ≡ map (layer_word os tris x y k) (layers os tris x y k)
     all_samples limit =
         ap (λ (ws : List ℕ). in_order nat_lt (map (sample_word os tris x y k) ws)) (kept_words (numbers tris))
-        ∙ (ap (in_order nat_lt) (samples_are (covering os tris x y k) (below limit))
+        ∙ (ap (in_order nat_lt) (map_below (2 ^ 24) (sample_word os tris x y k) (λ n. word_of (triangle_at tris n) os x y n) (layer_word os tris x y k) sample_is (covering os tris x y k) (below limit))
         ∙ sym (map-in_order (is_beneath os tris x y k) (layer_word os tris x y k) (2 ^ 24) agree (covering os tris x y k) (below limit)))
 
     -- The paint of a primitive's word in the sample is the primitive's.
-    paint_is : (paints : List Paint) (n : ℕ) → n < 2 ^ 24 → paint_of paints (layer_word os tris x y k n) ≡ paint_at paints n
+    pub paint_is : (paints : List Paint) (n : ℕ) → n < 2 ^ 24 → paint_of paints (layer_word os tris x y k n) ≡ paint_at paints n
     paint_is paints n h = let e : prim_of (layer_word os tris x y k n) ≡ n = omega arith in ap (paint_at paints) e
 
-    -- So it is for several.
-    pub paints_are : (paints : List Paint) (ns : List ℕ) → Below (2 ^ 24) ns → map (paint_of paints) (map (layer_word os tris x y k) ns) ≡ map (paint_at paints) ns
-    paints_are paints [] b = refl
-    paints_are paints (n ∷ ns) b = ap₂ ◌∷◌ (paint_is paints n b.0) (paints_are paints ns b.1)
-
     -- What one such word tells.
-    told_is : (n : ℕ) → n < 2 ^ 24 → layer_of (layer_word os tris x y k n) ≡ layer_at os tris x y k n
+    pub told_is : (n : ℕ) → n < 2 ^ 24 → layer_of (layer_word os tris x y k n) ≡ layer_at os tris x y k n
     told_is n h =
         let e : layer_word os tris x y k n % 2 ^ 24 ≡ n = omega arith in
         let f : layer_word os tris x y k n / 2 ^ 24 ≡ depth_key (triangle_at tris n) os x y k = omega arith in
         ap₂ (λ (a b : ℕ). (a, b)) e f
-
-    -- what the words of layers tell
-    pub told_are : (ns : List ℕ) → Below (2 ^ 24) ns → map layer_of (map (layer_word os tris x y k) ns) ≡ map (layer_at os tris x y k) ns
-    told_are [] b = refl
-    told_are (n ∷ ns) b = ap₂ ◌∷◌ (told_is n b.0) (told_are ns b.1)
 
 -- for a list that holds the words of all hits at a place, in any order
 pub layers_are : (os : List (ℤ × ℤ)) (tris : List Triangle) (r : Region) (p k : ℕ) (list : List ℕ)
@@ -126,7 +111,7 @@ list_in_order os background tris paints r p k list few in_pattern limit is insid
     let x : ℕ = r.x0 + p % r.w in
     let y : ℕ = r.y0 + p / r.w in
     ap (folded background paints) (layers_are os tris r p k list few in_pattern limit is inside alike)
-    ∙ ap (layered background) (paints_are tris os few x y k in_pattern paints (layers os tris x y k) (layers_below tris os few x y k in_pattern limit))
+    ∙ ap (layered background) (map_below (2 ^ 24) (paint_of paints) (layer_word os tris x y k) (paint_at paints) (paint_is tris os few x y k in_pattern paints) (layers os tris x y k) (layers_below tris os few x y k in_pattern limit))
 
 -- and for the sorted list
 pub sorted_is : (xs ys : List ℕ) → IsPermutation xs ys → IsNonDecreasing ys → ys ≡ in_order nat_lt xs

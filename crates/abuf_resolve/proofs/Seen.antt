@@ -9,7 +9,7 @@ use Rattle.abuf_raster.specs.Triangle.{Triangle}
 use Rattle.abuf_resolve.specs.Words.{has_sample, hides, reaches, sample_word, sample_words, AreSeen, StillSeen}
 
 -- To keep what reaches one number and then what reaches a greater one is to keep what reaches the greater.
-reaches_greater : (m n : ℕ) (xs : List ℕ) → m ≤ n → filter (reaches n) (filter (reaches m) xs) ≡ filter (reaches n) xs
+pub reaches_greater : (m n : ℕ) (xs : List ℕ) → m ≤ n → filter (reaches n) (filter (reaches m) xs) ≡ filter (reaches n) xs
 reaches_greater m n [] l = refl
 reaches_greater m n (x ∷ xs) l = go (cases_lt x m) (cases_lt x n) (reaches_greater m n xs l) where
   go : (x < m) ⊎ (m ≤ x) → (x < n) ⊎ (n ≤ x) → filter (reaches n) (filter (reaches m) xs) ≡ filter (reaches n) xs → filter (reaches n) (filter (reaches m) (x ∷ xs)) ≡ filter (reaches n) (x ∷ xs)

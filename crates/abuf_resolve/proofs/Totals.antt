@@ -1,8 +1,6 @@
 -- The sums of lists of the hits' words are the sums of the primitives' colours.
-use Rattle.std.proofs.Common.{◌≡◌, ℕ, zero, suc, ◌+◌, ◌*◌, ◌/◌, ◌%◌, ◌^◌, ◌<◌, ◌≤◌, List, [], map, length, ℤ, refl, ap, ap₂, ◌∙◌, sym, arith, get_or, ◌&&◌, ◌∷◌, Bool, true, false, ◌==◌, if◌then◌else◌}
-use Rattle.std.specs.List.{filter, count_by, range_with_len}
-use Rattle.std.proofs.lemmas.List.Sums.{sum_by-cons}
-use Rattle.std.proofs.lemmas.List.Sorted.{sum_by-IsPermutation}
+use Rattle.std.proofs.Common.{◌≡◌, ℕ, zero, suc, ◌+◌, ◌*◌, ◌/◌, ◌%◌, ◌^◌, ◌<◌, ◌≤◌, List, [], map, length, ℤ, refl, ap₂, ◌∙◌, sym, arith, get_or, ◌∷◌, Bool, ◌==◌}
+use Rattle.std.specs.List.{filter, range_with_len}
 use Rattle.std.specs.List.Sorted.{IsPermutation}
 use Rattle.abuf_num.specs.declared.plain.Paint.{Paint}
 use Rattle.abuf_frame.specs.Draws.{payloads_at}
@@ -13,24 +11,14 @@ use Rattle.abuf_resolve.specs.Sums.{plus, summed, sums_at, region_sums}
 use Rattle.abuf_resolve.specs.Words.{sample_of, place_sum, frame_sums, AreListsOf}
 use Rattle.abuf_resolve.proofs.Hits.{all_hits}
 use Rattle.abuf_resolve.proofs.Lists.{list_in_order}
-use Rattle.abuf_resolve.proofs.Orders.{Alike, kept, Alike-permutation}
+use Rattle.abuf_resolve.proofs.Orders.{Alike, Alike-filter, Alike-map, Alike-permutation}
 
--- how many words at a place pass a test, counted in the entries
-kept_at : (q : ℕ → Bool) (es : List (ℕ × ℕ)) (p : ℕ) → kept q (payloads_at p es) ≡ count_by (λ e. (e.0 == p) && q e.1) es
-kept_at q [] p = refl
-kept_at q (e ∷ es) p =
-    elim (e.0 == p) as (λ (v : Bool). kept q (map (λ (d : ℕ × ℕ). d.1) (if v then (e ∷ filter (λ (d : ℕ × ℕ). d.0 == p) es) else (filter (λ (d : ℕ × ℕ). d.0 == p) es))) ≡ (if v && q e.1 then 1 else 0) + count_by (λ d. (d.0 == p) && q d.1) es)
-    [ true ↦ ap (λ (n : ℕ). (if q e.1 then 1 else 0) + n) (kept_at q es p) | false ↦ omega (arith, kept_at q es p) ]
-    ∙ sym (sum_by-cons (λ d. (if (d.0 == p) && q d.1 then 1 else 0)) e es)
-
--- so entries in another order give the same words
+-- Entries in another order give the same words at a place.
 pub Alike-drawn : (hits entries : List (ℕ × ℕ)) (list : List ℕ) (p : ℕ) → IsPermutation entries hits → IsPermutation list (payloads_at p entries) → Alike (payloads_at p hits) list
-Alike-drawn hits entries list p drawn here = record {
-  times = λ q. kept_at q hits p
-      ∙ (sum_by-IsPermutation (λ e. (if (e.0 == p) && q e.1 then 1 else 0)) entries hits drawn
-      ∙ (sym (kept_at q entries p)
-      ∙ sym ((Alike-permutation list (payloads_at p entries) here).times q)));
-}
+Alike-drawn hits entries list p drawn here =
+    let at : ℕ × ℕ → Bool = λ e. e.0 == p in
+    let same = Alike-map (λ (e : ℕ × ℕ). e.1) (filter at entries) (filter at hits) (Alike-filter at entries hits (Alike-permutation entries hits drawn)) in
+    record { times = λ q. sym ((Alike-permutation list (payloads_at p entries) here).times q ∙ same.times q) }
 
 -- sums of equal colours are equal
 pub summed_same : (f g : ℕ → List ℕ) (n : ℕ) → ((k : ℕ) → k < n → f k ≡ g k) → summed f n ≡ summed g n

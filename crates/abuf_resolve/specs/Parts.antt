@@ -1,11 +1,10 @@
 -- What was summed of some pixels.
-use Rattle.std.specs.Prelude.{◌≡◌, ℕ, ◌+◌, ◌-◌, ◌*◌, ◌/◌, ◌%◌, min, List, length, map}
+use Rattle.std.specs.Prelude.{◌≡◌, ℕ, ◌-◌, ◌*◌, ◌/◌, ◌%◌, ◌<◌, min, List, length, map, slice_index_or}
 use Rattle.std.specs.List.{range_with_len, All}
 use Rattle.abuf_raster.specs.Region.{Region}
 use Rattle.abuf_raster.specs.Samples.{offsets_of}
 use Rattle.abuf_resolve.specs.declared.runs.Offset.{Offset}
 use Rattle.abuf_resolve.specs.declared.runs.Resolved.{Resolved}
-use Rattle.abuf_resolve.specs.declared.threads.Run.{Run}
 use Rattle.abuf_resolve.specs.declared.scene.Scene.{Scene}
 use Rattle.abuf_resolve.specs.Scene.{sum_in}
 use Rattle.abuf_resolve.specs.Lengths.{greatest, lengths_at}
@@ -22,10 +21,11 @@ pub record IsPart (scene : Scene) (r : Region) (lists : List (List ℕ)) (places
   pub small : All (IsSmall (length (offsets_of scene.pattern))) part.sums
   pub longest : part.longest ≡ greatest (lengths_at lists places)
 
--- The places of the pixels of run `number`, where each run but the last has `size` pixels.
-abbrev pub run_places : ℕ → ℕ → ℕ → List ℕ
-run_places pixels size number = range_with_len (size * number) (min size (pixels - size * number))
+-- There are pixels for the run with this number, where each run but the last has `size` of them, and it has their sums.
+abbrev pub IsRun : Scene → Region → List (List ℕ) → ℕ → ℕ → Resolved → Type 0
+IsRun scene r lists size number run =
+    (size * number < r.w * r.h) × IsPart scene r lists (range_with_len (size * number) (min size (r.w * r.h - size * number))) run
 
--- A run has the sums of its pixels.
-abbrev pub IsRun : Scene → Region → List (List ℕ) → ℕ → Run → Type 0
-IsRun scene r lists size run = IsPart scene r lists (run_places (r.w * r.h) size run.number) run.resolved
+-- These are the runs from the first on.
+abbrev pub AreRuns : Scene → Region → List (List ℕ) → ℕ → List Resolved → Type 0
+AreRuns scene r lists size runs = (k : ℕ) (d : Resolved) → k < length runs → IsRun scene r lists size k (slice_index_or runs k d)

@@ -6,6 +6,7 @@ ghost use Rattle.abuf_num.specs.Division.{nearest};
 ghost use Rattle.abuf_resolve.specs.Over.{over, laid_over};
 ghost use Rattle.abuf_resolve.specs.Words.{folded, paint_of, hides, IsDepthWord};
 
+use crate::fragments::SampleWord;
 use abuf_num::Paint;
 
 /// The greatest colour, and the greatest alpha.
@@ -85,7 +86,7 @@ fn paint_of(word: u64, paints: &[Paint]) -> Paint
     requires { IsDepthWord (length paints.now) word }
     ensures { result ≡ paint_of paints.now word }
 {
-    paints[(word & 0xffffff) as usize]
+    paints[SampleWord(word).primitive() as usize]
 }
 
 /// That paint lets nothing through.

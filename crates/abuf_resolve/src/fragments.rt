@@ -5,38 +5,76 @@ ghost use Rattle.std.specs.List.Sorted.{IsNonDecreasing};
 ghost use Rattle.abuf_num.specs.declared.limits.TheConstants.{MAX_PRIMITIVES};
 ghost use Rattle.abuf_raster.specs.Packing.{unpacked};
 ghost use Rattle.abuf_raster.specs.Samples.{offsets_of};
+ghost use Rattle.abuf_resolve.specs.Colour.{paint_at};
 ghost use Rattle.abuf_resolve.specs.Order.{in_order};
+ghost use Rattle.abuf_resolve.specs.Over.{laid_over};
 ghost use Rattle.abuf_resolve.specs.Scene.{AreSeenAt, IsFragmentOf, IsStillSeenAt};
-ghost use Rattle.abuf_resolve.specs.Words.{sample_word, sample_words, has_sample, IsDepthWord, IsFragmentAt};
+ghost use Rattle.abuf_resolve.specs.Words.{depth_word, prim_of, sample_word, sample_words, has_sample, IsDepthWord, IsFragmentAt, IsPainted};
 
+use crate::fold::laid_over;
 use crate::order::{push_seen, put_in_order};
 use crate::planes::Planes;
 use crate::scene::{Pixel, Scene};
-use abuf_num::NoMemory;
+use abuf_num::{NoMemory, Paint};
 use abuf_raster::Pattern;
 
-/// The fragment of this word has sample k, below 16.
-pub(crate) fn has_sample(word: u64, k: u32) -> bool
-    requires { k < 16 }
-    ensures { result ≡ has_sample k word }
-{
-    (word & 0xffff) >> k & 1 == 1
+/// A fragment's word: its primitive number in the bits from 16 on, and its coverage mask in the lower 16.
+#[derive(Clone, Copy)]
+pub(crate) struct FragmentWord(pub(crate) u64);
+
+impl FragmentWord {
+    #[inline(always)]
+    pub(crate) fn primitive(self) -> u64
+        ensures { result ≡ (unpacked self.0).prim }
+    {
+        self.0 >> 16
+    }
+
+    #[inline(always)]
+    pub(crate) fn mask(self) -> u32
+        ensures { result ≡ (unpacked self.0).mask }
+    {
+        (self.0 & 0xffff) as u32
+    }
+
+    /// It has sample k.
+    #[inline(always)]
+    pub(crate) fn covers(self, k: u32) -> bool
+        requires { k < 16 }
+        ensures { result ≡ has_sample k self.0 }
+    {
+        self.mask() >> k & 1 == 1
+    }
+
+    /// A colour with the paint of its primitive laid over it.
+    #[inline(always)]
+    pub(crate) fn laid_over(self, under: [u16; 3], paints: &[Paint]) -> [u16; 3]
+        requires { IsPainted paints.now self.0 }
+        ensures { result ≡ laid_over under (paint_at paints.now (unpacked self.0).prim) }
+    {
+        laid_over(under, paints[self.primitive() as usize])
+    }
 }
 
-/// The samples of the word's fragment, as a mask.
-pub(crate) fn samples_of(word: u64) -> u32
-    ensures { result ≡ (unpacked word).mask }
-{
-    (word & 0xffff) as u32
-}
+/// A fragment's word in one sample: its depth key there times 2^24, plus its primitive number.
+#[derive(Clone, Copy)]
+pub(crate) struct SampleWord(pub(crate) u64);
 
-/// The number of the word's primitive.
-#[inline(always)]
-fn prim_of(word: u64) -> u32
-    requires { word < 2 ^ 40 }
-    ensures { result ≡ (unpacked word).prim }
-{
-    (word >> 16) as u32
+impl SampleWord {
+    #[inline(always)]
+    pub(crate) fn new(key: u32, primitive: u64) -> SampleWord
+        requires { primitive < 2 ^ 48 }
+        ensures { result.0 ≡ depth_word key primitive }
+    {
+        SampleWord(u64::from(key) * (1 << 24) + primitive)
+    }
+
+    #[inline(always)]
+    pub(crate) fn primitive(self) -> u64
+        ensures { result ≡ prim_of self.0 }
+    {
+        self.0 & 0xffffff
+    }
 }
 
 impl<'a> Planes<'a> {
@@ -50,33 +88,9 @@ impl<'a> Planes<'a> {
         ensures value { result ≡ sample_word (offsets_of pattern) self.now at.x at.y k word }
         ensures fits { IsDepthWord (length self.now) result }
     {
-        let prim = prim_of(word);
-        let depth = self.key(prim, at, pattern, k);
-        u64::from(depth) * (1 << 24) + u64::from(prim)
-    }
-
-    /// The fragments that have sample k, as words of that sample, in the order of the list.
-    pub(crate) fn gather(
-        &self,
-        keys: &mut Vec<u64>,
-        list: &[u64],
-        at: Pixel,
-        pattern: Pattern,
-        k: u32,
-    ) -> Result<(), NoMemory>
-        requires few { length self.now ≤ MAX_PRIMITIVES }
-        requires sample { k < length (offsets_of pattern) }
-        requires words { All (IsFragmentAt (offsets_of pattern) self.now at.x at.y) list.now }
-        ensures value { IfOk result (λ _. keys.new.items ≡ sample_words (offsets_of pattern) self.now at.x at.y k list.now) }
-        ensures fits { IfOk result (λ _. All (IsDepthWord (length self.now)) keys.new.items) }
-    {
-        keys.clear();
-        for word in list {
-            if has_sample(*word, k) {
-                keys.push(self.sample_word(*word, at, pattern, k))?;
-            }
-        }
-        Ok(())
+        let prim = FragmentWord(word).primitive();
+        let depth = self.key(prim as u32, at, pattern, k);
+        SampleWord::new(depth, prim).0
     }
 
     /// The fragments of a pixel that have sample k, from the farthest to the nearest. Each is a word: its depth key there times
@@ -98,7 +112,12 @@ impl<'a> Planes<'a> {
         ensures fits { IfOk result (λ _. All (IsDepthWord (length self.now)) keys.new.items) }
         ensures ascending { IfOk result (λ _. IsNonDecreasing keys.new.items) }
     {
-        self.gather(keys, list, at, pattern, k)?;
+        keys.clear();
+        for word in list {
+            if FragmentWord(*word).covers(k) {
+                keys.push(self.sample_word(*word, at, pattern, k))?;
+            }
+        }
         put_in_order(keys);
         Ok(())
     }
@@ -122,7 +141,11 @@ impl<'a, 'b> Scene<'a, 'b> {
         ensures words { All (IsDepthWord (length self.now.paints.now)) keys.old.items → All (IsDepthWord (length self.now.paints.now)) keys.new.items }
         ensures seen { IfOk result (IsStillSeenAt self.now at k word keys.old.items keys.new.items least) }
     {
-        if self.planes.greatest_word(prim_of(word)) < least {
+        if self
+            .planes
+            .greatest_word(FragmentWord(word).primitive() as u32)
+            < least
+        {
             return Ok(least);
         }
         let key = self.planes.sample_word(word, at, self.pattern, k);
@@ -146,7 +169,7 @@ impl<'a, 'b> Scene<'a, 'b> {
         keys.clear();
         let mut least = 0;
         for word in list {
-            if has_sample(*word, k) {
+            if FragmentWord(*word).covers(k) {
                 let next = self.push_fragment(keys, least, *word, at, k)?;
                 least = next;
             }

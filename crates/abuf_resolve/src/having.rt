@@ -4,7 +4,7 @@ ghost use Rattle.std.specs.List.{filter};
 ghost use Rattle.abuf_resolve.specs.Having.{Has, with_one};
 ghost use Rattle.abuf_resolve.specs.Words.{has_sample};
 
-use crate::fragments::{has_sample, samples_of};
+use crate::fragments::FragmentWord;
 
 /// None of the words has the sample, this one alone, or more than one.
 #[derive(Clone, Copy)]
@@ -31,7 +31,7 @@ impl Having {
     {
         let mut having = Having::Nothing;
         for word in words {
-            if has_sample(*word, k) {
+            if FragmentWord(*word).covers(k) {
                 having = having.with_one(*word);
                 if let Having::More = having {
                     break;
@@ -48,7 +48,7 @@ pub(crate) fn are_apart(words: &[u64]) -> bool
 {
     let mut seen = 0;
     for word in words {
-        let mask = samples_of(*word);
+        let mask = FragmentWord(*word).mask();
         if seen & mask != 0 {
             return false;
         }

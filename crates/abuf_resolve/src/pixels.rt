@@ -8,8 +8,8 @@ ghost use Rattle.abuf_resolve.specs.Tally.{in_set};
 ghost use Rattle.abuf_resolve.specs.Words.{has_sample, with_fragment, IsPainted};
 
 use crate::bounded::Bounded;
-use crate::fold::{laid_over, lay_all};
-use crate::fragments::{has_sample, samples_of};
+use crate::fold::lay_all;
+use crate::fragments::FragmentWord;
 use crate::having::{Having, are_apart};
 use crate::order::order_from;
 use crate::scene::{Pixel, Scene};
@@ -62,8 +62,8 @@ fn with_fragment(under: [u16; 3], word: u64, paints: &[Paint], k: u32) -> [u16; 
     requires paint { IsPainted paints.now word }
     ensures { result ≡ with_fragment paints.now k under word }
 {
-    if has_sample(word, k) {
-        laid_over(under, paints[(word >> 16) as usize])
+    if FragmentWord(word).covers(k) {
+        FragmentWord(word).laid_over(under, paints)
     } else {
         under
     }
@@ -75,10 +75,10 @@ fn alike(set: u32, word: u64, k: u32) -> u32
     ensures same { (j : ℕ) → j < 32 → in_set result j ≡ true → (in_set set j ≡ true) × (has_sample j word ≡ has_sample k word) }
     ensures itself { in_set set k ≡ true → in_set result k ≡ true }
 {
-    if has_sample(word, k) {
-        set & samples_of(word)
+    if FragmentWord(word).covers(k) {
+        set & FragmentWord(word).mask()
     } else {
-        set & !samples_of(word)
+        set & !FragmentWord(word).mask()
     }
 }
 
@@ -111,11 +111,35 @@ impl<'a, 'b> Scene<'a, 'b> {
         colour
     }
 
-    /// The sums over the samples, from words that stand in the order of each. Samples with the same fragments have one colour, so
-    /// it is worked out once.
-    fn laid_sums(&self, words: &[u64]) -> PixelSum
-        requires { All (IsPainted self.now.paints.now) words.now }
-        ensures value { result ≡ summed (laid_at self.now words.now) (length (offsets_of self.now.pattern)) }
+    /// The sums over the samples of two fragments, of which the upper one isn't below the other in any sample.
+    fn laid_pair(&self, lower: u64, upper: u64) -> PixelSum
+        requires lower { IsPainted self.now.paints.now lower }
+        requires upper { IsPainted self.now.paints.now upper }
+        ensures value { result ≡ summed (laid_at self.now (lower ∷ upper ∷ [])) (length (offsets_of self.now.pattern)) }
+        ensures small { IsSmall (length (offsets_of self.now.pattern)) result }
+    {
+        let beneath = FragmentWord(lower).laid_over(self.background, self.paints);
+        let of_lower = FragmentWord(lower).mask();
+        let of_upper = FragmentWord(upper).mask();
+        Tally::new(self.pattern.size())
+            .with(
+                of_lower & of_upper,
+                FragmentWord(upper).laid_over(beneath, self.paints),
+            )
+            .with(
+                of_upper,
+                FragmentWord(upper).laid_over(self.background, self.paints),
+            )
+            .with(of_lower, beneath)
+            .all_with(self.background)
+    }
+
+    /// A pixel's sums, from words that stand in the order of each sample. Samples with the same fragments have one colour, so it is
+    /// worked out once.
+    fn sums_in_order(&self, words: &[u64], at: Pixel) -> PixelSum
+        requires words { All (IsFragmentOf self.now at) words.now }
+        requires ascending { AscendIn self.now at words.now }
+        ensures value { result ≡ sum_at self.now at words.now }
         ensures small { IsSmall (length (offsets_of self.now.pattern)) result }
     {
         let mut tally = Tally::new(self.pattern.size());
@@ -128,43 +152,15 @@ impl<'a, 'b> Scene<'a, 'b> {
         tally.all()
     }
 
-    /// The same of two fragments, of which the upper one isn't below the other in any sample.
-    fn laid_pair(&self, lower: u64, upper: u64) -> PixelSum
-        requires lower { IsPainted self.now.paints.now lower }
-        requires upper { IsPainted self.now.paints.now upper }
-        ensures value { result ≡ summed (laid_at self.now (lower ∷ upper ∷ [])) (length (offsets_of self.now.pattern)) }
-        ensures small { IsSmall (length (offsets_of self.now.pattern)) result }
-    {
-        let beneath = laid_over(self.background, self.paints[(lower >> 16) as usize]);
-        let paint = self.paints[(upper >> 16) as usize];
-        let of_lower = samples_of(lower);
-        let of_upper = samples_of(upper);
-        Tally::new(self.pattern.size())
-            .with(of_lower & of_upper, laid_over(beneath, paint))
-            .with(of_upper, laid_over(self.background, paint))
-            .with(of_lower, beneath)
-            .all_with(self.background)
-    }
-
-    /// A pixel's sums, from words that stand in the order of each sample.
-    fn sums_in_order(&self, words: &[u64], at: Pixel) -> PixelSum
-        requires words { All (IsFragmentOf self.now at) words.now }
-        requires ascending { AscendIn self.now at words.now }
-        ensures value { result ≡ sum_at self.now at words.now }
-        ensures small { IsSmall (length (offsets_of self.now.pattern)) result }
-    {
-        self.laid_sums(words)
-    }
-
     /// The sums of a pixel with one fragment.
     fn sums_of_one(&self, word: u64, at: Pixel) -> PixelSum
         requires { IsFragmentOf self.now at word }
         ensures value { result ≡ sum_at self.now at (word ∷ []) }
         ensures small { IsSmall (length (offsets_of self.now.pattern)) result }
     {
-        let above = laid_over(self.background, self.paints[(word >> 16) as usize]);
+        let above = FragmentWord(word).laid_over(self.background, self.paints);
         Tally::new(self.pattern.size())
-            .with(samples_of(word), above)
+            .with(FragmentWord(word).mask(), above)
             .all_with(self.background)
     }
 
@@ -207,9 +203,7 @@ impl<'a, 'b> Scene<'a, 'b> {
     {
         match Having::of(list, k) {
             Having::Nothing => Ok(self.background),
-            Having::One(word) => {
-                Ok(laid_over(self.background, self.paints[(word >> 16) as usize]))
-            }
+            Having::One(word) => Ok(FragmentWord(word).laid_over(self.background, self.paints)),
             Having::More => self.colour_by_keys(keys, list, at, k),
         }
     }

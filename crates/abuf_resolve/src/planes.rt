@@ -8,6 +8,7 @@ ghost use Rattle.abuf_resolve.specs.Colour.{triangle_at};
 ghost use Rattle.abuf_resolve.specs.Keys.{NoKeyBelow, NoKeyAbove, NoWordAbove};
 ghost use Rattle.abuf_resolve.specs.Made.{IsOf};
 
+use crate::fragments::SampleWord;
 use crate::scene::Pixel;
 use abuf_num::NoMemory;
 use abuf_raster::{DepthPlane, Pattern, ScreenTri};
@@ -136,8 +137,7 @@ impl<'a> Planes<'a> {
         requires prim { prim < length self.now }
         ensures { NoWordAbove self.now prim result }
     {
-        let depth = self.greatest_depth(prim);
-        u64::from(depth) * (1 << 24) + u64::from(prim)
+        SampleWord::new(self.greatest_depth(prim), u64::from(prim)).0
     }
 
     /// Bounds of the depth keys of triangle `prim` at the samples of a pixel that it covers.

@@ -1,14 +1,14 @@
 // The sums of all pixels, on threads.
-ghost use Rattle.std.specs.Prelude.{◌≡◌, ℕ, ◌-◌, ◌*◌, ◌<◌, ◌≤◌, min, length, map, IfOk, IfSome};
+ghost use Rattle.std.specs.Prelude.{◌≡◌, ℕ, ◌-◌, ◌*◌, ◌<◌, ◌≤◌, min, length, map, IfOk};
 ghost use Rattle.std.specs.List.{range_with_len, All};
 ghost use Rattle.abuf_num.specs.declared.limits.TheConstants.{MAX_PRIMITIVES, MAX_THREADS};
 ghost use Rattle.abuf_raster.specs.Samples.{offsets_of};
 ghost use Rattle.abuf_resolve.specs.Lengths.{greatest};
-ghost use Rattle.abuf_resolve.specs.Parts.{IsPart, IsRun};
+ghost use Rattle.abuf_resolve.specs.Parts.{AreRuns, IsPart, IsRun};
 ghost use Rattle.abuf_resolve.specs.Scene.{sums_of};
 ghost use Rattle.abuf_resolve.specs.Sums.{IsSmall};
 ghost use Rattle.abuf_resolve.specs.Words.{frame_sums, AreFragmentLists};
-ghost use Rattle.abuf_resolve.specs.declared.threads.TheConstants.{LONGEST_RUN};
+ghost use Rattle.abuf_share.specs.declared.desk.TheConstants.{MAX_PARTS};
 
 use crate::planes::Planes;
 use crate::runs::{Resolved, Span};
@@ -16,9 +16,9 @@ use crate::scene::Scene;
 use abuf_frame::Closed;
 use abuf_num::{List, NoMemory, Paint, PixelSum};
 use abuf_raster::{Pattern, Region, ScreenTri};
+use abuf_share::{MAX_PARTS, map_numbered};
 use std::alloc::Global;
-use std::sync::atomic::{AtomicU64, Ordering};
-use std::thread::{Threads, map_indices};
+use std::thread::Threads;
 
 /// About how many runs of pixels a worker takes, so that all end at about the same time.
 const RUNS_A_THREAD: u32 = 16;
@@ -26,145 +26,68 @@ const RUNS_A_THREAD: u32 = 16;
 /// The most pixels of a run.
 const LONGEST_RUN: u32 = 4096;
 
-/// What was summed of a run of pixels. Runs are numbered from 0.
-#[derive(Drop)]
-pub(crate) struct Run {
-    pub(crate) number: u32,
-    pub(crate) resolved: Resolved,
-}
-
 /// How many pixels each run has but the last: whole groups of eight, since the lists of eight pixels are read together.
-fn run_size(pixels: u32, threads: u32) -> u32
+fn run_size(region: Region, threads: u32) -> u32
     requires threads { (1 ≤ threads) × (threads ≤ MAX_THREADS) }
-    ensures { (1 ≤ result) × (result ≤ LONGEST_RUN) }
+    ensures some { 1 ≤ result }
+    ensures few { region.w * region.h ≤ result * MAX_PARTS }
 {
-    let eights = pixels / (8 * RUNS_A_THREAD * threads);
-    8 * eights.clamp(1, LONGEST_RUN / 8)
+    let pixels = region.pixels();
+    let wanted = (pixels / (RUNS_A_THREAD * threads)).min(LONGEST_RUN);
+    8 * wanted.max(pixels.div_ceil(MAX_PARTS)).div_ceil(8)
 }
 
-/// How many runs of this size so many pixels make.
-fn run_count(pixels: u32, size: u32) -> u32
-    requires { 1 ≤ size }
-    ensures all { pixels ≤ size * result }
-    ensures some { (k : ℕ) → k < result → size * k < pixels }
+/// How many runs of this size the pixels of a region make.
+fn run_count(region: Region, size: u32) -> u32
+    requires some { 1 ≤ size }
+    requires few { region.w * region.h ≤ size * MAX_PARTS }
+    ensures few { result ≤ MAX_PARTS }
+    ensures all { region.w * region.h ≤ size * result }
+    ensures some { (k : ℕ) → k < result → size * k < region.w * region.h }
 {
-    pixels.div_ceil(size)
+    region.pixels().div_ceil(size)
 }
 
-/// The pixels of the run with this number, of so many pixels in runs of this size.
-fn span_of(pixels: u32, size: u32, number: u32) -> Span
-    requires { size * number < pixels }
+/// The pixels of the run with this number, where runs have this size.
+fn span_of(region: Region, size: u32, number: u32) -> Span
+    requires { size * number < region.w * region.h }
     ensures from { result.from ≡ size * number }
-    ensures count { result.count ≡ min size (pixels - size * number) }
+    ensures count { result.count ≡ min size (region.w * region.h - size * number) }
 {
     let from = size * number;
     Span {
         from,
-        count: size.min(pixels - from),
+        count: size.min(region.pixels() - from),
     }
 }
 
 impl<'a, 'b> Scene<'a, 'b> {
-    /// The runs that the counter gives, summed. Which worker takes a run is left to who is free first: what is drawn often lies in
-    /// the middle of the image, and some workers may begin late.
-    fn take_runs(
+    /// The sums of all pixels, from those of all runs in order.
+    fn joined(
         &self,
         alloc: Global,
         closed: &Closed,
         region: Region,
         size: u32,
-        next: &AtomicU64,
-    ) -> Result<Vec<Run>, NoMemory>
-        requires pixels { length closed.now.lists ≡ region.w * region.h }
-        requires size { (1 ≤ size) × (size ≤ LONGEST_RUN) }
-        requires words { AreFragmentLists (offsets_of self.now.pattern) self.now.planes region closed.now.lists }
-        ensures { IfOk result (λ runs. All (IsRun self.now region closed.now.lists size) runs.items) }
+        runs: &[Resolved],
+    ) -> Result<Resolved, NoMemory>
+        requires all { region.w * region.h ≤ size * length runs.now }
+        requires runs { AreRuns self.now region closed.now.lists size runs.now }
+        ensures { IfOk result (IsPart self.now region closed.now.lists (range_with_len 0 (region.w * region.h))) }
     {
-        let pixels = closed.pixels();
-        let count = run_count(pixels, size);
-        let mut runs = Vec::new(alloc);
-        for _ in 0..count {
-            let number = next.fetch_add(1, Ordering::SeqCst);
-            if number >= u64::from(count) {
-                break;
-            }
-            let number = number as u32;
-            let span = span_of(pixels, size, number);
-            let resolved = self.part(alloc, closed, region, span)?;
-            runs.push(Run { number, resolved })?;
-        }
-        Ok(runs)
-    }
-
-    /// The runs of all workers, or the first refusal.
-    fn all_of(
-        &self,
-        alloc: Global,
-        region: Region,
-        closed: &Closed,
-        size: u32,
-        taken: Vec<Result<Vec<Run>, NoMemory>>,
-    ) -> Result<Vec<Run>, NoMemory>
-        requires { All (λ t. IfOk t (λ runs. All (IsRun self.now region closed.now.lists size) runs.items)) taken.items }
-        ensures { IfOk result (λ runs. All (IsRun self.now region closed.now.lists size) runs.items) }
-    {
-        let mut all = Vec::new(alloc);
-        for runs in taken {
-            all.append(&mut runs?)?;
-        }
-        Ok(all)
-    }
-
-    /// The sums of all pixels, from those of the runs. None comes where these aren't all runs.
-    fn join_runs(
-        &self,
-        alloc: Global,
-        region: Region,
-        closed: &Closed,
-        size: u32,
-        mut runs: Vec<Run>,
-    ) -> Result<Option<Resolved>, NoMemory>
-        requires pixels { length closed.now.lists ≡ region.w * region.h }
-        requires size { (1 ≤ size) × (size ≤ LONGEST_RUN) }
-        requires runs { All (IsRun self.now region closed.now.lists size) runs.items }
-        ensures { IfOk result (λ found. IfSome found (IsPart self.now region closed.now.lists (range_with_len 0 (region.w * region.h)))) }
-    {
-        let pixels = closed.pixels();
-        runs.sort_unstable_by_key(|run| run.number);
-        let mut sums = Vec::with_capacity(alloc, pixels as usize)?;
+        let mut sums = Vec::with_capacity(alloc, region.pixels() as usize)?;
         let mut longest = 0;
-        let mut joined: u64 = 0;
         for run in runs {
-            if u64::from(run.number) != joined {
-                return Ok(None);
-            }
-            sums.extend_from_slice(run.resolved.sums.as_slice())?;
-            longest = longest.max(run.resolved.longest);
-            joined += 1;
+            sums.extend_from_slice(run.sums.as_slice())?;
+            longest = longest.max(run.longest);
         }
-        if joined != u64::from(run_count(pixels, size)) {
-            return Ok(None);
-        }
-        Ok(Some(Resolved {
+        Ok(Resolved {
             sums: List::from_vec(sums),
             longest,
-        }))
+        })
     }
 
-    /// The sums of all pixels, by one worker.
-    fn alone(&self, alloc: Global, closed: &Closed, region: Region) -> Result<Resolved, NoMemory>
-        requires pixels { length closed.now.lists ≡ region.w * region.h }
-        requires words { AreFragmentLists (offsets_of self.now.pattern) self.now.planes region closed.now.lists }
-        ensures { IfOk result (λ all. IsPart self.now region closed.now.lists (range_with_len 0 (region.w * region.h)) all) }
-    {
-        let span = Span {
-            from: 0,
-            count: closed.pixels(),
-        };
-        self.part(alloc, closed, region, span)
-    }
-
-    /// The same, by this number of workers.
+    /// The sums of all pixels, by this number of workers. What one worker sums alone isn't copied.
     fn shared<R: Threads + Sync>(
         &self,
         rt: &R,
@@ -176,28 +99,29 @@ impl<'a, 'b> Scene<'a, 'b> {
         requires threads { (1 ≤ threads) × (threads ≤ MAX_THREADS) }
         requires pixels { length closed.now.lists ≡ region.w * region.h }
         requires words { AreFragmentLists (offsets_of self.now.pattern) self.now.planes region closed.now.lists }
-        ensures { IfOk result (λ all. IsPart self.now region closed.now.lists (range_with_len 0 (region.w * region.h)) all) }
+        ensures { IfOk result (IsPart self.now region closed.now.lists (range_with_len 0 (region.w * region.h))) }
     {
+        let pixels = closed.pixels();
         if threads == 1 {
-            return self.alone(alloc, closed, region);
+            let all = Span {
+                from: 0,
+                count: pixels,
+            };
+            return self.part(alloc, closed, region, all);
         }
-        let size = run_size(closed.pixels(), threads);
-        let next = &AtomicU64::new(0);
-        let taken = map_indices(
+        let size = run_size(region, threads);
+        let runs = map_numbered(
             rt,
             alloc,
-            threads as usize,
-            &|_worker: usize| -> Result<Vec<Run>, NoMemory>
-                requires { (length closed.now.lists ≡ region.w * region.h) × (1 ≤ size) × (size ≤ LONGEST_RUN)
+            run_count(region, size),
+            threads,
+            &|number: u32| -> Result<Resolved, NoMemory>
+                requires { (length closed.now.lists ≡ region.w * region.h) × (closed.now.pixels ≡ region.w * region.h) × (size * number < region.w * region.h)
                     × AreFragmentLists (offsets_of self.now.pattern) self.now.planes region closed.now.lists }
-                ensures { IfOk result (λ runs. All (IsRun self.entry.now region closed.entry.now.lists size) runs.items) }
-            { self.take_runs(alloc, closed, region, size, next) },
+                ensures { IfOk result (IsRun self.entry.now region closed.entry.now.lists size number) }
+            { self.part(alloc, closed, region, span_of(region, size, number)) },
         )?;
-        let runs = self.all_of(alloc, region, closed, size, taken)?;
-        match self.join_runs(alloc, region, closed, size, runs)? {
-            Some(all) => Ok(all),
-            None => self.alone(alloc, closed, region),
-        }
+        self.joined(alloc, closed, region, size, &runs)
     }
 }
 

@@ -1,5 +1,5 @@
 -- The statement of a line, one after another.
-use Rattle.std.proofs.Common.{◌++◌, ◌≤◌, ◌-◌, ap₂, take, drop, drop-cons, get_or, ℕ, ◌≡◌, ◌+◌, ◌<◌, ◌∷◌, [], true, false, List, length, filter, suc, refl, sym, ap, ◌∙◌, subst, arith, ⊎_elim}
+use Rattle.std.proofs.Common.{◌++◌, ◌-◌, ap₂, take, drop, drop-cons, get_or, ℕ, ◌≡◌, ◌+◌, ◌<◌, ◌∷◌, [], true, false, List, length, filter, suc, refl, sym, ap, ◌∙◌, subst, arith, ⊎_elim}
 use Rattle.std.specs.List.{slice_split, position_or_len, onto_first, list_any}
 use Rattle.std.proofs.Math.Seq.{take-append_seam, drop-append_seam, take-length}
 use Rattle.std.proofs.lemmas.List.{length-drop, take-append-drop}

@@ -5,13 +5,14 @@ use Rattle.abuf_sequence.specs.declared.path.Shot.{Shot}
 use Rattle.abuf_cli.specs.Jobs as words
 use Rattle.abuf_cli.specs.Job.{Job}
 use Rattle.abuf_cli.specs.declared.job.What.{What}
-use Rattle.abuf_cli.specs.declared.job.What.TheVariants as what
+use Rattle.abuf_cli.specs.declared.job.Command.{Command}
+use Rattle.abuf_cli.specs.declared.job.Command.TheVariants as command
 use Rattle.abuf_cli.specs.declared.job.WordFault.{WordFault}
-use Rattle.abuf_top.specs.Image.{DrawsOnce}
 use Rattle.abuf_top.specs.Libraries.{Holdings}
 use Rattle.abuf_top.specs.Paths.{path_verdict}
+use Rattle.abuf_top.specs.Prepared.{IsSequence}
 use Rattle.abuf_top.specs.Promise.{IsAllowed}
-use Rattle.abuf_top.specs.Verdict.{task, words_verdict, command_verdict, sequence_verdict, shots_verdict, images_verdict, drawing_verdict, loaded}
+use Rattle.abuf_top.specs.Verdict.{task, words_verdict, command_verdict, sequence_verdict, shots_verdict, images_verdict, drawing_verdict, loaded, scene_read}
 use Rattle.abuf_top.specs.declared.stop.Refusal.{Refusal}
 use Rattle.abuf_top.specs.declared.stop.Refusal.TheVariants as refusal
 use Rattle.abuf_top.specs.declared.stop.Stop.{Stop}
@@ -20,41 +21,39 @@ use Rattle.abuf_top.specs.declared.task.Task.{Task}
 use Rattle.abuf_top.proofs.Answering.{found_by}
 
 module _ (job : Job) where
-  -- A scene that is loaded is one drawing of a job that draws once,
-  drawn : (scene : Option (Result (List Triangle) Refusal)) → DrawsOnce job.what → IfSome (option_map (drawing_verdict job) scene) (IsAllowed (Ok job))
-  drawn None once = tt
-  drawn (Some (Err r)) once = tt
-  drawn (Some (Ok triangles)) once = (refl, once)
+  -- A scene that is loaded is a drawing of a job of one,
+  drawn : (w : What) (scene : Option (Result (List Triangle) Refusal)) → job.command ≡ command.Draw w → IfSome (option_map (drawing_verdict job w) scene) (IsAllowed (Ok job))
+  drawn w None is = tt
+  drawn w (Some (Err r)) is = tt
+  drawn w (Some (Ok triangles)) is = (refl, is)
 
-  -- or images after the plan of one that draws more than once.
-  shown : (shots : List Shot) (scene : Option (Result (List Triangle) Refusal)) → (DrawsOnce job.what → ⊥) → IfSome (option_map (images_verdict job shots) scene) (IsAllowed (Ok job))
+  -- or images after the plan of one of a sequence.
+  shown : (shots : List Shot) (scene : Option (Result (List Triangle) Refusal)) → IsSequence job.command → IfSome (option_map (images_verdict job shots) scene) (IsAllowed (Ok job))
   shown shots None more = tt
   shown shots (Some (Err r)) more = tt
   shown shots (Some (Ok triangles)) more = (more, refl)
 
   -- So it is with a path that is read,
-  followed : (scene : Option (List ℕ)) (shelf : Option Holdings) (path : Result (List Shot) Refusal) → (DrawsOnce job.what → ⊥)
+  followed : (scene : Option (List ℕ)) (shelf : Option Holdings) (path : Result (List Shot) Refusal) → IsSequence job.command
       → IfSome (shots_verdict job scene shelf path) (IsAllowed (Ok job))
   followed scene shelf (Err r) more = tt
-  followed scene shelf (Ok shots) more = shown shots (loaded job.what scene shelf) more
+  followed scene shelf (Ok shots) more = shown shots (scene_read scene shelf) more
 
   -- whatever it holds,
-  pathed : (name : List ℕ) (scene : Option (List ℕ)) (shelf : Option Holdings) → (DrawsOnce job.what → ⊥)
+  pathed : (name : List ℕ) (scene : Option (List ℕ)) (shelf : Option Holdings) → IsSequence job.command
       → IfSome (sequence_verdict job name scene shelf) (IsAllowed (Ok job))
   pathed name scene None more = tt
   pathed name scene (Some held) more = followed scene (Some held) (path_verdict (held name)) more
 
   -- with every command,
-  commanded : (w : What) (scene : Option (List ℕ)) (shelf : Option Holdings) → job.what ≡ w → IfSome (command_verdict w job scene shelf) (IsAllowed (Ok job))
-  commanded what.Render scene shelf is = drawn (loaded job.what scene shelf) (subst DrawsOnce (sym is) tt)
-  commanded (what.Pick x y) scene shelf is = drawn (loaded job.what scene shelf) (subst DrawsOnce (sym is) tt)
-  commanded (what.Demo number) scene shelf is = drawn (loaded job.what scene shelf) (subst DrawsOnce (sym is) tt)
-  commanded (what.Sequence name) scene shelf is = pathed name scene shelf (subst DrawsOnce is)
+  commanded : (c : Command) (scene : Option (List ℕ)) (shelf : Option Holdings) → job.command ≡ c → IfSome (command_verdict c job scene shelf) (IsAllowed (Ok job))
+  commanded (command.Draw w) scene shelf is = drawn w (loaded w scene shelf) is
+  commanded (command.Sequence name) scene shelf is = pathed name scene shelf (subst IsSequence (sym is) tt)
 
 -- with all words.
 worded : (words : Result Job WordFault) (scene : Option (List ℕ)) (shelf : Option Holdings) → IfSome (words_verdict words scene shelf) (IsAllowed words)
 worded (Err why) scene shelf = tt
-worded (Ok job) scene shelf = commanded job job.what scene shelf refl
+worded (Ok job) scene shelf = commanded job job.command scene shelf refl
 
 -- So what is told is allowed,
 told-allowed : (texts : List (List ℕ)) (scene : Option (List ℕ)) (shelf : Option Holdings) → IfSome (task texts scene shelf) (IsAllowed (words.job texts))

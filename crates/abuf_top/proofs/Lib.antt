@@ -1,12 +1,11 @@
 pub mod Asking
 pub mod Afterwards
 pub mod Telling
-pub mod Pathing
+pub mod Reading
 pub mod Writing
 pub mod Answering
 pub mod Allowing
 pub mod Handing
-pub mod Storing
 pub mod Sums
 pub mod Lines
 pub mod Running

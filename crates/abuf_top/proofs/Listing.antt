@@ -1,5 +1,5 @@
 -- What a drawing writes by the lists of its frame is what the definition says, where the way agrees with that.
-use Rattle.std.proofs.Common.{take, IfOk, IfSome, MatchResult, true, true≢false, subst, ◌≡◌, ◌≤◌, ◌*◌, ℕ, Bool, false, nat_lt, List, length, Option, None, Some, Result, Ok, Err, if◌then◌else◌, refl, sym, ap, ◌∙◌, arith}
+use Rattle.std.proofs.Common.{take, IfOk, MatchResult, true, true≢false, subst, ◌≡◌, ◌≤◌, ℕ, Bool, false, nat_lt, List, Option, None, Some, Result, Ok, Err, if◌then◌else◌, refl, sym, ap, ◌∙◌, arith}
 use Rattle.std.proofs.lemmas.Bool.{le-ltb}
 use Rattle.std.specs.Io.KnownBytes.{Appends}
 use Rattle.abuf_io.specs.Sinks.{Taken}
@@ -16,11 +16,10 @@ use Rattle.abuf_num.specs.declared.list.NoMemory.{NoMemory}
 use Rattle.abuf_top.specs.Drawn.{IsOutputOf}
 use Rattle.abuf_top.specs.Ending.{IsFrameOf, HandsBack, HasFrame, Produces}
 use Rattle.abuf_top.specs.Image.{Drawing, has_one_frame, is_whole, region_of, image, total}
-use Rattle.abuf_top.specs.Listed.{subject_of, image_from, summary_from, ComesFrom, IsMadeOf, IsOutputBy, MayComeFrom, ProducesBy, WritesFrom}
+use Rattle.abuf_top.specs.Listed.{subject_of, image_from, summary_from, IsMadeOf, IsOutputBy, MayComeFrom, ProducesBy, WritesFrom}
 use Rattle.abuf_top.specs.Output.{output, output_of}
 use Rattle.abuf_top.specs.Summary.{summary, longest, values}
 use Rattle.abuf_top.specs.Verdict.{pool_verdict, full_pool, or_output, write}
-use Rattle.abuf_top.specs.declared.stop.FullPool.{FullPool}
 use Rattle.abuf_top.specs.declared.stop.FullPool.TheVariants as full
 use Rattle.abuf_top.specs.declared.stop.Stop.{Stop}
 use Rattle.abuf_top.specs.declared.stop.Stop.TheVariants as stop
@@ -62,7 +61,7 @@ module _ (way : Way) (d : Drawing) (c : Ended) (frame : IsFrameOf d c) (fit : c.
 
   -- What was made of the lists, where memory was enough.
   pub made : d.job.storage ≡ OneFrame → (bytes : Result (List ℕ) NoMemory) (result : Result (List ℕ) Stop) (closed : Option Ended)
-      → IfOk bytes (IsMadeOf d.job.what d given) → (Agrees way (subject_of d) → IfOk bytes (λ b. output d ≡ b))
+      → IfOk bytes (IsMadeOf d.what d given) → (Agrees way (subject_of d) → IfOk bytes (λ b. output d ≡ b))
       → MatchResult bytes (λ b. (result ≡ Ok b) × (closed ≡ Some c)) (λ _. (result ≡ Err stop.Memory) × (closed ≡ None))
       → IsOutputBy way d result closed
   made stored (Ok b) result closed is out ends =
@@ -80,36 +79,36 @@ module _ (way : Way) (d : Drawing) (c : Ended) (frame : IsFrameOf d c) (fit : c.
       (subst (IsOutputBy way d (Err stop.Memory)) (sym ends.1)
       (record { produced = tt; listed = tt; frame = tt; handed = refl }))
 
-  image-made : d.job.what ≡ what.Render → (bytes : Result (List ℕ) NoMemory) (sums : List PixelSum) → sums ≡ given.sums
-      → IfOk bytes (λ b. b ≡ image_from d sums) → IfOk bytes (IsMadeOf d.job.what d given)
+  image-made : d.what ≡ what.Render → (bytes : Result (List ℕ) NoMemory) (sums : List PixelSum) → sums ≡ given.sums
+      → IfOk bytes (λ b. b ≡ image_from d sums) → IfOk bytes (IsMadeOf d.what d given)
   image-made is (Ok b) sums same made_of = subst (λ (w : What). IsMadeOf w d given b) (sym is) (made_of ∙ ap (image_from d) same)
   image-made is (Err e) sums same made_of = tt
 
-  image-out : d.job.what ≡ what.Render → (bytes : Result (List ℕ) NoMemory) (sums : List PixelSum) → sums ≡ given.sums
+  image-out : d.what ≡ what.Render → (bytes : Result (List ℕ) NoMemory) (sums : List PixelSum) → sums ≡ given.sums
       → IfOk bytes (λ b. b ≡ image_from d sums) → Agrees way (subject_of d) → IfOk bytes (λ b. output d ≡ b)
   image-out is (Ok b) sums same made_of agrees = ap (λ (w : What). output_of w d) is ∙ sym (made_of ∙ (ap (image_from d) same ∙ image-is agrees))
   image-out is (Err e) sums same made_of agrees = tt
 
   -- The image that `render` makes,
-  pub rendered : d.job.what ≡ what.Render → d.job.storage ≡ OneFrame → (bytes : Result (List ℕ) NoMemory) (sums : List PixelSum) → sums ≡ given.sums
+  pub rendered : d.what ≡ what.Render → d.job.storage ≡ OneFrame → (bytes : Result (List ℕ) NoMemory) (sums : List PixelSum) → sums ≡ given.sums
       → IfOk bytes (λ b. b ≡ image_from d sums) → (result : Result (List ℕ) Stop) (closed : Option Ended)
       → MatchResult bytes (λ b. (result ≡ Ok b) × (closed ≡ Some c)) (λ _. (result ≡ Err stop.Memory) × (closed ≡ None))
       → IsOutputBy way d result closed
   rendered is stored bytes sums same made_of result closed ends =
       made stored bytes result closed (image-made is bytes sums same made_of) (image-out is bytes sums same made_of) ends
 
-  summary-made : (n : ℕ) → d.job.what ≡ what.Demo n → (bytes : Result (List ℕ) NoMemory) (all : Resolved) → all ≡ given
-      → IfOk bytes (λ b. b ≡ summary_from d all) → IfOk bytes (IsMadeOf d.job.what d given)
+  summary-made : (n : ℕ) → d.what ≡ what.Demo n → (bytes : Result (List ℕ) NoMemory) (all : Resolved) → all ≡ given
+      → IfOk bytes (λ b. b ≡ summary_from d all) → IfOk bytes (IsMadeOf d.what d given)
   summary-made n is (Ok b) all same made_of = subst (λ (w : What). IsMadeOf w d given b) (sym is) (made_of ∙ ap (summary_from d) same)
   summary-made n is (Err e) all same made_of = tt
 
-  summary-out : (n : ℕ) → d.job.what ≡ what.Demo n → (bytes : Result (List ℕ) NoMemory) (all : Resolved) → all ≡ given
+  summary-out : (n : ℕ) → d.what ≡ what.Demo n → (bytes : Result (List ℕ) NoMemory) (all : Resolved) → all ≡ given
       → IfOk bytes (λ b. b ≡ summary_from d all) → Agrees way (subject_of d) → IfOk bytes (λ b. output d ≡ b)
   summary-out n is (Ok b) all same made_of agrees = ap (λ (w : What). output_of w d) is ∙ sym (made_of ∙ (ap (summary_from d) same ∙ summary-is agrees))
   summary-out n is (Err e) all same made_of agrees = tt
 
   -- and the summary that `demo` makes.
-  pub summarized : (n : ℕ) → d.job.what ≡ what.Demo n → d.job.storage ≡ OneFrame → (bytes : Result (List ℕ) NoMemory) (all : Resolved) → all ≡ given
+  pub summarized : (n : ℕ) → d.what ≡ what.Demo n → d.job.storage ≡ OneFrame → (bytes : Result (List ℕ) NoMemory) (all : Resolved) → all ≡ given
       → IfOk bytes (λ b. b ≡ summary_from d all) → (result : Result (List ℕ) Stop) (closed : Option Ended)
       → MatchResult bytes (λ b. (result ≡ Ok b) × (closed ≡ Some c)) (λ _. (result ≡ Err stop.Memory) × (closed ≡ None))
       → IsOutputBy way d result closed
@@ -136,12 +135,12 @@ module _ (way : Way) (d : Drawing) where
     handed = h.handed;
   }
 
-  not-made : (x y : ℕ) (bytes : Result (List ℕ) Stop) (closed : Option Ended) → d.job.what ≡ what.Pick x y → MayComeFrom way d bytes closed
+  not-made : (x y : ℕ) (bytes : Result (List ℕ) Stop) (closed : Option Ended) → d.what ≡ what.Pick x y → MayComeFrom way d bytes closed
   not-made x y (Ok b) None is = tt
   not-made x y (Ok b) (Some c) is = subst (λ (w : What). IsMadeOf w d (way (subject_of d) c.lists) b) (sym is) tt
   not-made x y (Err s) closed is = tt
 
-  pub of-pick : (x y : ℕ) (bytes : Result (List ℕ) Stop) (closed : Option Ended) → d.job.what ≡ what.Pick x y → IsOutputOf d bytes closed → IsOutputBy way d bytes closed
+  pub of-pick : (x y : ℕ) (bytes : Result (List ℕ) Stop) (closed : Option Ended) → d.what ≡ what.Pick x y → IsOutputOf d bytes closed → IsOutputBy way d bytes closed
   of-pick x y bytes closed is h = record {
     produced = produced-by bytes h.produced;
     listed = not-made x y bytes closed is;

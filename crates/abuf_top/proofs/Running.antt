@@ -1,25 +1,24 @@
 -- What a run promises, from what its parts do.
-use Rattle.std.proofs.Common.{◌≡◌, ◌≤◌, ◌+◌, ℕ, ◌⊎◌, inl, inr, Bool, true, false, true≢false, List, Option, Some, None, Result, Ok, Err, IfSome, IfErr, refl, sym, ap, ◌∙◌, subst, arith}
+use Rattle.std.proofs.Common.{◌≡◌, ℕ, ◌⊎◌, inl, inr, Bool, true, false, true≢false, List, Option, Some, None, Result, Ok, Err, IfSome, IfErr, refl, sym, ap, ◌∙◌, subst, arith}
 use Rattle.std.specs.Prelude.{IsSome, IsOk, ◌↔◌}
-use Rattle.abuf_num.specs.declared.limits.TheConstants.{MAX_BYTES}
 use Rattle.abuf_frame.specs.Closing.{Ended}
 use Rattle.abuf_cli.specs.Jobs.{job}
 use Rattle.abuf_cli.specs.Job.{Job}
-use Rattle.abuf_cli.specs.declared.job.What.{What}
-use Rattle.abuf_cli.specs.declared.job.What.TheVariants as what
+use Rattle.abuf_cli.specs.declared.job.Command.{Command}
+use Rattle.abuf_cli.specs.declared.job.Command.TheVariants as command
 use Rattle.abuf_cli.specs.declared.job.WordFault.{WordFault}
 use Rattle.abuf_top.specs.Ending.{Ends, WritesLast, HandsBack, Concludes, Announces, IsFrameOf}
 use Rattle.abuf_io.specs.Sinks.{Taken}
 use Rattle.abuf_top.specs.Refusals.{refusal_status}
 use Rattle.abuf_top.specs.Status.{status_number}
 use Rattle.abuf_top.specs.Promise.{GoesWithFrame, HasSizeOf, WordsDecide, has_frame, command_has_frame, IsFrameOfTask, IsRun}
-use Rattle.abuf_top.specs.Fetches.{fetches, most_fetches, NeedsNoSource}
-use Rattle.abuf_top.specs.Image.{Drawing, DrawsOnce, has_one_frame}
+use Rattle.abuf_top.specs.Fetches.{demand}
+use Rattle.abuf_top.specs.Image.{Drawing, has_one_frame}
 use Rattle.abuf_top.specs.Images.{Images}
 use Rattle.abuf_top.specs.Outside.{Outside, ReadFailed, told}
-use Rattle.abuf_top.specs.Prepared.{PreparesTask, AskOnce, IsTaskOf}
+use Rattle.abuf_top.specs.Prepared.{AskForSequence, IsSequence, IsTaskOf}
 use Rattle.abuf_top.specs.Stopped.{HasCause, RefusesFor, IsOfWords, IsAfterWords, IsOfPath, IsOfDrawing, StopsByPath}
-use Rattle.abuf_top.specs.Reads.{CallsShelf, IsUncalled, TakesAtMost}
+use Rattle.abuf_top.specs.Reads.{PreparesBy}
 use Rattle.abuf_top.specs.Verdict.{task, final_verdict, pool_verdict, pools_verdict}
 use Rattle.abuf_top.specs.declared.task.Task.{Task}
 use Rattle.abuf_top.specs.declared.task.Task.TheVariants.{Draw, Sequence}
@@ -38,24 +37,14 @@ sizes : (words : Result Job WordFault) (d : Drawing) (closed : Option Ended) →
 sizes words d None is h = tt
 sizes words d (Some c) is h = subst (λ (w : Result Job WordFault). HasSizeOf w c) (sym is) (h.pixels_are, h.nodes_are)
 
--- A job of one drawing has the frame of its drawing,
-one-frame : (w : What) (one : Bool) → DrawsOnce w → one ≡ command_has_frame w one
-one-frame what.Render one once = refl
-one-frame (what.Pick x y) one once = refl
-one-frame (what.Demo number) one once = refl
-one-frame (what.Sequence name) one once = absurd once
+-- A sequence has no frame.
+no-frame : (c : Command) (one : Bool) → IsSequence c → false ≡ command_has_frame c one
+no-frame (command.Draw what) one more = absurd more
+no-frame (command.Sequence name) one more = refl
 
--- and a sequence has none.
-no-frame : (w : What) (one : Bool) → (DrawsOnce w → ⊥) → false ≡ command_has_frame w one
-no-frame what.Render one more = absurd (more tt)
-no-frame (what.Pick x y) one more = absurd (more tt)
-no-frame (what.Demo number) one more = absurd (more tt)
-no-frame (what.Sequence name) one more = refl
-
--- The same by the words.
-without-frame : (words : Result Job WordFault) → (AskOnce words → ⊥) → false ≡ has_frame words
-without-frame (Ok job) more = no-frame job.what (has_one_frame job) more
-without-frame (Err why) more = refl
+without-frame : (words : Result Job WordFault) → AskForSequence words → false ≡ has_frame words
+without-frame (Ok job) more = no-frame job.command (has_one_frame job) more
+without-frame (Err why) more = absurd more
 
 -- With which numbers a run ends once it draws: not with that of the words.
 drew_decides : (r : Result (Unit {0}) Stop) (closed : Option Ended) (ran : Ran) (err : Taken) → IfErr r IsOfDrawing → Concludes r closed ran err → ran.status ≡ 2 → ⊥
@@ -107,9 +96,9 @@ by_path words rose stop.ReadFault closed ran err cause c nine = absurd (omega (a
 by_path words rose stop.WriteFault closed ran err cause c nine = absurd cause
 by_path words rose stop.Memory closed ran err cause c nine = absurd (omega (arith, nine, c.has_number ∙ ap status_number c.tells.0))
 
-sequence_decides : (words : Result Job WordFault) (number : ℕ) → (AskOnce words → ⊥) → (number ≡ 2 → ⊥) → WordsDecide words number
+sequence_decides : (words : Result Job WordFault) (number : ℕ) → AskForSequence words → (number ≡ 2 → ⊥) → WordsDecide words number
 sequence_decides (Ok job) number more other = other
-sequence_decides (Err why) number more other = absurd (more tt)
+sequence_decides (Err why) number more other = absurd more
 
 -- The number of a refusal.
 after_words : (r : Refusal) → IsAfterWords r → status_number (refusal_status r) ≡ 2 → ⊥
@@ -166,22 +155,20 @@ stop_decides words rose stop.ReadFault closed ran err cause c = fault_decides wo
 stop_decides words rose stop.WriteFault closed ran err cause c = absurd cause
 stop_decides words rose stop.Memory closed ran err cause c = memory_decides words ran.status (c.has_number ∙ ap status_number c.tells.0)
 
-module _ (words : List (List ℕ)) (o : Outside)
-    (source : NeedsNoSource (job words) (told o.shelf) → IsUncalled o.source)
-    (taken : TakesAtMost (MAX_BYTES + 1) o.source)
-    (calls : CallsShelf (fetches words) o.source o.shelf)
-    (most : IfSome (most_fetches (job words) o.source.left_old) (λ n. o.shelf.calls_new ≤ o.shelf.calls_old + n)) where
+module _ (words : List (List ℕ)) (o : Outside) where
+  -- What was read for a run.
+  abbrev Prepared : Result Task Stop → Type 0
+  Prepared = PreparesBy (task words) (demand (job words)) (job words) o.source o.shelf
+
   -- A run that drew.
   pub run_drew : (t : Task) (d : Drawing) → t ≡ Draw d → (r : Result (Unit {0}) Stop) (closed : Option Ended) (ran : Ran)
-      → IfSome (task words o.source.left_old (told o.shelf)) (λ line. PreparesTask line (ReadFailed o.source o.shelf) (Ok t))
-      → IsTaskOf (job words) t
-      → Ends (pool_verdict d) ⊥ o.out r → WritesLast o.out r → IfSome closed (IsFrameOf d) → HandsBack (has_one_frame d.job) r closed → IfErr r IsOfDrawing
+      → Prepared (Ok t) → Ends (pool_verdict d) ⊥ o.out r → WritesLast o.out r → IfSome closed (IsFrameOf d) → HandsBack (has_one_frame d.job) r closed → IfErr r IsOfDrawing
       → Concludes r closed ran o.err → IsRun words ran o
-  run_drew t d t_is r closed ran line_of is_of ends last frames handed stops c =
-      let line = subst (λ (x : Task). IfSome (task words o.source.left_old (told o.shelf)) (λ l. l ≡ Ok x)) t_is line_of in
-      let is = subst (IsTaskOf (job words)) t_is is_of in
+  run_drew t d t_is r closed ran from ends last frames handed stops c =
+      let line = subst (λ (x : Task). IfSome (task words o.source.left_old (told o.shelf)) (λ l. l ≡ Ok x)) t_is from.as_told in
+      let is = subst (IsTaskOf (job words)) t_is from.words_own in
       let answer = answered (pool_verdict d) o r closed ran (weaker (pool_verdict d) (ReadFailed o.source o.shelf) o.out r ends) c in
-      let one : has_one_frame d.job ≡ has_frame (job words) = one-frame d.job.what (has_one_frame d.job) is.1 ∙ ap has_frame (sym is.0) in
+      let one : has_one_frame d.job ≡ has_frame (job words) = ap (λ (c : Command). command_has_frame c (has_one_frame d.job)) (sym is.1) ∙ ap has_frame (sym is.0) in
       record {
         found = Ok (Draw d);
         as_told = line;
@@ -194,10 +181,7 @@ module _ (words : List (List ℕ)) (o : Outside)
         handed = subst (λ (b : Bool). IsSome ran.closed ↔ (GoesWithFrame ran.status × b ≡ true)) one (hands (has_one_frame d.job) r closed ran o.err c handed);
         closed = frame r closed ran o.err (IsFrameOf d) c frames;
         size = frame r closed ran o.err _ c (sizes (job words) d closed is.0 frames);
-        source = source;
-        taken = taken;
-        calls = calls;
-        most = most;
+        calls = from.calls;
       }
 
   -- Where there is no frame, none is handed back.
@@ -211,13 +195,11 @@ module _ (words : List (List ℕ)) (o : Outside)
 
   -- A run that wrote the images of a sequence.
   pub run_wrote : (t : Task) (i : Images) → t ≡ Sequence i → (r : Result (Unit {0}) Stop) (closed : Option Ended) (ran : Ran)
-      → IfSome (task words o.source.left_old (told o.shelf)) (λ line. PreparesTask line (ReadFailed o.source o.shelf) (Ok t))
-      → IsTaskOf (job words) t
-      → Ends (pools_verdict i) ⊥ o.out r → IfErr r IsOfDrawing → closed ≡ None
+      → Prepared (Ok t) → Ends (pools_verdict i) ⊥ o.out r → IfErr r IsOfDrawing → closed ≡ None
       → Concludes r closed ran o.err → IsRun words ran o
-  run_wrote t i t_is r closed ran line_of is_of ends stops none c =
-      let line = subst (λ (x : Task). IfSome (task words o.source.left_old (told o.shelf)) (λ l. l ≡ Ok x)) t_is line_of in
-      let is = subst (IsTaskOf (job words)) t_is is_of in
+  run_wrote t i t_is r closed ran from ends stops none c =
+      let line = subst (λ (x : Task). IfSome (task words o.source.left_old (told o.shelf)) (λ l. l ≡ Ok x)) t_is from.as_told in
+      let is = subst (IsTaskOf (job words)) t_is from.words_own in
       let answer = answered (pools_verdict i) o r closed ran (weaker (pools_verdict i) (ReadFailed o.source o.shelf) o.out r ends) c in
       let back : HandsBack false r closed = subst (λ (x : Option Ended). HandsBack false r x) (sym none) (no-frame-back r) in
       record {
@@ -228,14 +210,11 @@ module _ (words : List (List ℕ)) (o : Outside)
         complete = complete (task words o.source.left_old (told o.shelf)) (Ok (Sequence i)) ran.status o line answer;
         two = sequence_decides (job words) ran.status is.0 (drew_decides r closed ran o.err stops c);
         nine = λ nine. absurd (drew_by_no_path r closed ran o.err stops c nine);
-        unwritten = λ once. absurd (is.0 once);
+        unwritten = λ once. absurd (once is.0);
         handed = subst (λ (b : Bool). IsSome ran.closed ↔ (GoesWithFrame ran.status × b ≡ true)) (without-frame (job words) is.0) (hands false r closed ran o.err c back);
         closed = frame r closed ran o.err (IsFrameOfTask (Ok (Sequence i))) c (subst (λ (x : Option Ended). IfSome x (IsFrameOfTask (Ok (Sequence i)))) (sym none) tt);
         size = frame r closed ran o.err _ c (subst (λ (x : Option Ended). IfSome x (HasSizeOf (job words))) (sym none) tt);
-        source = source;
-        taken = taken;
-        calls = calls;
-        most = most;
+        calls = from.calls;
       }
 
   -- A run that stops before it draws hands none back,
@@ -256,13 +235,13 @@ module _ (words : List (List ℕ)) (o : Outside)
 
   -- A run that stopped before that.
   pub run_stopped : (s : Stop) (closed : Option Ended) (ran : Ran)
-      → IfSome (task words o.source.left_old (told o.shelf)) (λ line. PreparesTask line (ReadFailed o.source o.shelf) (Err s))
-      → HasCause (job words) (ReadFailed o.source o.shelf) s → (StopsByPath s → IsUncalled o.source) → Keeps o.out.old o.out.new → closed ≡ None
+      → Prepared (Err s) → Keeps o.out.old o.out.new → closed ≡ None
       → Concludes (Err s) closed ran o.err → IsRun words ran o
-  run_stopped s closed ran line cause uncalled kept none c =
+  run_stopped s closed ran from kept none c =
+      let cause = from.cause in
       let all = task words o.source.left_old (told o.shelf) in
       let found = found_by all s in
-      let is_told = found-told all (ReadFailed o.source o.shelf) s line in
+      let is_told = found-told all (ReadFailed o.source o.shelf) s from.as_told in
       let answer = answered (final_verdict found) o (Err s) closed ran (stopped all (job words) (ReadFailed o.source o.shelf) o.out s kept cause) c in
       let back : HandsBack {T = Unit {0}} (has_frame (job words)) (Err s) closed = subst (λ (x : Option Ended). HandsBack {T = Unit {0}} (has_frame (job words)) (Err s) x) (sym none) (handed-none (has_frame (job words)) s cause) in
       record {
@@ -272,13 +251,10 @@ module _ (words : List (List ℕ)) (o : Outside)
         answer = answer;
         complete = complete (task words o.source.left_old (told o.shelf)) (found) ran.status o is_told answer;
         two = stop_decides (job words) (ReadFailed o.source o.shelf) s closed ran o.err cause c;
-        nine = λ nine. uncalled (by_path (job words) (ReadFailed o.source o.shelf) s closed ran o.err cause c nine);
+        nine = λ nine. from.path (by_path (job words) (ReadFailed o.source o.shelf) s closed ran o.err cause c nine);
         unwritten = λ once. unwritten (Err s) closed ran o.out o.err c (unwritten-none s kept cause);
         handed = hands (has_frame (job words)) (Err s) closed ran o.err c back;
         closed = frame (Err s) closed ran o.err (IsFrameOfTask found) c (subst (λ (x : Option Ended). IfSome x (IsFrameOfTask found)) (sym none) tt);
         size = frame (Err s) closed ran o.err _ c (subst (λ (x : Option Ended). IfSome x (HasSizeOf (job words))) (sym none) tt);
-        source = source;
-        taken = taken;
-        calls = calls;
-        most = most;
+        calls = from.calls;
       }

@@ -4,7 +4,7 @@ use Rattle.std.specs.Io.KnownBytes.{Keeps}
 use Rattle.abuf_num.specs.declared.limits.TheConstants.{MAX_BYTES}
 use Rattle.abuf_frame.specs.Closing.{Ended}
 use Rattle.abuf_top.specs.Ending.{Concludes}
-use Rattle.abuf_top.specs.Fetches.{CallsAtMost, fetches, most_fetches}
+use Rattle.abuf_top.specs.Fetches.{CallsAtMost, demand}
 use Rattle.abuf_top.specs.Outside.{Outside, told}
 use Rattle.abuf_top.specs.Promise.{IsRun}
 use Rattle.abuf_top.specs.Reads.{IsUncalled, TakesAtMost}
@@ -33,10 +33,18 @@ pub ran_out : (words : List (List ℕ)) (o : Outside) (closed : Option Ended) (r
     → IsUncalled o.source → TakesAtMost (MAX_BYTES + 1) o.source → o.shelf.calls_new ≡ o.shelf.calls_old → o.shelf.faults_new ≡ o.shelf.faults_old
     → Keeps o.out.old o.out.new → closed ≡ None → Concludes (Err stop.Memory) closed ran o.err → IsRun words ran o
 ran_out words o closed ran still taken calls faults kept none c =
-    run_stopped words o (λ _. still) taken
-    (uncalled (fetches words o.source.left_old (told o.shelf)) _ _ _ _ calls faults)
-    (few (most_fetches (job words) o.source.left_old) _ _ calls)
-    stop.Memory closed ran (any (task words o.source.left_old (told o.shelf))) tt (λ _. still) kept none c
+    run_stopped words o stop.Memory closed ran (record {
+      as_told = any (task words o.source.left_old (told o.shelf));
+      cause = tt;
+      path = λ _. still;
+      words_own = tt;
+      calls = record {
+        source = λ _. still;
+        taken = taken;
+        calls = uncalled (demand (job words) o.source.left_old (told o.shelf)).fetches _ _ _ _ calls faults;
+        most = few (demand (job words) o.source.left_old (told o.shelf)).most _ _ calls;
+      };
+    }) kept none c
 
 -- A run of words is one of all that are the same.
 pub run_of_same : (words own : List (List ℕ)) (o : Outside) (ran : Ran) → words ≡ own → IsRun own ran o → IsRun words ran o

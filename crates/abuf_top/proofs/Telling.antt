@@ -1,25 +1,22 @@
 -- What is told of the source and of the shelf, and what follows for the verdicts on them.
-use Rattle.std.proofs.Common.{◌≡◌, ◌+◌, ◌++◌, ◌∷◌, [], ◌≤◌, ℕ, Bool, true, false, List, Option, Some, None, option_map, option_and_then, Result, Ok, Err, IfSome, refl, sym, ap, ◌∙◌, subst, append-nil, arith}
+use Rattle.std.proofs.Common.{◌≡◌, ◌+◌, ◌++◌, ◌∷◌, [], ◌≤◌, ℕ, Bool, true, false, List, length, Option, Some, None, option_map, option_and_then, Result, Ok, Err, IfSome, IfErr, refl, sym, ap, ◌∙◌, subst, append-nil, arith}
 use Rattle.std.specs.Io.KnownBytes.{Consumes, IsAtEnd}
 use Rattle.abuf_io.specs.Causes.{Rose}
-use Rattle.abuf_obj.specs.Scene.{names}
+use Rattle.abuf_obj.specs.Scene.{libraries}
 use Rattle.abuf_obj.specs.declared.scene.Obj.{Obj}
-use Rattle.abuf_mtl.specs.StandsFor.{StandsFor}
 use Rattle.abuf_scene.specs.declared.triangles.Triangle.{Triangle}
-use Rattle.abuf_cli.specs.Job.{Job}
-use Rattle.abuf_view.specs.declared.projection.Projected.{Projected}
 use Rattle.abuf_top.specs.Libraries.{Holdings, told_by, first_refusal, contents, asked, one_and}
-use Rattle.abuf_top.specs.Prepared.{Loads, Prepares, StopsAt}
-use Rattle.abuf_top.specs.Verdict.{library_verdict, material_verdict, drawing_verdict, or_refusal, shelf_for}
+use Rattle.abuf_top.specs.Prepared.{Loads, StopsAt}
+use Rattle.abuf_top.specs.Verdict.{library_verdict, material_verdict, or_refusal, shelf_for}
 use Rattle.abuf_top.specs.Fetches.{CallsAtMost}
+use Rattle.abuf_top.specs.Stopped.{HasReadCause}
 use Rattle.abuf_top.specs.declared.loaded.Loaded.{Loaded}
-use Rattle.abuf_top.specs.declared.task.Task.{Task}
 use Rattle.abuf_top.specs.declared.stop.Refusal.{Refusal}
 use Rattle.abuf_top.specs.declared.stop.Stop.{Stop}
 use Rattle.abuf_top.specs.declared.stop.Stop.TheVariants as stop
 
 -- more causes of a stop may be named,
-stops-weaker : {T : Type 0} (line : Result T Refusal) (few more : Type 0) (s : Stop) → (few → more) → StopsAt line few s → StopsAt line more s
+pub stops-weaker : {T : Type 0} (line : Result T Refusal) (few more : Type 0) (s : Stop) → (few → more) → StopsAt line few s → StopsAt line more s
 stops-weaker line few more (stop.Refused r) f h = h
 stops-weaker line few more (stop.PoolFull pool) f h = h
 stops-weaker line few more stop.ReadFault f h = f h
@@ -37,34 +34,13 @@ pub told-weaker : (line : Option (Result (List Triangle) Refusal)) (few more : T
 told-weaker None few more r f h = tt
 told-weaker (Some line) few more r f h = loads-weaker line few more r f h
 
--- and of a scene that is projected
-prepares-weaker : (line : Result Task Refusal) (few more : Type 0) (job : Job) (r : Result Projected Stop) → (few → more) → Prepares line few job r → Prepares line more job r
-prepares-weaker line few more job (Ok shown) f h = h
-prepares-weaker line few more job (Err s) f h = stops-weaker line few more s f h
-
--- a scene that is loaded is projected
-pub projected : (line : Option (Result (List Triangle) Refusal)) (rose : Type 0) (job : Job) (loaded : Loaded) (r : Result Projected Stop)
-    → IfSome line (λ l. Loads l rose (Ok loaded))
-    → ((libraries : List (List ℕ)) → StandsFor libraries loaded.materials → Prepares (drawing_verdict job (material_verdict loaded.obj libraries)) ⊥ job r)
-    → IfSome (option_map (drawing_verdict job) line) (λ l. Prepares l rose job r)
-projected None rose job loaded r h told = tt
-projected (Some line) rose job loaded r h told =
-    prepares-weaker (drawing_verdict job line) ⊥ rose job r (λ e. absurd e)
-    (subst (λ (l : Result (List Triangle) Refusal). Prepares (drawing_verdict job l) ⊥ job r) (sym h.2) (told h.0 h.1))
-
--- what stops a scene stops its drawing
-stops-drawing : (line : Result (List Triangle) Refusal) (rose : Type 0) (job : Job) (s : Stop) → StopsAt line rose s → StopsAt (drawing_verdict job line) rose s
-stops-drawing line rose job (stop.Refused r) h = ap (drawing_verdict job) h
-stops-drawing line rose job (stop.PoolFull pool) h = h
-stops-drawing line rose job stop.ReadFault h = h
-stops-drawing line rose job stop.WriteFault h = h
-stops-drawing line rose job stop.Memory h = h
-
--- and one that isn't loaded is no drawing
-pub unprojected : (line : Option (Result (List Triangle) Refusal)) (rose : Type 0) (job : Job) (s : Stop)
-    → IfSome line (λ l. StopsAt l rose s) → IfSome (option_map (drawing_verdict job) line) (λ l. StopsAt l rose s)
-unprojected None rose job s h = tt
-unprojected (Some line) rose job s h = stops-drawing line rose job s h
+pub cause-weaker : (few more : Type 0) (r : Result Loaded Stop) → (few → more) → IfErr r (HasReadCause few) → IfErr r (HasReadCause more)
+cause-weaker few more (Ok loaded) f h = tt
+cause-weaker few more (Err (stop.Refused r)) f h = h
+cause-weaker few more (Err (stop.PoolFull pool)) f h = h
+cause-weaker few more (Err stop.ReadFault) f h = f h
+cause-weaker few more (Err stop.WriteFault) f h = h
+cause-weaker few more (Err stop.Memory) f h = h
 
 -- a count that stays at 0 didn't rise
 pub still : Rose 0 0 → ⊥
@@ -103,3 +79,9 @@ read_told f Q (Some scene) None bytes read end h = absurd read
 read_told f Q (Some scene) (Some rest) bytes read end h =
     let same : bytes ≡ scene = sym (read ∙ ap (λ (r : List ℕ). bytes ++ r) end ∙ append-nil bytes) in
     subst (λ (s : List ℕ). IfSome (f s) Q) same h
+
+-- and so the libraries that they name
+pub most_told : (Q : ℕ → Type 0) (left new : Option (List ℕ)) (bytes : List ℕ) → Consumes left new bytes → IsAtEnd new → Q (length (libraries bytes))
+    → IfSome (option_map (λ (b : List ℕ). length (libraries b)) left) Q
+most_told Q None new bytes read end h = tt
+most_told Q (Some scene) new bytes read end h = read_told (λ b. Some (length (libraries b))) Q (Some scene) new bytes read end h

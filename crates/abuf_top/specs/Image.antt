@@ -13,28 +13,22 @@ use Rattle.abuf_cli.specs.Job.{Job}
 use Rattle.abuf_cli.specs.declared.job.Storage.{Storage}
 use Rattle.abuf_cli.specs.declared.job.Storage.TheVariants.{OneFrame, Bands, Layers}
 use Rattle.abuf_cli.specs.declared.job.What.{What}
-use Rattle.abuf_cli.specs.declared.job.What.TheVariants as what
 
--- What is drawn: the job, and the primitives of its scene in order, as their triangles on the screen and their paints. The
--- place of a primitive in the lists is its number.
+-- What is drawn: the job, what is made of it, and the primitives of its scene in order, as their triangles on the screen and their
+-- paints. The place of a primitive in the lists is its number.
 pub record Drawing : Type 0 where
   pub job : Job
+  pub what : What
   pub triangles : List Triangle
   pub paints : List Paint
 
-abbrev pub drawing_of : Job → List Primitive → Drawing
-drawing_of job primitives = record {
+abbrev pub drawing_of : Job → What → List Primitive → Drawing
+drawing_of job what primitives = record {
   job = job;
+  what = what;
   triangles = map (λ p. p.triangle) primitives;
   paints = map (λ p. p.paint) primitives;
 }
-
--- A sequence draws more than once, and every other command once.
-abbrev pub DrawsOnce : What → Type 0
-DrawsOnce what.Render = Unit {0}
-DrawsOnce (what.Pick x y) = Unit {0}
-DrawsOnce (what.Demo number) = Unit {0}
-DrawsOnce (what.Sequence name) = ⊥
 
 -- All pixels of a job's image.
 abbrev pub region_of : Job → Region

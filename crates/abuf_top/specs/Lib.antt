@@ -13,8 +13,8 @@ pub mod Images
 pub mod Verdict
 pub mod Outside
 pub mod Fetches
-pub mod Reads
 pub mod Prepared
+pub mod Reads
 pub mod Table
 pub mod Ending
 pub mod Promise

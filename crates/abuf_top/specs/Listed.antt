@@ -9,7 +9,7 @@ use Rattle.abuf_resolve.specs.declared.runs.Resolved.{Resolved}
 use Rattle.abuf_pam.specs.Image as pam
 use Rattle.abuf_picture.specs.Resolving.{Subject, Way, Agrees, FitsIn}
 use Rattle.abuf_cli.specs.declared.job.What.{What}
-use Rattle.abuf_cli.specs.declared.job.What.TheVariants.{Render, Pick, Demo, Sequence}
+use Rattle.abuf_cli.specs.declared.job.What.TheVariants.{Render, Pick, Demo}
 use Rattle.abuf_top.specs.Ending.{IsFrameOf, Produces, HandsBack}
 use Rattle.abuf_top.specs.Image.{Drawing, region_of, has_one_frame, total}
 use Rattle.abuf_top.specs.Summary.{summary_text, values_in}
@@ -50,11 +50,10 @@ abbrev pub IsMadeOf : What → Drawing → Resolved → List ℕ → Type 0
 IsMadeOf Render d all bytes = bytes ≡ image_from d all.sums
 IsMadeOf (Pick x y) d all bytes = Unit {0}
 IsMadeOf (Demo number) d all bytes = bytes ≡ summary_from d all
-IsMadeOf (Sequence name) d all bytes = Unit {0}
 
 -- Where there is a frame, the output is made of what the way gives for its lists.
 abbrev pub ComesFrom : Way → Drawing → Option Ended → List ℕ → Type 0
-ComesFrom way d closed bytes = IfSome closed (λ c. IsMadeOf d.job.what d (way (subject_of d) c.lists) bytes)
+ComesFrom way d closed bytes = IfSome closed (λ c. IsMadeOf d.what d (way (subject_of d) c.lists) bytes)
 
 abbrev pub MayComeFrom : Way → Drawing → Result (List ℕ) Stop → Option Ended → Type 0
 MayComeFrom way d (Ok bytes) closed = ComesFrom way d closed bytes

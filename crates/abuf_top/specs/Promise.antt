@@ -1,19 +1,18 @@
 -- What a run promises.
-use Rattle.std.specs.Prelude.{◌≡◌, ◌≤◌, ◌+◌, ◌*◌, ◌⊎◌, ◌↔◌, Bool, true, false, ℕ, List, IfSome, IsSome, Result, Ok, Err}
+use Rattle.std.specs.Prelude.{◌≡◌, ◌*◌, ◌⊎◌, ◌↔◌, Bool, true, false, ℕ, List, IfSome, IsSome, Result, Ok, Err}
 use Rattle.std.specs.Io.KnownBytes.{Keeps}
-use Rattle.abuf_num.specs.declared.limits.TheConstants.{MAX_BYTES}
 use Rattle.abuf_frame.specs.Closing.{Ended}
 use Rattle.abuf_cli.specs.Jobs.{job}
 use Rattle.abuf_cli.specs.Job.{Job}
-use Rattle.abuf_cli.specs.declared.job.What.{What}
-use Rattle.abuf_cli.specs.declared.job.What.TheVariants as what
+use Rattle.abuf_cli.specs.declared.job.Command.{Command}
+use Rattle.abuf_cli.specs.declared.job.Command.TheVariants as command
 use Rattle.abuf_cli.specs.declared.job.WordFault.{WordFault}
 use Rattle.abuf_top.specs.Ending.{IsFrameOf}
-use Rattle.abuf_top.specs.Fetches.{fetches, most_fetches, NeedsNoSource}
+use Rattle.abuf_top.specs.Fetches.{demand}
 use Rattle.abuf_top.specs.Image.{has_one_frame}
 use Rattle.abuf_top.specs.Outside.{Outside, told}
-use Rattle.abuf_top.specs.Prepared.{AskOnce, IsTaskOf}
-use Rattle.abuf_top.specs.Reads.{CallsShelf, IsUncalled, TakesAtMost}
+use Rattle.abuf_top.specs.Prepared.{AskForSequence, IsTaskOf}
+use Rattle.abuf_top.specs.Reads.{Calls, IsUncalled}
 use Rattle.abuf_top.specs.Table.{IsAnswer, IsComplete}
 use Rattle.abuf_top.specs.Verdict.{verdict, task, final_verdict}
 use Rattle.abuf_top.specs.declared.stop.Refusal.{Refusal}
@@ -22,14 +21,12 @@ use Rattle.abuf_top.specs.declared.task.Task.TheVariants.{Draw, Sequence}
 use Rattle.abuf_top.specs.declared.top.Ran.{Ran}
 
 -- The words give a job whose fragments are all in one frame: those of a sequence never are.
-abbrev pub command_has_frame : What → Bool → Bool
-command_has_frame what.Render one_frame = one_frame
-command_has_frame (what.Pick x y) one_frame = one_frame
-command_has_frame (what.Demo number) one_frame = one_frame
-command_has_frame (what.Sequence name) one_frame = false
+abbrev pub command_has_frame : Command → Bool → Bool
+command_has_frame (command.Draw what) one_frame = one_frame
+command_has_frame (command.Sequence name) one_frame = false
 
 abbrev pub has_frame : Result Job WordFault → Bool
-has_frame (Ok job) = command_has_frame job.what (has_one_frame job)
+has_frame (Ok job) = command_has_frame job.command (has_one_frame job)
 has_frame (Err why) = false
 
 -- Whatever is told, what a run does is a task of its words, or it is refused.
@@ -64,9 +61,7 @@ WordsDecide (Err why) number = (number ≡ 2) ⊎ (number ≡ 8)
 -- verdict, or memory ran out. `two`: when status 2 comes, whatever is told. `nine`: with status 9 the source isn't called, whatever
 -- is told. `unwritten`: but for a sequence, something is written
 -- with the statuses 0 and 7 alone. `handed`: when the closed frame is handed back. `closed`: its lists are those of the drawing's
--- fragments. `size`: what it has room for. `source`: when the source isn't called. `taken`: at most one byte more is taken from it
--- than the longest scene has, whatever becomes of the run. `calls`: how often the shelf is called, where what that hangs on is
--- told, and `most`: how often at most, where the source alone tells.
+-- fragments. `size`: what it has room for. `calls`: how the run calls the source and the shelf.
 pub record IsRun (words : List (List ℕ)) (ran : Ran) (o : Outside) : Type 0 where
   pub found : Result Task Refusal
   pub as_told : IfSome (task words o.source.left_old (told o.shelf)) (λ t. t ≡ found)
@@ -75,11 +70,8 @@ pub record IsRun (words : List (List ℕ)) (ran : Ran) (o : Outside) : Type 0 wh
   pub complete : IsComplete (verdict words o.source.left_old (told o.shelf)) ran.status o
   pub two : WordsDecide (job words) ran.status
   pub nine : ran.status ≡ 9 → IsUncalled o.source
-  pub unwritten : AskOnce (job words) → ((ran.status ≡ 0) ⊎ (ran.status ≡ 7) → ⊥) → Keeps o.out.old o.out.new
+  pub unwritten : (AskForSequence (job words) → ⊥) → ((ran.status ≡ 0) ⊎ (ran.status ≡ 7) → ⊥) → Keeps o.out.old o.out.new
   pub handed : IsSome ran.closed ↔ (GoesWithFrame ran.status × has_frame (job words) ≡ true)
   pub closed : IfSome ran.closed (IsFrameOfTask found)
   pub size : IfSome ran.closed (HasSizeOf (job words))
-  pub source : NeedsNoSource (job words) (told o.shelf) → IsUncalled o.source
-  pub taken : TakesAtMost (MAX_BYTES + 1) o.source
-  pub calls : CallsShelf (fetches words) o.source o.shelf
-  pub most : IfSome (most_fetches (job words) o.source.left_old) (λ n. o.shelf.calls_new ≤ o.shelf.calls_old + n)
+  pub calls : Calls (demand (job words) o.source.left_old (told o.shelf)) o.source o.shelf

@@ -77,14 +77,6 @@ HasReadCause rose stop.ReadFault = rose
 HasReadCause rose stop.WriteFault = ⊥
 HasReadCause rose stop.Memory = Unit {0}
 
--- The same of all that is read after the words: a path may refuse too.
-abbrev pub HasTaskCause : Type 0 → Stop → Type 0
-HasTaskCause rose (stop.Refused r) = IsAfterWords r
-HasTaskCause rose (stop.PoolFull pool) = ⊥
-HasTaskCause rose stop.ReadFault = rose
-HasTaskCause rose stop.WriteFault = ⊥
-HasTaskCause rose stop.Memory = Unit {0}
-
 -- The path stops the run.
 abbrev pub StopsByPath : Stop → Type 0
 StopsByPath (stop.Refused r) = IsOfPath r

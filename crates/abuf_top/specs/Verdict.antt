@@ -15,7 +15,8 @@ use Rattle.abuf_cli.specs.Job.{Job}
 use Rattle.abuf_cli.specs.declared.job.Storage.{Storage}
 use Rattle.abuf_cli.specs.declared.job.Storage.TheVariants.{OneFrame, Bands, Layers}
 use Rattle.abuf_cli.specs.declared.job.What.{What}
-use Rattle.abuf_cli.specs.declared.job.What.TheVariants as what
+use Rattle.abuf_cli.specs.declared.job.Command.{Command}
+use Rattle.abuf_cli.specs.declared.job.Command.TheVariants as command
 use Rattle.abuf_cli.specs.declared.job.WordFault.{WordFault}
 use Rattle.abuf_cli.specs.declared.job.WordFault.TheVariants as fault
 use Rattle.abuf_sequence.specs.declared.path.Shot.{Shot}
@@ -90,9 +91,13 @@ fault_verdict scene shelf None = option_map (library_verdict scene) (shelf_for s
 abbrev pub scene_verdict : Option Holdings → List ℕ → Option (Result (List Triangle) Refusal)
 scene_verdict shelf bytes = if nat_lt MAX_BYTES (length bytes) then Some (Err SceneTooLong) else fault_verdict (scene_of bytes) shelf (obj_fault bytes)
 
--- The scene of a command: that of the source and the shelf, or `demo`'s own.
+-- The scene of the source and the shelf.
+abbrev pub scene_read : Option (List ℕ) → Option Holdings → Option (Result (List Triangle) Refusal)
+scene_read scene shelf = option_and_then (scene_verdict shelf) scene
+
+-- The scene of a drawing: that one, or `demo`'s own.
 abbrev pub loaded : What → Option (List ℕ) → Option Holdings → Option (Result (List Triangle) Refusal)
-loaded what scene shelf = option_and_then (scene_verdict (shelf_of what shelf)) (scene_for what scene)
+loaded what scene shelf = scene_read (scene_for what scene) (shelf_of what shelf)
 
 abbrev pub word_refusal : WordFault → Refusal
 word_refusal fault.Words = Words
@@ -100,9 +105,9 @@ word_refusal (fault.Value option) = Value option
 word_refusal fault.Memory = Words
 
 -- One drawing of a scene's triangles, unless the scene is refused.
-abbrev pub drawing_verdict : Job → Result (List Triangle) Refusal → Result Task Refusal
-drawing_verdict job (Err refusal) = Err refusal
-drawing_verdict job (Ok triangles) = Ok (Draw (drawing_of job (prims job.camera triangles)))
+abbrev pub drawing_verdict : Job → What → Result (List Triangle) Refusal → Result Task Refusal
+drawing_verdict job what (Err refusal) = Err refusal
+drawing_verdict job what (Ok triangles) = Ok (Draw (drawing_of job what (prims job.camera triangles)))
 
 -- An image of them for each shot.
 abbrev pub images_verdict : Job → List Shot → Result (List Triangle) Refusal → Result Task Refusal
@@ -112,22 +117,20 @@ images_verdict job shots (Ok triangles) = Ok (Sequence (record { plan = plan_of 
 -- The path, and then the scene.
 abbrev pub shots_verdict : Job → Option (List ℕ) → Option Holdings → Result (List Shot) Refusal → Option (Result Task Refusal)
 shots_verdict job scene shelf (Err refusal) = Some (Err refusal)
-shots_verdict job scene shelf (Ok shots) = option_map (images_verdict job shots) (loaded job.what scene shelf)
+shots_verdict job scene shelf (Ok shots) = option_map (images_verdict job shots) (scene_read scene shelf)
 
 abbrev pub sequence_verdict : Job → List ℕ → Option (List ℕ) → Option Holdings → Option (Result Task Refusal)
 sequence_verdict job name scene None = None
 sequence_verdict job name scene (Some held) = shots_verdict job scene (Some held) (path_verdict (held name))
 
-abbrev pub command_verdict : What → Job → Option (List ℕ) → Option Holdings → Option (Result Task Refusal)
-command_verdict what.Render job scene shelf = option_map (drawing_verdict job) (loaded job.what scene shelf)
-command_verdict (what.Pick x y) job scene shelf = option_map (drawing_verdict job) (loaded job.what scene shelf)
-command_verdict (what.Demo number) job scene shelf = option_map (drawing_verdict job) (loaded job.what scene shelf)
-command_verdict (what.Sequence name) job scene shelf = sequence_verdict job name scene shelf
+abbrev pub command_verdict : Command → Job → Option (List ℕ) → Option Holdings → Option (Result Task Refusal)
+command_verdict (command.Draw what) job scene shelf = option_map (drawing_verdict job what) (loaded what scene shelf)
+command_verdict (command.Sequence name) job scene shelf = sequence_verdict job name scene shelf
 
 -- The words, and then the path of a sequence and the scene.
 abbrev pub words_verdict : Result Job WordFault → Option (List ℕ) → Option Holdings → Option (Result Task Refusal)
 words_verdict (Err why) scene shelf = Some (Err (word_refusal why))
-words_verdict (Ok job) scene shelf = command_verdict job.what job scene shelf
+words_verdict (Ok job) scene shelf = command_verdict job.command job scene shelf
 
 -- The first refusal of the words, the path, the scene, the libraries and the materials, or what is drawn.
 unfoldable pub task : List (List ℕ) → Option (List ℕ) → Option Holdings → Option (Result Task Refusal)

@@ -1,46 +1,59 @@
 // What is drawn, once the words, the scene and its libraries are read.
 ghost use Rattle.std.specs.Prelude.{◌≡◌};
 ghost use Rattle.abuf_picture.specs.Resolving.{composited, Agrees};
-ghost use Rattle.abuf_top.specs.Image.{region_of, DrawsOnce};
+ghost use Rattle.abuf_cli.specs.Sound.{IsWhat, IsStorage, drawing_name};
+ghost use Rattle.abuf_cli.specs.declared.job.Command.TheVariants as command;
+ghost use Rattle.abuf_top.specs.Image.{region_of};
 ghost use Rattle.abuf_top.specs.Listed.{subject_of};
 
-use abuf_cli::Job;
+use abuf_cli::{Job, What};
 use abuf_picture::{Primitives, Target, compositing_law};
 use abuf_raster::Region;
 use abuf_view::Projected;
 use std::marker::Model;
 
-/// A job of one drawing, and the primitives of its scene.
+/// A job of one drawing, what is made of it, and the primitives of its scene.
 #[derive(Drop)]
 pub struct Drawing {
     job: Job,
+    what: What,
     shown: Projected,
 }
 
 impl Model for Drawing {
-    ghost use Rattle.abuf_top.specs.Image.{Drawing, DrawsOnce};
+    ghost use Rattle.std.specs.Prelude.{◌≡◌};
+    ghost use Rattle.abuf_cli.specs.Sound.{IsJob};
+    ghost use Rattle.abuf_cli.specs.declared.job.Command.TheVariants as command;
+    ghost use Rattle.abuf_top.specs.Image.{Drawing};
 
     ghost Value = { Drawing };
 
-    ghost view = { λ d. record { job = d.job; triangles = d.shown.tris; paints = d.shown.paints } };
+    ghost view = { λ d. record { job = d.job; what = d.what; triangles = d.shown.tris; paints = d.shown.paints } };
 
-    ghost invariant = { λ d. DrawsOnce d.job.what };
+    ghost invariant = { λ d. (d.job.command ≡ command.Draw d.what) × IsJob d.job };
 }
 
 impl Drawing {
     /// The drawing of a job's scene.
-    pub fn new(job: Job, shown: Projected) -> Drawing
-        requires once { DrawsOnce job.what }
-        ensures { result ≡ record { job = job; triangles = shown.tris; paints = shown.paints } }
+    pub fn new(job: Job, what: What, shown: Projected) -> Drawing
+        requires { job.command ≡ command.Draw what }
+        ensures { result ≡ record { job = job; what = what; triangles = shown.tris; paints = shown.paints } }
     {
-        Drawing { job, shown }
+        Drawing { job, what, shown }
     }
 
     pub fn job(&self) -> &Job
-        ensures value { result.now ≡ self.now.job }
-        ensures once { DrawsOnce result.now.what }
+        ensures { result.now ≡ self.now.job }
     {
         &self.job
+    }
+
+    pub fn what(&self) -> What
+        ensures value { result ≡ self.now.what }
+        ensures within { IsWhat self.now.job.camera.width self.now.job.camera.height result }
+        ensures storage { IsStorage self.now.job.camera.height (drawing_name result) self.now.job.storage }
+    {
+        self.what
     }
 
     pub fn shown(&self) -> &Projected

@@ -2,22 +2,23 @@
 ghost use Rattle.std.specs.Prelude.{◌≡◌, ◌⊎◌, ◌≤◌, ◌+◌, [], List as Items, ℕ, length, true, IfOk, IfErr, IfSome, None, OnOk, option_and_then};
 ghost use Rattle.abuf_num.specs.declared.limits.TheConstants.{MAX_BYTES};
 ghost use Rattle.abuf_io.specs.Causes.{Rose};
+ghost use Rattle.abuf_cli.specs.declared.job.What.TheVariants.{Demo};
 ghost use Rattle.abuf_obj.specs.Sound.{IsScene};
 ghost use Rattle.abuf_obj.specs.Scene.{points, faces, names, libraries, obj_fault};
 ghost use Rattle.abuf_obj.specs.Faults.{TellsFirst};
-ghost use Rattle.abuf_top.specs.Fetches.{fault_fetches, scene_fetches, load_fetches, most_for_libraries, most_for_load, LoadNeedsNoSource};
+ghost use Rattle.abuf_top.specs.Fetches.{fault_fetches, scene_demand, load_demand};
 ghost use Rattle.abuf_top.specs.Libraries.{asked};
 ghost use Rattle.abuf_top.specs.Outside.{source_change, shelf_change};
-ghost use Rattle.abuf_top.specs.Reads.{AnswersAs, AnswersAsHeld, CallsShelf, CallsHeld, IsUncalled, TakesAtMost};
+ghost use Rattle.abuf_top.specs.Reads.{AnswersAsHeld, CallsHeld, LoadsBy};
 ghost use Rattle.abuf_top.specs.Prepared.{Loads};
 ghost use Rattle.abuf_top.specs.Stopped.{HasReadCause};
-ghost use Rattle.abuf_top.specs.Verdict.{material_verdict, library_verdict, fault_verdict, scene_verdict, scene_of, loaded};
+ghost use Rattle.abuf_top.specs.Verdict.{material_verdict, library_verdict, fault_verdict, scene_verdict, scene_of, scene_read, loaded};
 
 use crate::demonstration::demonstrate;
 use crate::libraries::read_libraries;
 use crate::loaded::Loaded;
 use crate::stop::{Refusal, Stop};
-use abuf_cli::{Job, What, WordFault};
+use abuf_cli::{What, WordFault};
 use abuf_io::{ReadEnd, Shelf, Source, read_all};
 use abuf_num::List;
 use abuf_num::limits::MAX_BYTES;
@@ -138,50 +139,34 @@ pub fn read_text<H: Shelf>(alloc: Global, bytes: List<u8>, shelf: &mut H) -> Res
     read_bytes(alloc, bytes, shelf)
 }
 
-// The scene that the source has left, and its libraries.
+/// The scene that the source has left, and its libraries.
 #[tactic(auto, using(crate::proofs::Taking::takes))]
-fn read_scene<S: Source, H: Shelf>(
+pub fn read_scene<S: Source, H: Shelf>(
     alloc: Global,
     scene: &mut S,
     shelf: &mut H,
 ) -> Result<Loaded, Stop>
-    ensures told { AnswersAs (λ left held. option_and_then (scene_verdict held) left) (λ verdict rose. Loads verdict rose result)
-        (source_change S.left S.faults scene.old scene.new) (shelf_change H.tells H.holds H.calls H.faults shelf.old shelf.new) }
-    ensures cause { IfErr result (HasReadCause (Rose (S.faults scene.old) (S.faults scene.new) ⊎ Rose (H.faults shelf.old) (H.faults shelf.new))) }
-    ensures scene { IfOk result (λ loaded. IsScene loaded.obj) }
-    ensures later { H.faults shelf.old ≤ H.faults shelf.new }
-    ensures calls { CallsShelf (λ left held. option_and_then (scene_fetches held) left)
-        (source_change S.left S.faults scene.old scene.new) (shelf_change H.tells H.holds H.calls H.faults shelf.old shelf.new) }
-    ensures most { IfSome (most_for_libraries (S.left scene.old)) (λ n. H.calls shelf.new ≤ H.calls shelf.old + n) }
-    ensures taken { TakesAtMost (MAX_BYTES + 1) (source_change S.left S.faults scene.old scene.new) }
+    ensures { LoadsBy scene_read scene_demand (source_change S.left S.faults scene.old scene.new)
+        (shelf_change H.tells H.holds H.calls H.faults shelf.old shelf.new) result }
 {
     let bytes = read_all(alloc, scene, MAX_BYTES)?;
     read_bytes(alloc, bytes, shelf)
 }
 
-/// The scene of a job, and its libraries: `demo` has its own, and calls neither the source nor the shelf.
+/// The scene of a drawing, and its libraries: `demo` has its own, and calls neither the source nor the shelf.
 #[tactic(auto, using(crate::proofs::Taking::takes_none))]
 pub fn load<S: Source, H: Shelf>(
     alloc: Global,
-    job: &Job,
+    what: What,
     scene: &mut S,
     shelf: &mut H,
 ) -> Result<Loaded, Stop>
-    ensures told { AnswersAs (loaded job.now.what) (λ verdict rose. Loads verdict rose result)
-        (source_change S.left S.faults scene.old scene.new) (shelf_change H.tells H.holds H.calls H.faults shelf.old shelf.new) }
-    ensures cause { IfErr result (HasReadCause (Rose (S.faults scene.old) (S.faults scene.new) ⊎ Rose (H.faults shelf.old) (H.faults shelf.new))) }
-    ensures scene { IfOk result (λ loaded. IsScene loaded.obj) }
-    ensures calls { CallsShelf (load_fetches job.now.what)
-        (source_change S.left S.faults scene.old scene.new) (shelf_change H.tells H.holds H.calls H.faults shelf.old shelf.new) }
-    ensures later { H.faults shelf.old ≤ H.faults shelf.new }
-    ensures most { IfSome (most_for_load job.now.what (S.left scene.old)) (λ n. H.calls shelf.new ≤ H.calls shelf.old + n) }
-    ensures source { LoadNeedsNoSource job.now.what → IsUncalled (source_change S.left S.faults scene.old scene.new) }
-    ensures taken { TakesAtMost (MAX_BYTES + 1) (source_change S.left S.faults scene.old scene.new) }
+    requires { (number : ℕ) → what ≡ Demo number → (1 ≤ number) × (number ≤ 200000) }
+    ensures { LoadsBy (loaded what) (load_demand what) (source_change S.left S.faults scene.old scene.new)
+        (shelf_change H.tells H.holds H.calls H.faults shelf.old shelf.new) result }
 {
-    match *job.what() {
-        What::Render | What::Pick { .. } | What::Sequence { .. } => {
-            read_scene(alloc, scene, shelf)
-        }
+    match what {
+        What::Render | What::Pick { .. } => read_scene(alloc, scene, shelf),
         What::Demo { number } => demonstrate(alloc, number),
     }
 }

@@ -1,10 +1,11 @@
 // A scene that was read.
+use crate::drawing::Drawing;
 use crate::stop::Stop;
-use abuf_cli::Job;
+use crate::task::Task;
+use abuf_cli::{Job, What};
 use abuf_mtl::Materials;
 use abuf_obj::Obj;
-use abuf_scene::{Scene, assemble};
-use abuf_view::{Projected, project_faces};
+use abuf_view::project_faces;
 use std::alloc::Global;
 use std::thread::Threads;
 
@@ -16,25 +17,28 @@ pub struct Loaded {
 }
 
 impl Loaded {
-    ghost use Rattle.std.specs.Prelude.{List as Items, ℕ, IfErr, IfOk};
+    ghost use Rattle.std.specs.Prelude.{◌≡◌, List as Items, ℕ, IfErr, IfOk, Ok};
     ghost use Rattle.abuf_obj.specs.Sound.{IsScene};
     ghost use Rattle.abuf_mtl.specs.StandsFor.{StandsFor};
-    ghost use Rattle.abuf_view.specs.Primitives.{AreInLimits};
-    ghost use Rattle.abuf_top.specs.Prepared.{Prepares, Assembles};
+    ghost use Rattle.abuf_cli.specs.declared.job.Command.TheVariants as command;
+    ghost use Rattle.abuf_top.specs.Prepared.{Gives, IsTaskOf};
     ghost use Rattle.abuf_top.specs.Stopped.{HasReadCause};
     ghost use Rattle.abuf_top.specs.Verdict.{material_verdict, drawing_verdict};
 
-    /// The primitives of the scene, on the job's threads. What was read of the file is freed.
-    pub fn project<R: Threads + Sync>(
+    /// The drawing of the scene, which is projected on the job's threads. What was read of the file is freed.
+    pub fn drawing<R: Threads + Sync>(
         self,
         rt: &R,
         alloc: Global,
-        job: &Job,
-    ) -> Result<Projected, Stop>
+        job: Job,
+        what: What,
+    ) -> Result<Task, Stop>
         requires scene { IsScene self.obj }
+        requires command { job.command ≡ command.Draw what }
         ensures told { (libraries : Items (Items ℕ)) → StandsFor libraries self.materials
-            → Prepares (drawing_verdict job.now (material_verdict self.obj libraries)) ⊥ job.now result }
+            → Gives (drawing_verdict job what (material_verdict self.obj libraries)) ⊥ result }
         ensures cause { IfErr result (HasReadCause ⊥) }
+        ensures own { IfOk result (IsTaskOf (Ok job)) }
     {
         let shown = project_faces(
             rt,
@@ -44,17 +48,6 @@ impl Loaded {
             job.camera(),
             job.threads(),
         )?;
-        Ok(shown)
-    }
-
-    /// The triangles of the scene, as they stand in it. What was read of the file is freed.
-    pub fn assemble(self, alloc: Global) -> Result<Scene, Stop>
-        requires scene { IsScene self.obj }
-        ensures told { (libraries : Items (Items ℕ)) → StandsFor libraries self.materials → Assembles (material_verdict self.obj libraries) ⊥ result }
-        ensures cause { IfErr result (HasReadCause ⊥) }
-        ensures limits { IfOk result (λ scene. AreInLimits scene.triangles) }
-    {
-        let scene = assemble(alloc, &self.obj, &self.materials)?;
-        Ok(scene)
+        Ok(Task::Draw(Drawing::new(job, what, shown)))
     }
 }

@@ -32,11 +32,10 @@ fn output_of<R: Threads + Sync, W: Resolve, G: Gate + Sync>(
 ) -> Outcome<List<u8>>
     ensures { IsOutputBy (W.gives way.now) drawing.now result.result result.closed }
 {
-    match *drawing.job().what() {
+    match drawing.what() {
         What::Render => render(rt, alloc, drawing, way, gate),
         What::Pick { x, y } => pick(rt, alloc, drawing, x, y, gate),
         What::Demo { number } => summarize(rt, alloc, drawing, number, way, gate),
-        What::Sequence { .. } => unreachable!(),
     }
 }
 

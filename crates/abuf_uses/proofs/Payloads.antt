@@ -3,12 +3,12 @@ use Rattle.std.proofs.Common.{◌≡◌, ℕ, ◌+◌, ◌==◌, ◌&&◌, if◌
 use Rattle.std.specs.List.{filter}
 use Rattle.std.proofs.lemmas.List.Sums.{sum_by-cons}
 use Rattle.std.proofs.lemmas.List.Sorted.{sum_by-IsPermutation}
-use Rattle.abuf_frame.specs.Counting.{times}
+use Rattle.abuf_num.specs.Counting.{times}
 use Rattle.abuf_frame.specs.Draws.{Adds, Draws, payloads_at}
 use Rattle.abuf_frame.specs.Steps.{united}
 use Rattle.abuf_frame.specs.declared.view.Entry.{Entry}
 use Rattle.abuf_frame.specs.declared.view.View.{View}
-use Rattle.abuf_frame.proofs.Counting.{same_times}
+use Rattle.abuf_num.proofs.Counting.{same_times}
 use Rattle.abuf_frame.proofs.Draws.{adds-append}
 
 -- one for an item that has this pixel and this payload

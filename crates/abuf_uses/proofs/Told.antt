@@ -10,6 +10,8 @@ use Rattle.abuf_cli.specs.Jobs as words
 use Rattle.abuf_cli.specs.Job.{Job}
 use Rattle.abuf_cli.specs.declared.job.What.{What}
 use Rattle.abuf_cli.specs.declared.job.What.TheVariants as what
+use Rattle.abuf_cli.specs.declared.job.Command.{Command}
+use Rattle.abuf_cli.specs.declared.job.Command.TheVariants as command
 use Rattle.abuf_cli.specs.declared.job.WordFault.{WordFault}
 use Rattle.abuf_top.specs.Demonstration.{demo_shelf}
 use Rattle.abuf_top.specs.Libraries.{Holdings}
@@ -48,28 +50,25 @@ scene_told shelf bytes =
     elim (nat_lt MAX_BYTES (length bytes)) as (λ (v : Bool). One (if v then Some (Err SceneTooLong) else fault_verdict (scene_of bytes) (Some shelf) (obj_fault bytes)))
     [ true ↦ (_, refl) | false ↦ lines_told (scene_of bytes) shelf (obj_fault bytes) ]
 
--- So it is with every command,
+-- So it is with every drawing,
 loaded_told : (w : What) (scene : List ℕ) (shelf : Holdings) → One (loaded w (Some scene) (Some shelf))
 loaded_told what.Render scene shelf = scene_told shelf scene
 loaded_told (what.Pick x y) scene shelf = scene_told shelf scene
 loaded_told (what.Demo number) scene shelf = scene_told demo_shelf (demo.obj number)
-loaded_told (what.Sequence name) scene shelf = scene_told shelf scene
 
 -- with a path,
 shots_told : (job : Job) (scene : List ℕ) (shelf : Holdings) (path : Result (List Shot) Refusal) → One (shots_verdict job (Some scene) (Some shelf) path)
 shots_told job scene shelf (Err refusal) = (_, refl)
-shots_told job scene shelf (Ok shots) = mapped (images_verdict job shots) (loaded job.what (Some scene) (Some shelf)) (loaded_told job.what scene shelf)
+shots_told job scene shelf (Ok shots) = mapped (images_verdict job shots) (scene_verdict (Some shelf) scene) (scene_told shelf scene)
 
-command_told : (w : What) (job : Job) (scene : List ℕ) (shelf : Holdings) → One (command_verdict w job (Some scene) (Some shelf))
-command_told what.Render job scene shelf = mapped (drawing_verdict job) (loaded job.what (Some scene) (Some shelf)) (loaded_told job.what scene shelf)
-command_told (what.Pick x y) job scene shelf = mapped (drawing_verdict job) (loaded job.what (Some scene) (Some shelf)) (loaded_told job.what scene shelf)
-command_told (what.Demo number) job scene shelf = mapped (drawing_verdict job) (loaded job.what (Some scene) (Some shelf)) (loaded_told job.what scene shelf)
-command_told (what.Sequence name) job scene shelf = shots_told job scene shelf (path_verdict (shelf name))
+command_told : (c : Command) (job : Job) (scene : List ℕ) (shelf : Holdings) → One (command_verdict c job (Some scene) (Some shelf))
+command_told (command.Draw w) job scene shelf = mapped (drawing_verdict job w) (loaded w (Some scene) (Some shelf)) (loaded_told w scene shelf)
+command_told (command.Sequence name) job scene shelf = shots_told job scene shelf (path_verdict (shelf name))
 
 -- and with all words.
 words_told : (job : Result Job WordFault) (scene : List ℕ) (shelf : Holdings) → One (words_verdict job (Some scene) (Some shelf))
 words_told (Err why) scene shelf = (_, refl)
-words_told (Ok job) scene shelf = command_told job.what job scene shelf
+words_told (Ok job) scene shelf = command_told job.command job scene shelf
 
 pub told : (texts : List (List ℕ)) (scene : List ℕ) (shelf : Holdings) → (t : Result Task Refusal) × (task texts (Some scene) (Some shelf) ≡ Some t)
 unfolding task

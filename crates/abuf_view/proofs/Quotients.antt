@@ -1,28 +1,10 @@
 -- Quotients by a reciprocal.
-use Rattle.std.proofs.Common.{◌≡◌, ◌∙◌, ℕ, zero, suc, ◌+◌, ◌*◌, ◌/◌, ◌<◌, ◌≤◌, ℤ, pos, negsuc, ◌*ℤ◌, ◌<ℤ◌, ◌≤ℤ◌, neg_ℤ, unsigned_abs, arith, refl, sym, ap, mul-le-mul, mul-le-mul_left}
-use Rattle.std.proofs.Math.Nat.{div-mul-le_self, div-div-eq-div-mul, mul-div-mul_left, div-eq_of_lt}
+use Rattle.std.proofs.Common.{◌≡◌, ◌∙◌, ℕ, zero, suc, ◌+◌, ◌*◌, ◌/◌, ◌<◌, ◌≤◌, ℤ, pos, negsuc, ◌*ℤ◌, ◌<ℤ◌, ◌≤ℤ◌, neg_ℤ, unsigned_abs, arith, refl, sym, ap}
+use Rattle.std.proofs.Math.Nat.{div-div-eq-div-mul, mul-div-mul_left, div-eq_of_lt}
 use Rattle.std.proofs.lemmas.Int.{ints}
-use Rattle.std.proofs.lemmas.Nat.{le-div, div_below}
+use Rattle.std.proofs.lemmas.Nat.{div_below}
 use Rattle.abuf_num.specs.Division.{floor_div, round_div, nearest}
 use Rattle.abuf_view.specs.Screen.{signed_by}
-
--- a product with a reciprocal of m, over the 2 ^ 64 that the reciprocal is of, is at most the quotient by m
-pub near_below : (n m r k : ℕ) → 0 < k → r * m ≤ k → n * r / k * m ≤ n
-near_below n m r k h l =
-    let q = n * r / k in
-    let a : q * k ≤ n * r = div-mul-le_self (n * r) k in
-    let b : q * k * m ≤ n * r * m = mul-le-mul a (omega arith) in
-    let c : n * (r * m) ≤ n * k = mul-le-mul_left n l in
-    let d : q * m * k < (n + 1) * k = omega (arith, b, c) in
-    let e : q * m * k / k ≤ n = let f = div_below (q * m * k) k (n + 1) h d in omega (arith, f) in
-    omega (arith, le-div (q * m) (q * m * k) k h (omega arith), e)
-
--- A number whose product with the divisor is near enough is the quotient.
-pub quotient_is : (n m q : ℕ) → 0 < m → q * m ≤ n → n < (q + 1) * m → q ≡ n / m
-quotient_is n m q h a b =
-    let low = le-div q n m h a in
-    let high = div_below n m (q + 1) h b in
-    omega (arith, low, high)
 
 -- the rounding shift by powers of two
 pub nearest_shift : (a w : ℕ) → 0 < w → (a + 256 * w) / 512 / w ≡ nearest (128 * a) (65536 * w)

@@ -6,12 +6,12 @@ ghost use Rattle.abuf_scene.specs.Lookup.{look_up, line_if_none};
 ghost use Rattle.abuf_view.specs.Eye.{clipped_by, shown_by, tris_by, paints_by};
 ghost use Rattle.abuf_view.specs.Runs.{unknown_in};
 
+use crate::palette::Palette;
 use crate::point_table::PointTable;
 use crate::primitive_lists::PrimitiveLists;
-use abuf_mtl::Materials;
 use abuf_num::{NoMemory, Paint};
 use abuf_obj::{Face, Obj};
-use abuf_scene::{SceneFault, fan_triangle, paint_of};
+use abuf_scene::{SceneFault, fan_triangle};
 use std::alloc::Global;
 
 impl PrimitiveLists {
@@ -60,17 +60,18 @@ impl PrimitiveLists {
         &mut self,
         table: &PointTable,
         obj: &Obj,
-        materials: &Materials,
+        palette: &Palette,
         face: &Face,
     ) -> Result<(), SceneFault>
         requires points { table.now.points.now ≡ obj.now.points }
+        requires names { palette.now.names.value ≡ obj.now.names }
         requires face { IsFace (length obj.now.points) (length obj.now.names) face.now }
-        ensures fault { IfErr result (Tells (line_if_none face.now.line (paint_by (look_up materials.now) obj.now.names face.now.name))) }
-        ensures known { OnOk result (line_if_none face.now.line (paint_by (look_up materials.now) obj.now.names face.now.name) ≡ None) }
-        ensures tris { OnOk result (self.new.tris ≡ self.old.tris ++ tris_by table.now.eye (triangles_of (look_up materials.now) obj.now face.now)) }
-        ensures paints { OnOk result (self.new.paints ≡ self.old.paints ++ paints_by table.now.eye (triangles_of (look_up materials.now) obj.now face.now)) }
+        ensures fault { IfErr result (Tells (line_if_none face.now.line (paint_by (look_up palette.now.materials.value) obj.now.names face.now.name))) }
+        ensures known { OnOk result (line_if_none face.now.line (paint_by (look_up palette.now.materials.value) obj.now.names face.now.name) ≡ None) }
+        ensures tris { OnOk result (self.new.tris ≡ self.old.tris ++ tris_by table.now.eye (triangles_of (look_up palette.now.materials.value) obj.now face.now)) }
+        ensures paints { OnOk result (self.new.paints ≡ self.old.paints ++ paints_by table.now.eye (triangles_of (look_up palette.now.materials.value) obj.now face.now)) }
     {
-        match paint_of(materials, obj.names.as_slice(), face.name) {
+        match palette.paint_of(face.name) {
             None => Err(SceneFault::UnknownMaterial { line: face.line }),
             Some(paint) => {
                 self.push_fan(table, face.corners.as_slice(), paint)?;
@@ -80,24 +81,25 @@ impl PrimitiveLists {
     }
 }
 
-// The primitives of a run of the file's faces as the eye of the table sees them, by the paints that the materials have.
+// The primitives of a run of the file's faces as the eye of the table sees them, by the paints of the palette.
 pub fn project_run(
     alloc: Global,
     table: &PointTable,
     obj: &Obj,
-    materials: &Materials,
+    palette: &Palette,
     faces: &[Face],
 ) -> Result<PrimitiveLists, SceneFault>
     requires points { table.now.points.now ≡ obj.now.points }
+    requires names { palette.now.names.value ≡ obj.now.names }
     requires faces { All (IsFace (length obj.now.points) (length obj.now.names)) faces.now }
-    ensures fault { IfErr result (Tells (unknown_in (look_up materials.now) obj.now.names faces.now)) }
-    ensures known { OnOk result (unknown_in (look_up materials.now) obj.now.names faces.now ≡ None) }
-    ensures tris { IfOk result (λ p. p.tris ≡ tris_by table.now.eye (flat_map (triangles_of (look_up materials.now) obj.now) faces.now)) }
-    ensures paints { IfOk result (λ p. p.paints ≡ paints_by table.now.eye (flat_map (triangles_of (look_up materials.now) obj.now) faces.now)) }
+    ensures fault { IfErr result (Tells (unknown_in (look_up palette.now.materials.value) obj.now.names faces.now)) }
+    ensures known { OnOk result (unknown_in (look_up palette.now.materials.value) obj.now.names faces.now ≡ None) }
+    ensures tris { IfOk result (λ p. p.tris ≡ tris_by table.now.eye (flat_map (triangles_of (look_up palette.now.materials.value) obj.now) faces.now)) }
+    ensures paints { IfOk result (λ p. p.paints ≡ paints_by table.now.eye (flat_map (triangles_of (look_up palette.now.materials.value) obj.now) faces.now)) }
 {
     let mut made = PrimitiveLists::with_room(alloc, faces.len())?;
     for face in faces {
-        made.push_face(table, obj, materials, face)?;
+        made.push_face(table, obj, palette, face)?;
     }
     Ok(made)
 }

@@ -8,9 +8,8 @@ ghost use Rattle.abuf_view.specs.Screen.{shown, depth_value, on_screen, signed_b
 
 use crate::eye::EyePoint;
 use crate::near_plane::{EyeTriangle, NearPlane};
-use crate::quotient::{quotient, reciprocal};
 use abuf_num::limits::MAX_DEPTH;
-use abuf_num::{floor_div, product, round_div};
+use abuf_num::{Reciprocal, floor_div, product, round_div};
 use abuf_raster::{Point, ScreenTri};
 
 // The size below which half of the divisor can be added to it.
@@ -65,15 +64,13 @@ fn size_of(height: u32, focal: i64, x: i64) -> Option<u64>
 }
 
 // 128 times the size over 65536 times w, to the nearest: with the common factor 128 left out, (size + 256 w) / (512 w).
-fn nearest_part(size: u64, w: u64, reciprocal: u64) -> u64
+fn nearest_part(size: u64, w: Reciprocal) -> u64
     requires size { size < 2 ^ 62 }
-    requires some { 0 < w }
-    requires small { w < 2 ^ 54 }
-    requires reciprocal { reciprocal * w < 2 ^ 64 }
-    ensures value { result ≡ nearest (128 * size) (65536 * w) }
+    requires small { w.divisor < 2 ^ 54 }
+    ensures value { result ≡ nearest (128 * size) (65536 * w.divisor) }
     ensures bound { result < 2 ^ 62 }
 {
-    quotient((size + 256 * w) / 512, w, reciprocal)
+    w.quotient((size + 256 * w.divisor) / 512)
 }
 
 // The size with the sign of x.
@@ -84,20 +81,20 @@ fn with_sign(x: i64, size: u64) -> i64
     if x < 0 { -(size as i64) } else { size as i64 }
 }
 
-/// How far a point is from the middle of the screen. It takes a reciprocal of w.
-fn screen_part(height: u32, focal: i64, x: i64, w: i64, reciprocal: u64) -> i64
+/// How far a point is from the middle of the screen. It takes the reciprocal of w.
+fn screen_part(height: u32, focal: i64, x: i64, w: i64, reciprocal: Reciprocal) -> i64
     requires height { height ≤ MAX_SIDE }
     requires focal { (pos 0 ≤ℤ focal) × (focal ≤ℤ pos 1048576) }
     requires x { unsigned_abs x < 2 ^ 55 }
     requires w { pos 0 <ℤ w }
     requires steep { unsigned_abs x * 4096 ≤ unsigned_abs w * 8589934588 }
-    requires reciprocal { reciprocal * unsigned_abs w < 2 ^ 64 }
+    requires reciprocal { reciprocal.divisor ≡ unsigned_abs w }
     ensures value { result ≡ round_div (pos (128 * height) *ℤ focal *ℤ x) (pos 65536 *ℤ w) }
     ensures bound { unsigned_abs result ≤ 2 ^ 44 }
 {
     match size_of(height, focal, x) {
-        Some(size) if w.unsigned_abs() < SHORT_W => {
-            with_sign(x, nearest_part(size, w.unsigned_abs(), reciprocal))
+        Some(size) if reciprocal.divisor < SHORT_W => {
+            with_sign(x, nearest_part(size, reciprocal))
         }
         _ => wide_part(height, focal, x, w),
     }
@@ -112,14 +109,14 @@ pub struct Screen {
 }
 
 /// Where a point of eye space is on the screen.
-fn shown(screen: Screen, near_plane: NearPlane, s: EyePoint, reciprocal: u64) -> Point
+fn shown(screen: Screen, near_plane: NearPlane, s: EyePoint, reciprocal: Reciprocal) -> Point
     requires near_plane { IsNearPlane near_plane.norm near_plane.w }
     requires width { screen.width ≤ MAX_SIDE }
     requires height { screen.height ≤ MAX_SIDE }
     requires focal { (pos 0 ≤ℤ screen.focal) × (screen.focal ≤ℤ pos 1048576) }
     requires bounded { IsEyePoint near_plane.norm s }
     requires inside { near_plane.w ≤ℤ s.w }
-    requires reciprocal { reciprocal * unsigned_abs s.w < 2 ^ 64 }
+    requires reciprocal { reciprocal.divisor ≡ unsigned_abs s.w }
     ensures value { result ≡ shown screen.width screen.height screen.focal s }
     ensures range { IsWithin (2 ^ 45) result }
 {
@@ -141,20 +138,16 @@ fn wide_depth(near_plane: NearPlane, s: EyePoint) -> u32
     floor_div(product(MAX_DEPTH as i64, near_plane.w), s.w as i128) as u32
 }
 
-/// The depth value of a point in front of the near plane. It takes a reciprocal of its w.
-fn depth_value(near_plane: NearPlane, s: EyePoint, reciprocal: u64) -> u32
+/// The depth value of a point in front of the near plane. It takes the reciprocal of its w.
+fn depth_value(near_plane: NearPlane, s: EyePoint, reciprocal: Reciprocal) -> u32
     requires near_plane { IsNearPlane near_plane.norm near_plane.w }
     requires inside { near_plane.w ≤ℤ s.w }
-    requires reciprocal { reciprocal * unsigned_abs s.w < 2 ^ 64 }
+    requires reciprocal { reciprocal.divisor ≡ unsigned_abs s.w }
     ensures value { result ≡ depth_value near_plane.w s }
     ensures small { result ≤ MAX_DEPTH }
 {
     if near_plane.w.unsigned_abs() < SHORT_PLANE {
-        quotient(
-            MAX_DEPTH as u64 * near_plane.w.unsigned_abs(),
-            s.w.unsigned_abs(),
-            reciprocal,
-        ) as u32
+        reciprocal.quotient(MAX_DEPTH as u64 * near_plane.w.unsigned_abs()) as u32
     } else {
         wide_depth(near_plane, s)
     }
@@ -180,7 +173,7 @@ pub fn corner(screen: Screen, near_plane: NearPlane, s: EyePoint) -> ScreenPoint
     ensures depth { result.depth ≡ depth_value near_plane.w s }
     ensures small { result.depth ≤ MAX_DEPTH }
 {
-    let reciprocal = reciprocal(s.w.unsigned_abs());
+    let reciprocal = Reciprocal::of(s.w.unsigned_abs());
     ScreenPoint {
         place: shown(screen, near_plane, s, reciprocal),
         depth: depth_value(near_plane, s, reciprocal),

@@ -11,6 +11,7 @@ ghost use Rattle.abuf_view.specs.Runs.{AreRuns};
 
 use crate::camera::Camera;
 use crate::faces::project_run;
+use crate::palette::Palette;
 use crate::point_table::PointTable;
 use crate::primitive_lists::PrimitiveLists;
 use crate::projection::Projected;
@@ -45,48 +46,50 @@ fn project_runs<R: Threads + Sync>(
     alloc: Global,
     table: &PointTable,
     obj: &Obj,
-    materials: &Materials,
+    palette: &Palette,
     per_run: usize,
 ) -> Result<Vec<Result<PrimitiveLists, SceneFault>>, NoMemory>
     requires points { table.now.points.now ≡ obj.now.points }
+    requires names { palette.now.names.value ≡ obj.now.names }
     requires scene { IsScene obj.now }
     requires per_run { 1 ≤ per_run }
-    ensures { IfOk result (λ runs. AreRuns (look_up materials.now) obj.now table.now.eye per_run obj.now.faces runs.items) }
+    ensures { IfOk result (λ runs. AreRuns (look_up palette.now.materials.value) obj.now table.now.eye per_run obj.now.faces runs.items) }
 {
     let runs = map_chunks(
         rt,
         alloc,
         obj.faces.as_slice(),
         per_run,
-        &|_, run| project_run(alloc, table, obj, materials, run),
+        &|_, run| project_run(alloc, table, obj, palette, run),
     )?;
     Ok(runs)
 }
 
-// The primitives of all faces as the eye of the table sees them, by the paints that the materials have. Where one run of so many
+// The primitives of all faces as the eye of the table sees them, by the paints of the palette. Where one run of so many
 // faces has all of them, no thread is started.
 pub fn all_faces<R: Threads + Sync>(
     rt: &R,
     alloc: Global,
     table: &PointTable,
     obj: &Obj,
-    materials: &Materials,
+    palette: &Palette,
     per_run: usize,
 ) -> Result<PrimitiveLists, SceneFault>
     requires points { table.now.points.now ≡ obj.now.points }
+    requires names { palette.now.names.value ≡ obj.now.names }
     requires scene { IsScene obj.now }
     requires per_run { 1 ≤ per_run }
-    ensures fault { IfErr result (Tells (unknown_by (look_up materials.now) obj.now)) }
-    ensures known { OnOk result (unknown_by (look_up materials.now) obj.now ≡ None) }
-    ensures tris { IfOk result (λ p. p.tris ≡ tris_by table.now.eye (triangles_by (look_up materials.now) obj.now)) }
-    ensures paints { IfOk result (λ p. p.paints ≡ paints_by table.now.eye (triangles_by (look_up materials.now) obj.now)) }
+    ensures fault { IfErr result (Tells (unknown_by (look_up palette.now.materials.value) obj.now)) }
+    ensures known { OnOk result (unknown_by (look_up palette.now.materials.value) obj.now ≡ None) }
+    ensures tris { IfOk result (λ p. p.tris ≡ tris_by table.now.eye (triangles_by (look_up palette.now.materials.value) obj.now)) }
+    ensures paints { IfOk result (λ p. p.paints ≡ paints_by table.now.eye (triangles_by (look_up palette.now.materials.value) obj.now)) }
 {
     let faces = obj.faces.as_slice();
     if faces.len() <= per_run {
-        return project_run(alloc, table, obj, materials, faces);
+        return project_run(alloc, table, obj, palette, faces);
     }
     let room = room_for(alloc, faces)?;
-    let runs = project_runs(rt, alloc, table, obj, materials, per_run)?;
+    let runs = project_runs(rt, alloc, table, obj, palette, per_run)?;
     put_together(room, runs)
 }
 
@@ -120,7 +123,8 @@ pub fn project_faces<R: Threads + Sync>(
         faces,
         threads,
     )?;
+    let palette = Palette::new(alloc, &obj.names, materials)?;
     let per_run = faces_per_run(faces, LEAST_RUN, threads);
-    let made = all_faces(rt, alloc, &table, obj, materials, per_run)?;
+    let made = all_faces(rt, alloc, &table, obj, &palette, per_run)?;
     Ok(made.into_projected())
 }

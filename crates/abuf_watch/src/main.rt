@@ -27,7 +27,7 @@ mod watching;
 use crate::load::load;
 use crate::show::{Shown, show};
 use crate::stop::Stop;
-use abuf_cli::{Storage, What, read_words};
+use abuf_cli::{Command, Storage, What, read_words};
 use abuf_io::{FolderShelf, ReadSource, Shelf, Source};
 use std::alloc::Global;
 use std::io::ErrorKind;
@@ -54,8 +54,8 @@ fn run<R: Threads + Sync, S: Source, H: Shelf>(
     shelf: &mut H,
 ) -> Result<Shown, Stop> {
     let job = read_words(alloc, words)?;
-    match (job.what(), job.storage()) {
-        (What::Render, Storage::OneFrame) => {}
+    match (job.command(), job.storage()) {
+        (Command::Draw(What::Render), Storage::OneFrame) => {}
         _ => return Err(Stop::Words),
     }
     let shown = load(rt, alloc, &job, source, shelf)?;

@@ -23,7 +23,7 @@ pub fn summarize<R: Threads + Sync, W: Resolve, G: Gate + Sync>(
     way: &W,
     gate: &G,
 ) -> Outcome<List<u8>>
-    requires what { drawing.now.job.what ≡ what.Demo number }
+    requires what { drawing.now.what ≡ what.Demo number }
     requires storage { drawing.now.job.storage ≡ OneFrame }
     ensures { IsOutputBy (W.gives way.now) drawing.now result.result result.closed }
 {

@@ -23,7 +23,7 @@ pub fn pick<R: Threads + Sync, G: Gate + Sync>(
     y: u32,
     gate: &G,
 ) -> Outcome<List<u8>>
-    requires what { drawing.now.job.what ≡ what.Pick x y }
+    requires what { drawing.now.what ≡ what.Pick x y }
     requires pixel { (x < drawing.now.job.camera.width) × (y < drawing.now.job.camera.height) }
     requires storage { drawing.now.job.storage ≡ OneFrame }
     ensures { IsOutputOf drawing.now result.result result.closed }

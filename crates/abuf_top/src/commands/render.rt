@@ -27,7 +27,7 @@ fn render_whole<R: Threads + Sync, W: Resolve, G: Gate + Sync>(
     way: &W,
     gate: &G,
 ) -> Outcome<List<u8>>
-    requires what { drawing.now.job.what ≡ what.Render }
+    requires what { drawing.now.what ≡ what.Render }
     requires storage { drawing.now.job.storage ≡ OneFrame }
     ensures { IsOutputBy (W.gives way.now) drawing.now result.result result.closed }
 {
@@ -47,7 +47,7 @@ fn render_banded<R: Threads + Sync>(
     drawing: &Drawing,
     bands: u32,
 ) -> Outcome<List<u8>>
-    requires what { drawing.now.job.what ≡ what.Render }
+    requires what { drawing.now.what ≡ what.Render }
     requires storage { drawing.now.job.storage ≡ Bands bands }
     ensures { IsOutputOf drawing.now result.result result.closed }
 {
@@ -86,7 +86,7 @@ fn render_banded<R: Threads + Sync>(
 
 /// Layer by layer.
 fn render_peeled<R: Threads + Sync>(rt: &R, alloc: Global, drawing: &Drawing) -> Outcome<List<u8>>
-    requires what { drawing.now.job.what ≡ what.Render }
+    requires what { drawing.now.what ≡ what.Render }
     requires storage { drawing.now.job.storage ≡ Layers }
     ensures { IsOutputOf drawing.now result.result result.closed }
 {
@@ -115,7 +115,7 @@ pub fn render<R: Threads + Sync, W: Resolve, G: Gate + Sync>(
     way: &W,
     gate: &G,
 ) -> Outcome<List<u8>>
-    requires { drawing.now.job.what ≡ what.Render }
+    requires { drawing.now.what ≡ what.Render }
     ensures { IsOutputBy (W.gives way.now) drawing.now result.result result.closed }
 {
     match drawing.job().storage() {

@@ -1,29 +1,33 @@
 // `sequence`: an image for each shot of a path.
-ghost use Rattle.std.specs.Prelude.{◌≡◌, ◌⊎◌, ◌≤◌, ◌+◌, All, List as Items, ℕ, length, true, option_map, IfOk, IfErr, IfSome, Some};
-ghost use Rattle.abuf_num.specs.declared.limits.TheConstants.{MAX_BYTES, MAX_PATH_BYTES, MAX_IMAGES};
+ghost use Rattle.std.specs.Prelude.{◌≡◌, ◌≤◌, ◌+◌, All, List as Items, ℕ, length, true, option_map, IfOk, IfErr, Ok};
+ghost use Rattle.abuf_num.specs.declared.limits.TheConstants.{MAX_PATH_BYTES, MAX_IMAGES};
 ghost use Rattle.abuf_io.specs.Causes.{Rose};
+ghost use Rattle.abuf_io.specs.Sinks.{sink_change};
+ghost use Rattle.abuf_obj.specs.Sound.{IsScene};
+ghost use Rattle.abuf_mtl.specs.StandsFor.{StandsFor};
 ghost use Rattle.abuf_sequence.specs.Paths.{path, IsShot};
 ghost use Rattle.abuf_sequence.specs.Sequences.{IsPlan};
-ghost use Rattle.abuf_cli.specs.declared.job.What.TheVariants as what;
+ghost use Rattle.abuf_cli.specs.Job.{Job as Asked};
 ghost use Rattle.abuf_top.specs.Ending.{Ends};
-ghost use Rattle.abuf_top.specs.Fetches.{sequence_fetches, most_for_libraries, PathIsRefused};
+ghost use Rattle.abuf_top.specs.Fetches.{scene_demand, sequence_demand};
 ghost use Rattle.abuf_top.specs.Images.{plan_of};
 ghost use Rattle.abuf_top.specs.Libraries.{told_by};
-ghost use Rattle.abuf_io.specs.Sinks.{sink_change};
 ghost use Rattle.abuf_top.specs.Outside.{source_change, shelf_change};
-ghost use Rattle.abuf_top.specs.Reads.{AnswersAs, CallsShelf, IsUncalled, TakesAtMost};
 ghost use Rattle.abuf_top.specs.Paths.{path_verdict, shots_by};
-ghost use Rattle.abuf_top.specs.Prepared.{LoadsPath, PreparesImages};
-ghost use Rattle.abuf_top.specs.Stopped.{HasTaskCause, IsOfDrawing, StopsByPath};
-ghost use Rattle.abuf_top.specs.Verdict.{sequence_verdict, pools_verdict};
+ghost use Rattle.abuf_top.specs.Prepared.{Gives, IsSequence, IsTaskOf};
+ghost use Rattle.abuf_top.specs.Reads.{PreparesBy};
+ghost use Rattle.abuf_top.specs.Stopped.{HasCause, HasReadCause, IsOfDrawing};
+ghost use Rattle.abuf_top.specs.Verdict.{images_verdict, material_verdict, scene_read, sequence_verdict, pools_verdict};
 
-use crate::load::load;
+use crate::load::read_scene;
+use crate::loaded::Loaded;
 use crate::stop::{FullPool, Refusal, Stop};
+use crate::task::Task;
 use abuf_cli::Job;
 use abuf_io::{Fetch, Shelf, Sink, Source};
 use abuf_num::List;
 use abuf_num::limits::MAX_PATH_BYTES;
-use abuf_scene::Scene;
+use abuf_scene::{Scene, assemble};
 use abuf_sequence::{PathFault, Plan, SequenceFault, Shot, read_path, sequence};
 use std::alloc::Global;
 use std::marker::Model;
@@ -89,8 +93,8 @@ impl Images {
 // The shots of the bytes of a path.
 fn read_shots(alloc: Global, content: &[u8]) -> Result<List<Shot>, Stop>
     requires { length content.now ≤ MAX_PATH_BYTES }
-    ensures told { LoadsPath (shots_by (path content.now)) ⊥ result }
-    ensures cause { IfErr result (HasTaskCause ⊥) }
+    ensures told { Gives (shots_by (path content.now)) ⊥ result }
+    ensures cause { (job : Asked) → IfErr result (HasCause (Ok job) ⊥) }
     ensures shots { IfOk result (All IsShot) }
     ensures few { IfOk result (λ shots. length shots ≤ MAX_IMAGES) }
 {
@@ -104,12 +108,11 @@ fn read_shots(alloc: Global, content: &[u8]) -> Result<List<Shot>, Stop>
 // The shots of the path of this name.
 fn fetch_path<H: Shelf>(alloc: Global, shelf: &mut H, name: &[u8]) -> Result<List<Shot>, Stop>
     ensures told { H.tells shelf.old ≡ true →
-        LoadsPath (path_verdict (H.holds shelf.old name.now)) (Rose (H.faults shelf.old) (H.faults shelf.new)) result }
-    ensures cause { IfErr result (HasTaskCause (Rose (H.faults shelf.old) (H.faults shelf.new))) }
+        Gives (path_verdict (H.holds shelf.old name.now)) (Rose (H.faults shelf.old) (H.faults shelf.new)) result }
+    ensures cause { (job : Asked) → IfErr result (HasCause (Ok job) (Rose (H.faults shelf.old) (H.faults shelf.new))) }
     ensures shots { IfOk result (All IsShot) }
     ensures few { IfOk result (λ shots. length shots ≤ MAX_IMAGES) }
-    ensures tells { H.tells shelf.new ≡ H.tells shelf.old }
-    ensures holds { (other : Items ℕ) → H.holds shelf.new other ≡ H.holds shelf.old other }
+    ensures held { told_by (H.tells shelf.new) (H.holds shelf.new) ≡ told_by (H.tells shelf.old) (H.holds shelf.old) }
     ensures calls { H.calls shelf.new ≤ H.calls shelf.old + 1 }
     ensures later { H.faults shelf.old ≤ H.faults shelf.new }
 {
@@ -141,33 +144,54 @@ fn plan_of(job: &Job) -> Plan
     }
 }
 
+// The images of these shots of a scene. What was read of its file is freed.
+fn images_of(alloc: Global, job: &Job, shots: List<Shot>, loaded: Loaded) -> Result<Task, Stop>
+    requires scene { IsScene loaded.obj }
+    requires command { IsSequence job.now.command }
+    requires shots { All IsShot shots }
+    requires few_shots { length shots ≤ MAX_IMAGES }
+    ensures told { (libraries : Items (Items ℕ)) → StandsFor libraries loaded.materials
+        → Gives (images_verdict job.now shots (material_verdict loaded.obj libraries)) ⊥ result }
+    ensures cause { IfErr result (HasReadCause ⊥) }
+    ensures own { IfOk result (IsTaskOf (Ok job.now)) }
+{
+    let scene = assemble(alloc, &loaded.obj, &loaded.materials)?;
+    Ok(Task::Sequence(Images::new(scene, shots, plan_of(job))))
+}
+
+// The images of these shots of the scene that the source has left.
+fn read_images<S: Source, H: Shelf>(
+    alloc: Global,
+    job: &Job,
+    shots: List<Shot>,
+    scene: &mut S,
+    shelf: &mut H,
+) -> Result<Task, Stop>
+    requires command { IsSequence job.now.command }
+    requires shots { All IsShot shots }
+    requires few_shots { length shots ≤ MAX_IMAGES }
+    ensures { PreparesBy (λ left held. option_map (images_verdict job.now shots) (scene_read left held)) scene_demand (Ok job.now)
+        (source_change S.left S.faults scene.old scene.new) (shelf_change H.tells H.holds H.calls H.faults shelf.old shelf.new) result }
+{
+    let loaded = read_scene(alloc, scene, shelf)?;
+    images_of(alloc, job, shots, loaded)
+}
+
 /// The images of a job's path. The path comes first: where it is refused, the scene isn't read. The scene and its libraries
 /// are read and refused by also where the path has no shots.
-#[tactic(auto, using(crate::proofs::Taking::takes_none))]
 pub fn prepare_images<S: Source, H: Shelf>(
     alloc: Global,
     job: &Job,
     name: &[u8],
     scene: &mut S,
     shelf: &mut H,
-) -> Result<Images, Stop>
-    requires name { job.now.what ≡ what.Sequence name.now }
-    ensures told { AnswersAs (sequence_verdict job.now name.now) (λ verdict rose. PreparesImages verdict rose result)
-        (source_change S.left S.faults scene.old scene.new) (shelf_change H.tells H.holds H.calls H.faults shelf.old shelf.new) }
-    ensures cause { IfErr result (HasTaskCause (Rose (S.faults scene.old) (S.faults scene.new) ⊎ Rose (H.faults shelf.old) (H.faults shelf.new))) }
-    ensures calls { CallsShelf (sequence_fetches name.now)
-        (source_change S.left S.faults scene.old scene.new) (shelf_change H.tells H.holds H.calls H.faults shelf.old shelf.new) }
-    ensures most { IfSome (option_map (λ n. 1 + n) (most_for_libraries (S.left scene.old))) (λ n. H.calls shelf.new ≤ H.calls shelf.old + n) }
-    ensures source { PathIsRefused name.now (told_by (H.tells shelf.old) (H.holds shelf.old))
-        → IsUncalled (source_change S.left S.faults scene.old scene.new) }
-    ensures path { IfErr result (λ stop. StopsByPath stop → IsUncalled (source_change S.left S.faults scene.old scene.new)) }
-    ensures taken { TakesAtMost (MAX_BYTES + 1) (source_change S.left S.faults scene.old scene.new) }
-    ensures plan { IfOk result (λ images. images.plan ≡ plan_of job.now) }
+) -> Result<Task, Stop>
+    requires { IsSequence job.now.command }
+    ensures { PreparesBy (sequence_verdict job.now name.now) (sequence_demand name.now) (Ok job.now)
+        (source_change S.left S.faults scene.old scene.new) (shelf_change H.tells H.holds H.calls H.faults shelf.old shelf.new) result }
 {
     let shots = fetch_path(alloc, shelf, name)?;
-    let loaded = load(alloc, job, scene, shelf)?;
-    let scene = loaded.assemble(alloc)?;
-    Ok(Images::new(scene, shots, plan_of(job)))
+    read_images(alloc, job, shots, scene, shelf)
 }
 
 /// Writes the images, up to the first that is full.

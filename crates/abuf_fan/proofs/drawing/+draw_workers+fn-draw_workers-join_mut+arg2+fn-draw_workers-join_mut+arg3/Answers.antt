@@ -1,6 +1,6 @@
 use Rattle.std.proofs.Common.{rules, arith, ◌+◌, ◌*◌, ◌∙◌, ℕ}
 use Rattle.abuf_raster.specs.Samples.{offsets_of}
-use Rattle.abuf_fan.specs.declared.desk.TheConstants.{MAX_PARTS}
+use Rattle.abuf_share.specs.declared.desk.TheConstants.{MAX_PARTS}
 use Rattle.abuf_fan.specs.Workers.{HaveServed}
 use Rattle.abuf_fan.proofs.Halves.{served_both}
 use Rattle.abuf_fan.proofs.drawing.+draw_workers+fn-draw_workers-join_mut+arg2+fn-draw_workers-join_mut+arg3.Goals as goal

@@ -1,7 +1,7 @@
 use Rattle.std.proofs.Common.{ap, arith, length, subst, sym}
 use Rattle.abuf_raster.specs.Samples.{offsets_of}
 use Rattle.abuf_raster.specs.Hits.{all_fragments}
-use Rattle.abuf_fan.specs.declared.rule.Hand.{Hand}
+use Rattle.abuf_share.specs.declared.rule.Hand.{Hand}
 use Rattle.abuf_fan.specs.Grows.{Grows}
 use Rattle.abuf_fan.specs.Parts.{IsOrder}
 use Rattle.abuf_fan.proofs.Parts.{all_fragments_few}

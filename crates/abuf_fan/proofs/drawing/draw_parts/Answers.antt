@@ -3,7 +3,7 @@ use Rattle.std.proofs.lemmas.List.Elements.{All-take, All-drop}
 use Rattle.abuf_raster.specs.Samples.{offsets_of}
 use Rattle.abuf_frame.specs.Draws.{Draws}
 use Rattle.abuf_frame.proofs.Draws.{draws_none}
-use Rattle.abuf_fan.specs.declared.rule.Hand.{Hand}
+use Rattle.abuf_share.specs.declared.rule.Hand.{Hand}
 use Rattle.abuf_fan.specs.Parts.{part_fragments}
 use Rattle.abuf_fan.proofs.Taken.{part_room, rest_room, under_last}
 use Rattle.abuf_fan.proofs.Serving.{draws_more, drawn_next, spent_next, served_ends}

@@ -1,4 +1,4 @@
-use Rattle.std.proofs.Common.{ℕ, List, length, slice_index_or, sym, subst, ap, ◌∙◌}
+use Rattle.std.proofs.Common.{ℕ, List, slice_index_or, sym, subst, ap, ◌∙◌}
 use Rattle.abuf_raster.specs.declared.pattern.Pattern.{Pattern}
 use Rattle.abuf_raster.specs.Region.{Region}
 use Rattle.abuf_raster.specs.Triangle.{Triangle}

@@ -1,4 +1,4 @@
-use Rattle.std.proofs.Common.{◌∙◌, ◌++◌, ◌∷◌, ◌≡◌, ◌<◌, None, Some, [], sym, ap, List, ℕ, arith, length, drop, length-append}
+use Rattle.std.proofs.Common.{◌∙◌, ◌++◌, ◌∷◌, ◌≡◌, ◌<◌, None, Some, [], sym, ap, List, ℕ, arith, length, length-append}
 use Rattle.abuf_obj.specs.Elements.{places_of}
 use Rattle.abuf_obj.proofs.Joining.{joined, places-next, places-stop, one-less, places-end, places-fail}
 use Rattle.abuf_obj.proofs.element.places.Goals as goal

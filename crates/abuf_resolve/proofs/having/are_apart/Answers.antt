@@ -22,10 +22,10 @@ loop-word-preserved c = λ k l.
     let i = c.loop-word.word-index in
     let w : ℕ = get_or words i 0 in
     let seen = c.loop-word.seen in
-    let mask = c.samples_of-mask.result in
+    let mask = c.mask-mask.result in
     let none : bit_and seen mask ≡ 0 = omega (arith, c.if-seen-mask-ne0.false) in
     let apart : min (bit_at seen k) (bit_at mask k) ≡ 0 = sym (bit_at_and seen mask k) ∙ (ap (λ (m : ℕ). bit_at m k) none ∙ bit_at-zero k) in
-    let bit : bit_at mask k ≡ bit_at (w % 65536) k = ap (λ (m : ℕ). bit_at m k) c.samples_of-mask.ensures in
+    let bit : bit_at mask k ≡ bit_at (w % 65536) k = ap (λ (m : ℕ). bit_at m k) c.mask-mask.ensures in
     ap (λ (ws : List ℕ). length (filter (has_sample k) ws)) (take_more words i 0 (omega arith))
     ∙ (ap (λ (ws : List ℕ). length ws) (filter-append (has_sample k) (take i words) (w ∷ []))
     ∙ (length-append (filter (has_sample k) (take i words)) (filter (has_sample k) (w ∷ []))

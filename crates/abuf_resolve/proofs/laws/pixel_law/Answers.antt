@@ -2,13 +2,14 @@ use Rattle.std.proofs.Common.{arith, ap, map, ◌∙◌, subst, ◌≡◌, ◌^�
 use Rattle.abuf_raster.specs.Samples.{offsets_of}
 use Rattle.abuf_raster.proofs.Masks.{offsets_few}
 use Rattle.abuf_resolve.specs.Pixel.{present}
-use Rattle.abuf_resolve.specs.Words.{AreWordsAt, IsFragmentAt, layer_of}
-use Rattle.abuf_resolve.specs.Colour.{layers}
+use Rattle.abuf_resolve.specs.Words.{AreWordsAt, IsFragmentAt, layer_of, layer_word}
+use Rattle.abuf_resolve.specs.Colour.{layers, layer_at}
 use Rattle.abuf_resolve.proofs.Hits.{all_fragments_are, all_hits}
 use Rattle.abuf_resolve.proofs.Fits.{words_fit}
-use Rattle.abuf_resolve.proofs.Lists.{layers_are, layers_below, told_are}
+use Rattle.abuf_resolve.proofs.Lists.{layers_are, layers_below, told_is}
 use Rattle.abuf_resolve.proofs.Totals.{Alike-drawn}
-use Rattle.abuf_resolve.proofs.Present.{pixel_is, count_is, present_few, All-in_order}
+use Rattle.abuf_resolve.proofs.Present.{pixel_is, count_is, present_few}
+use Rattle.abuf_resolve.proofs.Words.{All-in_order, map_below}
 use Rattle.abuf_resolve.proofs.laws.pixel_law.Goals as goal
 
 pub returns : goal.returns
@@ -33,7 +34,7 @@ returns c =
       layers = λ k l. layers_are os tris r p k words few l limit c.region_law.ensures c.requires.place alike;
       told = λ k l.
           ap (map layer_of) (layers_are os tris r p k words few l limit c.region_law.ensures c.requires.place alike)
-          ∙ told_are tris os few x y k l (layers os tris x y k) (layers_below tris os few x y k l limit);
+          ∙ map_below (2 ^ 24) layer_of (layer_word os tris x y k) (layer_at os tris x y k) (told_is tris os few x y k l) (layers os tris x y k) (layers_below tris os few x y k l limit);
       fit = fit;
       ordered_fit = All-in_order (IsFragmentAt os tris (r.x0 + p % r.w) (r.y0 + p / r.w)) nat_lt words fit;
     }

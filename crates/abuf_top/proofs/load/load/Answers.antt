@@ -1,16 +1,22 @@
-use Rattle.std.proofs.Common.{◌∙◌, ◌⊎◌, List, ℕ, Option, IfSome, sym, subst}
-use Rattle.abuf_io.specs.Causes.{Rose}
+use Rattle.std.proofs.Common.{Some, refl, sym, subst, arith}
+use Rattle.abuf_scene.specs.Demo.{obj}
 use Rattle.abuf_cli.specs.declared.job.What.{What}
-use Rattle.abuf_top.specs.Libraries.{Holdings, told_by}
-use Rattle.abuf_top.specs.Verdict.{loaded}
-use Rattle.abuf_top.specs.Prepared.{Loads}
-use Rattle.abuf_top.proofs.Telling.{told-weaker}
+use Rattle.abuf_top.specs.Demonstration.{demo_shelf}
+use Rattle.abuf_top.specs.Fetches.{load_demand}
+use Rattle.abuf_top.specs.Outside.{SourceChange, ShelfChange, source_change, shelf_change, ReadFailed}
+use Rattle.abuf_top.specs.Reads.{LoadsBy}
+use Rattle.abuf_top.specs.Verdict.{loaded, scene_verdict}
+use Rattle.abuf_top.proofs.Taking.{takes_none}
+use Rattle.abuf_top.proofs.Telling.{told-weaker, cause-weaker}
 use Rattle.abuf_top.proofs.load.load.Goals as goal
 
-pub returns-in-Demo-clause-told : goal.returns-in-Demo-clause-told
-returns-in-Demo-clause-told g c =
-    let scene : Option (List ℕ) = g.S.Source.left c.args.scene.now in
-    let shelf : Option Holdings = told_by (g.H.Shelf.tells c.args.shelf.now) (g.H.Shelf.holds c.args.shelf.now) in
-    let rose : Type 0 = Rose (g.S.Source.faults c.args.scene.now) (g.S.Source.faults c.args.scene.now) ⊎ Rose (g.H.Shelf.faults c.args.shelf.now) (g.H.Shelf.faults c.args.shelf.now) in
-    subst (λ (what : What). IfSome (loaded what scene shelf) (λ line. Loads line rose c.demonstrate.result)) (sym (sym c.what.ensures.value ∙ c.in-Demo.is))
-    (told-weaker _ ⊥ rose c.demonstrate.result (λ h. absurd h) c.demonstrate.ensures.told)
+pub returns-in-Demo : goal.returns-in-Demo
+returns-in-Demo g c =
+    let from : SourceChange = source_change g.S.Source.left g.S.Source.faults c.args.scene.now c.args.scene.now in
+    let by : ShelfChange = shelf_change g.H.Shelf.tells g.H.Shelf.holds g.H.Shelf.calls g.H.Shelf.faults c.args.shelf.now c.args.shelf.now in
+    subst (λ (w : What). LoadsBy (loaded w) (load_demand w) from by c.demonstrate.result) (sym c.in-Demo.is) (record {
+      as_told = told-weaker (scene_verdict (Some demo_shelf) (obj c.in-Demo.number)) ⊥ (ReadFailed from by) c.demonstrate.result (λ e. absurd e) c.demonstrate.ensures.told;
+      cause = cause-weaker ⊥ (ReadFailed from by) c.demonstrate.result (λ e. absurd e) c.demonstrate.ensures.cause;
+      scene = c.demonstrate.ensures.scene;
+      calls = record { source = λ _. (refl, refl); taken = takes_none _ _; calls = record { most = omega arith; none = λ _. (refl, refl) }; most = omega arith };
+    })

@@ -13,7 +13,7 @@ loop-face-preserved c =
     let eye = c.args.table.now.eye in
     let before = c.loop-face.invariant in
     let done = c.in_ok-push_face.ensures in
-    let f = triangles_of (look_up c.args.materials.now) c.args.obj.now in
+    let f = triangles_of (look_up c.args.palette.now.materials.value) c.args.obj.now in
     let faces = c.args.faces.now in
     record {
       known = grind (arith, common_steps);

@@ -6,7 +6,7 @@ use Rattle.abuf_view.proofs.faces.project_run.Given as goal
 
 abbrev pub invariant-loop-face : goal.invariant-loop-face
 invariant-loop-face l = record {
-  known : find (is_unknown (look_up l.materials) l.obj.names) (drop l.face-index l.faces) ≡ find (is_unknown (look_up l.materials) l.obj.names) l.faces;
-  tris : l.made.tris ≡ tris_by l.table.eye (flat_map (triangles_of (look_up l.materials) l.obj) (take l.face-index l.faces));
-  paints : l.made.paints ≡ paints_by l.table.eye (flat_map (triangles_of (look_up l.materials) l.obj) (take l.face-index l.faces));
+  known : find (is_unknown (look_up l.palette.materials.value) l.obj.names) (drop l.face-index l.faces) ≡ find (is_unknown (look_up l.palette.materials.value) l.obj.names) l.faces;
+  tris : l.made.tris ≡ tris_by l.table.eye (flat_map (triangles_of (look_up l.palette.materials.value) l.obj) (take l.face-index l.faces));
+  paints : l.made.paints ≡ paints_by l.table.eye (flat_map (triangles_of (look_up l.palette.materials.value) l.obj) (take l.face-index l.faces));
 }

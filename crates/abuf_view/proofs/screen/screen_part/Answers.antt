@@ -1,4 +1,4 @@
-use Rattle.std.proofs.Common.{arith, ◌≡◌, ◌∙◌, ap, ap₂, ◌≤◌, ◌^◌, ◌*◌, ℕ, ℤ, pos, ◌*ℤ◌, w64, to_z, of_z, unsigned_abs}
+use Rattle.std.proofs.Common.{arith, ◌≡◌, ◌∙◌, ap₂, ◌≤◌, ◌^◌, ◌*◌, ℕ, ℤ, pos, ◌*ℤ◌, w64, to_z, of_z, unsigned_abs}
 use Rattle.std.proofs.lemmas.Int.{ints, to_z-of_z}
 use Rattle.abuf_num.specs.Division.{round_div, nearest}
 use Rattle.abuf_view.specs.Screen.{signed_by}
@@ -11,11 +11,9 @@ value : (c : After-with_sign) → c.with_sign.result ≡ round_div (pos (128 * c
 value c =
     let ex = to_z-of_z w64 c.args.x c.ranges.x in
     let ef = to_z-of_z w64 c.args.focal c.ranges.focal in
-    let ew = to_z-of_z w64 c.args.w c.ranges.w in
     let size = c.in-Some.ensures.value ∙ ap₂ (λ (f x : ℤ). c.args.height * unsigned_abs f * unsigned_abs x) ef ex in
-    let w = c.unsigned_abs-in-Some.ensures.value ∙ ap unsigned_abs ew in
     c.with_sign.ensures
-    ∙ (ap₂ signed_by ex (c.nearest_part.ensures.value ∙ ap₂ (λ (a b : ℕ). nearest (128 * a) (65536 * b)) size w)
+    ∙ (ap₂ signed_by ex (c.nearest_part.ensures.value ∙ ap₂ (λ (a b : ℕ). nearest (128 * a) (65536 * b)) size c.requires.reciprocal)
     ∙ part_is c.args.height c.args.focal c.args.x c.args.w c.requires.focal.0 c.requires.w)
 
 bound : (c : After-with_sign) → unsigned_abs c.with_sign.result ≤ 2 ^ 44

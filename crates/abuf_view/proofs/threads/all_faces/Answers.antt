@@ -10,13 +10,13 @@ use Rattle.abuf_view.proofs.threads.all_faces.Given.{Over}
 
 pub returns-then-faces-per_run-clause-fault : goal.returns-then-faces-per_run-clause-fault
 returns-then-faces-per_run-clause-fault g c =
-    subst (λ (faces : List Face). IfErr c.project_run.result (Tells (unknown_in (look_up c.args.materials.now) c.args.obj.now.names faces))) c.as_slice-faces.ensures c.project_run.ensures.fault
+    subst (λ (faces : List Face). IfErr c.project_run.result (Tells (unknown_in (look_up c.args.palette.now.materials.value) c.args.obj.now.names faces))) c.as_slice-faces.ensures c.project_run.ensures.fault
 
 -- The workers' runs, put together, are the run of all faces.
-all : (g : Over) (c : After-put_together g) → IsRun (look_up c.args.materials.now) c.args.obj.now c.args.table.now.eye c.args.obj.now.faces c.put_together.result
+all : (g : Over) (c : After-put_together g) → IsRun (look_up c.args.palette.now.materials.value) c.args.obj.now c.args.table.now.eye c.args.obj.now.faces c.put_together.result
 all g c =
     let put = c.put_together.ensures in
-    together (look_up c.args.materials.now) c.args.obj.now c.args.table.now.eye c.args.per_run c.args.obj.now.faces c.in_ok-runs.runs.items c.put_together.result c.in_ok-runs.ensures put.fault put.known put.tris put.paints
+    together (look_up c.args.palette.now.materials.value) c.args.obj.now c.args.table.now.eye c.args.per_run c.args.obj.now.faces c.in_ok-runs.runs.items c.put_together.result c.in_ok-runs.ensures put.fault put.known put.tris put.paints
 
 pub returns-clause-fault : goal.returns-clause-fault
 returns-clause-fault g c = (all g c).fault

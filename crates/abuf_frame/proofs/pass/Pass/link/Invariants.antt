@@ -1,7 +1,7 @@
 use Rattle.std.proofs.Common.{◌≡◌}
 use Rattle.abuf_frame.specs.Steps.{moved}
 use Rattle.abuf_frame.specs.Stages.{linked}
-use Rattle.abuf_frame.specs.Counting.{times}
+use Rattle.abuf_num.specs.Counting.{times}
 use Rattle.abuf_frame.specs.Views.{numbers}
 use Rattle.abuf_frame.proofs.pass.Pass.link.Given as goal
 

@@ -1,32 +1,19 @@
 use Rattle.std.proofs.Common.{◌≡◌, ◌∙◌, refl, sym, subst}
-use Rattle.std.specs.Vec.{with_items}
-use Rattle.std.proofs.lemmas.List.{with_items_is}
 use Rattle.abuf_peel.specs.Members.{HaveLeft}
-use Rattle.abuf_peel.specs.Layers.{NoneLeft, Peeled, TakesTimes, peeled_of}
-use Rattle.abuf_peel.proofs.Standing.{same_parts, takes_as}
+use Rattle.abuf_peel.specs.Layers.{NoneLeft, Peeled, peeled_of}
+use Rattle.abuf_peel.proofs.Standing.{are_shown, same_parts, shown, takes_as}
 use Rattle.abuf_peel.proofs.layer.Layer.step_over.Goals as goal
 use Rattle.abuf_peel.proofs.layer.Layer.step_over.Goals.{After-take_next_of}
 
--- What the parts of the layer show is what was seen of it.
-seen : (c : After-take_next_of) → peeled_of c.self.inside.region c.self.inside.pattern c.deref_mut.result.now c.deref_mut-3.result.now ≡ c.args.self.now
-seen c = same_parts _ _ _ _ _ _ c.deref_mut.ensures.value c.deref_mut-3.ensures.value ∙ c.self.view_is
-
--- What is seen of it after the step.
-abbrev new : (c : After-take_next_of) → Peeled
-new c = peeled_of c.self.inside.region c.self.inside.pattern (with_items c.self.inside.from c.take_next_of.new.from).items (with_items c.self.inside.colours c.take_next_of.new.colours).items
-
--- It is what the step wrote.
-after : (c : After-take_next_of) → peeled_of c.self.inside.region c.self.inside.pattern c.take_next_of.new.from c.take_next_of.new.colours ≡ new c
-after c =
-    same_parts _ _ _ _ _ _ (sym (with_items_is c.self.inside.from c.take_next_of.new.from (c.take_next_of.ensures.sizes.0 ∙ c.deref_mut.ensures.len)))
-    (sym (with_items_is c.self.inside.colours c.take_next_of.new.colours (c.take_next_of.ensures.sizes.2 ∙ c.deref_mut-3.ensures.len)))
-
--- Every sample takes its next primitives.
-takes : (c : After-take_next_of) → TakesTimes c.args.tris.now c.args.paints.now 16 c.args.self.now (new c)
-takes c = takes_as c.args.tris.now c.args.paints.now 16 _ _ _ _ (seen c) (after c) c.take_next_of.ensures.takes
+-- What is seen of the layer after the step is what the step wrote.
+after : (c : After-take_next_of) → peeled_of c.self.inside.region c.self.inside.pattern c.take_next_of.new.from c.take_next_of.new.colours
+    ≡ shown c.self.inside.region c.self.inside.pattern c.self.inside.from c.self.inside.colours c.take_next_of.new.from c.take_next_of.new.colours
+after c = are_shown _ _ c.self.inside.from c.self.inside.colours _ _ (c.take_next_of.ensures.sizes.0 ∙ c.deref_mut.ensures.len) (c.take_next_of.ensures.sizes.2 ∙ c.deref_mut-3.ensures.len)
 
 pub returns-clause-takes : goal.returns-clause-takes
-returns-clause-takes c = takes ((goal.at.returns-clause-takes c).After-take_next_of)
+returns-clause-takes c =
+    let d = (goal.at.returns-clause-takes c).After-take_next_of in
+    takes_as c.args.tris.now c.args.paints.now 16 _ _ _ _ (same_parts _ _ _ _ _ _ c.deref_mut.ensures.value d.deref_mut-3.ensures.value ∙ d.self.view_is) (after d) c.take_next_of.ensures.takes
 
 pub returns-clause-none : goal.returns-clause-none
 returns-clause-none c = λ e.

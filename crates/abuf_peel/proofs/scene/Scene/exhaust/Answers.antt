@@ -3,10 +3,9 @@ use Rattle.abuf_raster.proofs.Masks.{offsets_some}
 use Rattle.abuf_raster.specs.declared.pattern.Pattern.{Pattern}
 use Rattle.abuf_raster.specs.Region.{Region, IsRegion}
 use Rattle.abuf_raster.specs.Samples.{offsets_of}
-use Rattle.abuf_peel.specs.Layers.{next_at, sample_at, size_of, StandsFor}
+use Rattle.abuf_peel.specs.Layers.{sample_at, size_of, StandsFor}
 use Rattle.abuf_peel.specs.Members.{HaveAll}
 use Rattle.abuf_peel.proofs.Chosen.{covering_few, sample_in}
-use Rattle.abuf_peel.proofs.Found.{none_from}
 use Rattle.abuf_peel.proofs.Left.{all_left}
 use Rattle.abuf_peel.proofs.Standing.{whole_none, whole_many, stands_times}
 use Rattle.abuf_peel.proofs.scene.Scene.exhaust.Goals as goal
@@ -16,7 +15,7 @@ returns-then-not-step_over-clause-whole c =
     let scene = c.args.self.now in
     whole_none scene.background scene.tris.now scene.paints.now (omega (arith, scene.few)) (c.loop-n._n * 16 + 16) c.step_over.new.self
     (stands_times scene.background scene.tris.now scene.paints.now (c.loop-n._n * 16) 16 c.loop-n.layer c.step_over.new.self c.step_over.ensures.takes c.loop-n.invariant.stands)
-    (λ j l. none_from (next_at c.step_over.new.self.region c.step_over.new.self.pattern scene.tris.now c.step_over.new.self.from j) (c.step_over.ensures.none c.if-not-step_over.true j l))
+    (c.step_over.ensures.none c.if-not-step_over.true)
 
 pub returns-clause-whole : goal.returns-clause-whole
 returns-clause-whole c =

@@ -1,34 +1,15 @@
-use Rattle.std.proofs.Common.{◌≡◌, ◌∙◌, ◌<◌, List, length, ap, sym, subst, arith}
-use Rattle.std.proofs.lemmas.Result.{IfOk-weaker}
+use Rattle.std.proofs.Common.{◌≡◌, ◌∙◌, ◌+◌, ◌*◌, ◌<◌, ◌++◌, List, ℕ, min, ap, sym, subst, arith}
 use Rattle.abuf_num.specs.declared.plain.PixelSum.{PixelSum}
-use Rattle.abuf_peel.specs.Rows.{AreSmall, HaveRows, image_sums, joined}
-use Rattle.abuf_peel.proofs.Joined.{count_all, have_rows, joined_rows, joined_small, rows_whole}
+use Rattle.abuf_peel.specs.Rows.{AreSums, block_rows}
+use Rattle.abuf_peel.proofs.Blocks.{sums_more}
 use Rattle.abuf_peel.proofs.scene.Scene.put_together.Goals as goal
 
-pub join_rows-requires-clause-rows : goal.join_rows-requires-clause-rows
-join_rows-requires-clause-rows c =
+pub loop-block-preserved : goal.loop-block-preserved
+loop-block-preserved c =
     let scene = c.args.self.now in
-    let all = c.in_ok-parts.parts.items in
-    let is = c.in_ok-parts.ensures in
-    let some : 0 < length all = omega (arith, c.requires.workers.0, count_all c.args.parts.items all is) in
-    subst (λ (ps : List (List (List PixelSum))). HaveRows ps scene.height) (sym c.deref.ensures.value) (have_rows scene all c.args.parts.items is some c.requires.parts)
-
-pub returns-clause-value : goal.returns-clause-value
-returns-clause-value c =
-    let scene = c.args.self.now in
-    let all = c.in_ok-parts.parts.items in
-    let is = c.in_ok-parts.ensures in
-    let some : 0 < length all = omega (arith, c.requires.workers.0, count_all c.args.parts.items all is) in
-    IfOk-weaker c.join_rows.result _ (λ sums. sums ≡ image_sums scene)
-    (λ sums h. h ∙ (ap (λ (ps : List (List (List PixelSum))). joined ps scene.height) c.deref.ensures.value ∙ (joined_rows scene all c.args.parts.items is some c.requires.parts ∙ rows_whole scene)))
-    c.join_rows.ensures
-
-pub returns-clause-small : goal.returns-clause-small
-returns-clause-small c =
-    let scene = c.args.self.now in
-    let all = c.in_ok-parts.parts.items in
-    let is = c.in_ok-parts.ensures in
-    let some : 0 < length all = omega (arith, c.requires.workers.0, count_all c.args.parts.items all is) in
-    IfOk-weaker c.join_rows.result _ (AreSmall scene)
-    (λ sums h. subst (AreSmall scene) (sym (h ∙ ap (λ (ps : List (List (List PixelSum))). joined ps scene.height) c.deref.ensures.value)) (joined_small scene all c.args.parts.items is some c.requires.parts))
-    c.join_rows.ensures
+    let i : ℕ = c.loop-block.block-index in
+    let some : 4 * i < scene.height = omega (arith, c.requires.count) in
+    let above : min (4 * i) scene.height + block_rows scene.height i ≡ min (4 * (i + 1)) scene.height = omega arith in
+    subst (λ (n : ℕ). AreSums scene 0 n c.extend_from_slice.new.self.items) above
+    (subst (AreSums scene 0 (min (4 * i) scene.height + block_rows scene.height i)) (sym (c.in_ok-extend_from_slice.ensures.items ∙ ap (λ (xs : List PixelSum). c.loop-block.sums.items ++ xs) (c.as_slice.ensures ∙ c.block-item.is)))
+    (sums_more scene 0 (min (4 * i) scene.height) (block_rows scene.height i) (4 * i) c.loop-block.sums.items _ (omega arith) c.loop-block.invariant (c.requires.each i _ (omega arith))))

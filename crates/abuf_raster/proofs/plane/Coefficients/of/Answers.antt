@@ -13,12 +13,6 @@ whole r d h e = omega (arith, ints)
 less : (d x : ℤ) → unsigned_abs x < 2 ^ 45 → d ≡ pos 0 -ℤ to_z w64 (of_z w64 x) → to_z w64 (of_z w64 d) ≡ neg_ℤ x
 less d x h e = omega (arith, ints)
 
-pub of-requires-clause-small : goal.of-requires-clause-small
-of-requires-clause-small c =
-    let r : ℤ = c.edge_function-area.result in
-    let back : to_z w64 (of_z w64 r) ≡ r = to_z-of_z w64 r (record { sfits = c.edge_function-area.type_inv }) in
-    omega (arith, ints, back)
-
 pub returns : goal.returns
 returns c =
     let t = c.t.inside in

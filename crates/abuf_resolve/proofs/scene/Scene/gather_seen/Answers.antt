@@ -3,7 +3,7 @@ use Rattle.std.proofs.lemmas.List.{take_more}
 use Rattle.abuf_raster.specs.Samples.{offsets_of}
 use Rattle.abuf_resolve.proofs.Seen.{with_one, without_one}
 use Rattle.abuf_resolve.proofs.scene.Scene.gather_seen.Goals as goal
-use Rattle.abuf_resolve.proofs.scene.Scene.gather_seen.Goals.{then-has_sample+in_ok-next, else-has_sample}
+use Rattle.abuf_resolve.proofs.scene.Scene.gather_seen.Goals.{then-covers+in_ok-next, else-covers}
 
 pub loop-word-preserved : goal.loop-word-preserved
 loop-word-preserved c =
@@ -14,14 +14,14 @@ loop-word-preserved c =
     let list = c.args.list.now in
     let i = c.loop-word.word-index in
     let more : take (i + 1) list ≡ take i list ++ get_or list i 0 ∷ [] = take_more list i 0 (omega arith) in
-    elim c.if-has_sample.branch [
-      | then-has_sample+in_ok-next w ↦ record {
-        seen = rw (w.keys-is, w.least-is, more, with_one os scene.planes at.x at.y k (take i list) (get_or list i 0) (sym c.has_sample.ensures ∙ w.if-has_sample.true))
+    elim c.if-covers.branch [
+      | then-covers+in_ok-next w ↦ record {
+        seen = rw (w.keys-is, w.least-is, more, with_one os scene.planes at.x at.y k (take i list) (get_or list i 0) (sym c.covers.ensures ∙ w.if-covers.true))
             (w.in_ok-next.ensures.seen _ c.loop-word.invariant.seen);
         fit = rw w.keys-is (w.in_ok-next.ensures.words c.loop-word.invariant.fit);
       }
-      | else-has_sample w ↦ record {
-        seen = rw (w.keys-is, w.least-is, more, without_one os scene.planes at.x at.y k (take i list) (get_or list i 0) (sym c.has_sample.ensures ∙ w.if-has_sample.false)) c.loop-word.invariant.seen;
+      | else-covers w ↦ record {
+        seen = rw (w.keys-is, w.least-is, more, without_one os scene.planes at.x at.y k (take i list) (get_or list i 0) (sym c.covers.ensures ∙ w.if-covers.false)) c.loop-word.invariant.seen;
         fit = rw w.keys-is c.loop-word.invariant.fit;
       }
     ]

@@ -17,12 +17,12 @@ returns-clause-value c =
     let upper = c.args.upper in
     let paints = scene.paints.now in
     let bg = scene.background in
-    let a : ℕ = c.samples_of-of_lower.result in
-    let b : ℕ = c.samples_of-of_upper.result in
+    let a : ℕ = c.mask-of_lower.result in
+    let b : ℕ = c.mask-of_upper.result in
     let colours : ℕ → List ℕ = laid_at scene (lower ∷ upper ∷ []) in
-    let both_fits : bit_and a b < 2 ^ 32 = omega (arith, and_le_l a b, c.samples_of-of_lower.type_inv) in
-    let has_lower = λ (k : ℕ). ap (λ (m : ℕ). in_set m k) (sym c.samples_of-of_lower.ensures) in
-    let has_upper = λ (k : ℕ). ap (λ (m : ℕ). in_set m k) (sym c.samples_of-of_upper.ensures) in
+    let both_fits : bit_and a b < 2 ^ 32 = omega (arith, and_le_l a b, c.mask-of_lower.type_inv) in
+    let has_lower = λ (k : ℕ). ap (λ (m : ℕ). in_set m k) (sym c.mask-of_lower.ensures) in
+    let has_upper = λ (k : ℕ). ap (λ (m : ℕ). in_set m k) (sym c.mask-of_upper.ensures) in
     let with_both = c.with.ensures.holds colours (c.new.ensures.holds colours)
     (λ k l r s.
     let is = of_both a b k s in
@@ -34,13 +34,13 @@ returns-clause-value c =
     two_colours paints k bg lower upper false true (has_lower k ∙ apart_from a b k left.1 s) (has_upper k ∙ s) ∙ sym c.laid_over-2.ensures) in
     let with_lower = c.with-3.ensures.holds colours with_upper
     (λ k l r s.
-    let left = of_left c.with.result.rest b k c.samples_of-of_upper.type_inv (omega (arith, l, c.with-2.ensures.fair.few)) (ap (λ (m : ℕ). in_set m k) (sym c.with-2.ensures.left) ∙ r) in
+    let left = of_left c.with.result.rest b k c.mask-of_upper.type_inv (omega (arith, l, c.with-2.ensures.fair.few)) (ap (λ (m : ℕ). in_set m k) (sym c.with-2.ensures.left) ∙ r) in
     two_colours paints k bg lower upper true false (has_lower k ∙ s) (has_upper k ∙ left.1) ∙ sym c.laid_over-beneath.ensures) in
     let size : c.with-3.result.samples ≡ length (offsets_of scene.pattern) =
     c.with-3.ensures.samples ∙ (c.with-2.ensures.samples ∙ (c.with.ensures.samples ∙ (c.new.ensures.samples ∙ c.size.ensures))) in
     c.all_with.ensures.value colours with_lower
     (λ k l r s.
-    let left = of_left c.with-2.result.rest a k c.samples_of-of_lower.type_inv (omega (arith, l, c.with-3.ensures.fair.few)) (ap (λ (m : ℕ). in_set m k) (sym c.with-3.ensures.left) ∙ r) in
-    let before = of_left c.with.result.rest b k c.samples_of-of_upper.type_inv (omega (arith, l, c.with-3.ensures.fair.few)) (ap (λ (m : ℕ). in_set m k) (sym c.with-2.ensures.left) ∙ left.0) in
+    let left = of_left c.with-2.result.rest a k c.mask-of_lower.type_inv (omega (arith, l, c.with-3.ensures.fair.few)) (ap (λ (m : ℕ). in_set m k) (sym c.with-3.ensures.left) ∙ r) in
+    let before = of_left c.with.result.rest b k c.mask-of_upper.type_inv (omega (arith, l, c.with-3.ensures.fair.few)) (ap (λ (m : ℕ). in_set m k) (sym c.with-2.ensures.left) ∙ left.0) in
     two_colours paints k bg lower upper false false (has_lower k ∙ left.1) (has_upper k ∙ before.1))
     ∙ ap (summed colours) size

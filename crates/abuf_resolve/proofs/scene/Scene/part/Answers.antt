@@ -1,9 +1,9 @@
 use Rattle.std.proofs.Common.{◌≡◌, ◌∙◌, ◌+◌, ◌-◌, [], List, ℕ, ap, sym, subst, length, slice_index_or, arith}
 use Rattle.std.specs.List.{range_with_len}
+use Rattle.abuf_raster.proofs.Blocks.{range_more}
 use Rattle.abuf_resolve.specs.Parts.{IsPart}
 use Rattle.abuf_resolve.specs.Scene.{sum_in, sum_of_list}
 use Rattle.abuf_resolve.proofs.Parts.{part_more}
-use Rattle.abuf_resolve.proofs.Places.{range_more}
 use Rattle.abuf_resolve.proofs.scene.Scene.part.Goals as goal
 
 pub loop-i-preserved : goal.loop-i-preserved

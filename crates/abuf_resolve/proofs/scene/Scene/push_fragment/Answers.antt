@@ -11,6 +11,6 @@ returns-then-greatest_word-least-clause-seen c =
     let os = offsets_of scene.pattern in
     let at = c.args.at in
     let word = sample_word os scene.planes at.x at.y c.args.k c.args.word in
-    let above = subst (λ (n : ℕ). NoWordAbove scene.planes n c.greatest_word.result) c.prim_of.ensures c.greatest_word.ensures in
+    let above = subst (λ (n : ℕ). NoWordAbove scene.planes n c.greatest_word.result) c.primitive.ensures c.greatest_word.ensures in
     let bound : word ≤ c.greatest_word.result = above os at.x at.y c.args.k (c.requires.word.covered c.args.k c.requires.sample c.requires.has) in
     still_seen scene.paints.now word c.args.keys.now.items c.args.least (omega (arith, bound, c.if-greatest_word-least.true))

@@ -1,4 +1,4 @@
-use Rattle.std.proofs.Common.{◌≡◌, ◌∙◌, ◌≤◌, ◌^◌, [], ◌∷◌, ℕ, ap₂, length, arith}
+use Rattle.std.proofs.Common.{◌≡◌, ◌∙◌, [], ◌∷◌, ℕ, ap₂, length, arith}
 use Rattle.std.specs.List.{All}
 use Rattle.std.proofs.lemmas.List.Elements.{All-cons, All-nil}
 use Rattle.abuf_raster.specs.Samples.{offsets_of}
@@ -15,10 +15,8 @@ pair_sums : (scene : Scene) (at : Pixel) (lower upper : ℕ) → IsFragmentOf sc
     → summed (laid_at scene (lower ∷ upper ∷ [])) (length (offsets_of scene.pattern)) ≡ sum_at scene at (lower ∷ upper ∷ [])
 pair_sums scene at lower upper is_lower is_upper ascend =
     let P : ℕ → Type 0 = IsFragmentOf scene at in
-    let few = scene.few in
-    let limit : length scene.planes ≤ 2 ^ 24 = omega arith in
     let all : All P (lower ∷ upper ∷ []) = All-cons P lower (upper ∷ []) is_lower (All-cons P upper [] is_upper (All-nil P)) in
-    sums_in_order (offsets_of scene.pattern) scene.planes limit at.x at.y scene.paints.now scene.background (lower ∷ upper ∷ []) all ascend
+    sums_in_order (offsets_of scene.pattern) scene.planes scene.few at.x at.y scene.paints.now scene.background (lower ∷ upper ∷ []) all ascend
 
 pub returns-then-are_apart-clause-value : goal.returns-then-are_apart-clause-value
 returns-then-are_apart-clause-value c =

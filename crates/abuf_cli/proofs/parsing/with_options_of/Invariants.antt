@@ -1,0 +1,7 @@
+use Rattle.std.proofs.Common.{◌≡◌, take}
+use Rattle.clap.specs.Words.{app_of}
+use Rattle.abuf_cli.specs.Commands.{with_options}
+use Rattle.abuf_cli.proofs.parsing.with_options_of.Given as goal
+
+abbrev pub invariant-loop-option : goal.invariant-loop-option
+invariant-loop-option l = app_of l.command ≡ with_options (app_of l.initial.command) (take l.option-index l.options)

@@ -1,0 +1,121 @@
+-- The numbers that turns have drawn, and the results for them.
+use Rattle.std.proofs.Common.{◌≡◌, ◌≢◌, ℕ, zero, suc, ◌+◌, ◌<◌, ◌≤◌, Bool, true, false, cond, eqb, nat_lt, List, [], ◌∷◌, ◌++◌, length, map, filter, slice_index_or, sym, refl, ap, ◌∙◌, subst, arith, eq-eqb, ne_eqb, ⊎_elim, append-nil, IsPermutation, All, Result, Ok, sum_by, if◌then◌else◌, ◌==◌}
+use denote.Param.Members.{Shared}
+use Rattle.std.specs.Fn.{FnReturns}
+use Rattle.std.specs.List.Sorted.{IsNonDecreasingBy}
+use Rattle.std.proofs.lemmas.Bool.{cases_eq, cases_lt, le-ltb, lt-ltb}
+use Rattle.std.proofs.lemmas.List.{length-map, map-append}
+use Rattle.std.proofs.lemmas.List.Elements.{All-head, All-tail, All-append, filter-append}
+use Rattle.std.proofs.lemmas.List.Sums.{sum_by-cons}
+use Rattle.std.proofs.lemmas.List.Sorted.{All-permutation, IsPermutation-map, sum_by-IsPermutation}
+use Rattle.abuf_num.specs.Counting.{below, times}
+use Rattle.abuf_num.specs.declared.list.NoMemory.{NoMemory}
+use Rattle.abuf_num.proofs.Counting.{times-append, below_yes, below_no, below_le, below_from, below_more}
+use Rattle.abuf_share.specs.declared.numbered.Entry.{Entry}
+use Rattle.abuf_share.specs.Numbered.{AreOf, GivesEachOk, HasPassed, IsGiven, number_of, value_of}
+
+-- how often a number stands in a list is a sum over the list
+times_sum : (n : ℕ) (xs : List ℕ) → times n xs ≡ sum_by (λ x. if x == n then 1 else 0) xs
+times_sum n [] = refl
+times_sum n (x ∷ xs) = ap (λ (k : ℕ). (if x == n then 1 else 0) + k) (times_sum n xs) ∙ sym (sum_by-cons (λ x. if x == n then 1 else 0) x xs)
+
+-- Whatever the order of a list, each number stands in it as often.
+pub times_permuted : (n : ℕ) (xs ys : List ℕ) → IsPermutation xs ys → times n xs ≡ times n ys
+times_permuted n xs ys p = times_sum n xs ∙ (sym (sum_by-IsPermutation (λ x. if x == n then 1 else 0) xs ys p) ∙ sym (times_sum n ys))
+
+-- A number stands among those that pass a test as often as before where it passes, and else never.
+times_kept : (p : ℕ → Bool) (n : ℕ) (xs : List ℕ) → times n (filter p xs) ≡ cond (p n) (times n xs) 0
+times_kept p n [] = go (p n) where
+  go : (b : Bool) → times n [] ≡ cond b (times n []) 0
+  go true = refl
+  go false = refl
+times_kept p n (x ∷ xs) = ⊎_elim (λ (e : x ≡ n). subst (λ (y : ℕ). times n (filter p (y ∷ xs)) ≡ cond (p n) (times n (y ∷ xs)) 0) (sym e) (same (p n) (times_kept p n xs)))
+    (λ (e : x ≢ n). other (p x) (ap (λ (b : Bool). cond {A = ℕ} b 1 0) (ne_eqb x n e)) (p n) (times_kept p n xs)) (cases_eq x n)
+  where
+    same : (b : Bool) → times n (filter p xs) ≡ cond b (times n xs) 0 → times n (cond b (n ∷ filter p xs) (filter p xs)) ≡ cond b (times n (n ∷ xs)) 0
+    same true r = omega (arith, r)
+    same false r = r
+
+    other : (b : Bool) → cond {A = ℕ} (eqb x n) 1 0 ≡ 0 → (c : Bool) → times n (filter p xs) ≡ cond c (times n xs) 0 → times n (cond b (x ∷ filter p xs) (filter p xs)) ≡ cond c (times n (x ∷ xs)) 0
+    other true z true r = omega (arith, r, z)
+    other true z false r = omega (arith, r, z)
+    other false z true r = omega (arith, r, z)
+    other false z false r = r
+
+module _ {A : Type 0} (k : A → ℕ) where
+  -- What is below all numbers stands nowhere among them.
+  none_below : (n : ℕ) (es : List A) → ((i : ℕ) (d : A) → i < length es → n < k (slice_index_or es i d)) → times n (map k es) ≡ 0
+  none_below n [] h = refl
+  none_below n (e ∷ es) h = let l = h 0 e (omega arith) in let t = ap (λ (b : Bool). cond {A = ℕ} b 1 0) (ne_eqb (k e) n (λ (s : k e ≡ n). omega arith)) in let r = none_below n es (λ i d w. h (suc i) d (omega arith)) in omega arith
+
+  -- The first of ascending numbers from a on, each of which stands there once, is a.
+  first_is : (e : A) (es : List A) (a count : ℕ) → IsNonDecreasingBy k (e ∷ es) → ((n : ℕ) → times n (map k (e ∷ es)) + below n a ≡ below n (a + count)) → k e ≡ a
+  first_is e es a count up once =
+      let t = ap (λ (b : Bool). cond {A = ℕ} b 1 0) (eq-eqb (k e) (k e) refl) in let at = once (k e) in
+      let within : k e < a + count = below_from (k e) (a + count) (omega arith) in
+      ⊎_elim (λ (l : k e < a). let y = below_yes (k e) a l in let b = below_le (k e) (a + count) in absurd (omega arith))
+      (λ (l : a ≤ k e). ⊎_elim
+      (λ (m : a < k e). let z = none_below a (e ∷ es) (λ i d w. let u = up 0 i d (omega arith) w in omega arith) in let o = once a in
+      let no = below_no a a (omega arith) in let y = below_yes a (a + count) (omega arith) in absurd (omega arith))
+      (λ (m : k e ≤ a). omega arith) (cases_lt a (k e)))
+      (cases_lt (k e) a)
+
+-- One of the numbers of two lists is beyond the parts where one of the second is.
+pub passed_both : (parts : ℕ) (ns ms : List ℕ) → HasPassed parts ms → HasPassed parts (ns ++ ms)
+passed_both parts ns ms p = record { number = p.number; is_beyond = p.is_beyond; taken = omega (arith, p.taken, times-append p.number ns ms) }
+
+-- a list of one number that is beyond them
+pub passed_one : (parts number : ℕ) → parts ≤ number → HasPassed parts (number ∷ [])
+passed_one parts number l = let t = ap (λ (b : Bool). cond {A = ℕ} b 1 0) (eq-eqb number number refl) in record { number = number; is_beyond = l; taken = omega arith }
+
+module _ {F X : Type 0} (g : Shared F (ℕ × Unit {0}) (Result X NoMemory)) (f : F) where
+  -- Two lists of results are a list of the results for both.
+  pub are_both : (parts : ℕ) (ns ms : List ℕ) (es ds : List (Entry X)) → AreOf g f parts ns es → AreOf g f parts ms ds → AreOf g f parts (ns ++ ms) (es ++ ds)
+  are_both parts ns ms es ds a b = record {
+    numbers = map-append number_of es ds ∙ ((λ i. a.numbers i ++ b.numbers i) ∙ sym (filter-append (λ (n : ℕ). nat_lt n parts) ns ms));
+    given = All-append (IsGiven g f) es ds a.given b.given;
+  }
+
+  -- For a number that is beyond the parts there is no result.
+  pub are_past : (parts number : ℕ) (ns : List ℕ) (es : List (Entry X)) → parts ≤ number → AreOf g f parts ns es → AreOf g f parts (ns ++ number ∷ []) es
+  are_past parts number ns es l a = record {
+    numbers = a.numbers ∙ (sym (append-nil (filter (λ (n : ℕ). nat_lt n parts) ns)) ∙ (ap (λ (b : Bool). filter (λ (n : ℕ). nat_lt n parts) ns ++ cond b (number ∷ []) []) (sym (le-ltb number parts l))
+        ∙ sym (filter-append (λ (n : ℕ). nat_lt n parts) ns (number ∷ []))));
+    given = a.given;
+  }
+
+  -- Where numbers are those below their count, each once, and one of them is beyond the parts, there is a result for each part.
+  once_each : (parts : ℕ) (ns : List ℕ) (es : List (Entry X)) → ((n : ℕ) → times n ns ≡ below n (length ns)) → HasPassed parts ns → AreOf g f parts ns es → (n : ℕ) → times n (map number_of es) ≡ below n parts
+  once_each parts ns es once past a n =
+      let o = once past.number in let t = past.taken in let b = past.is_beyond in let l : past.number < length ns = below_from past.number (length ns) (omega arith) in
+      ap (times n) a.numbers ∙ (times_kept (λ (m : ℕ). nat_lt m parts) n ns
+      ∙ ⊎_elim (λ (w : n < parts). let y = below_yes n (length ns) (omega arith) in rw (lt-ltb n parts w) (once n ∙ y)) (λ (w : parts ≤ n). rw (le-ltb n parts w) refl) (cases_lt n parts))
+
+  -- Of ascending numbers from a on, each once, every one stands at its place.
+  stand : (es : List (Entry X)) (a count : ℕ) → IsNonDecreasingBy number_of es → ((n : ℕ) → times n (map number_of es) + below n a ≡ below n (a + count)) → All (IsGiven g f) es
+      → (length es ≡ count) × ((i n : ℕ) (d : X) → i < count → n ≡ a + i → FnReturns g f (n, tt) (Ok (slice_index_or (map value_of es) i d)))
+  stand [] a zero up once given = (refl, λ i n d l s. absurd (omega arith))
+  stand [] a (suc count) up once given = let o = once a in let no = below_no a a (omega arith) in let y = below_yes a (a + suc count) (omega arith) in absurd (omega arith)
+  stand (e ∷ es) a zero up once given = let o = once e.number in let t = ap (λ (b : Bool). cond {A = ℕ} b 1 0) (eq-eqb e.number e.number refl) in
+      let w : e.number < a + 0 = below_from e.number (a + 0) (omega arith) in let is = first_is number_of e es a 0 up once in absurd (omega arith)
+  stand (e ∷ es) a (suc count) up once given =
+      let is : e.number ≡ a = first_is number_of e es a (suc count) up once in
+      let rest = stand es (a + 1) count (λ i j d l m. up (suc i) (suc j) d (omega arith) (omega arith))
+      (λ n. let o = once n in let m = below_more n a in let s = ap (λ (k : ℕ). cond {A = ℕ} (eqb k n) 1 0) is in let z : a + suc count ≡ a + 1 + count = omega arith in let b = ap (below n) z in omega arith)
+      (All-tail (IsGiven g f) e es given) in
+      (omega (arith, rest.0), at is rest.1)
+    where
+      at : e.number ≡ a → ((i n : ℕ) (d : X) → i < count → n ≡ a + 1 + i → FnReturns g f (n, tt) (Ok (slice_index_or (map value_of es) i d)))
+          → (i n : ℕ) (d : X) → i < suc count → n ≡ a + i → FnReturns g f (n, tt) (Ok (slice_index_or (map value_of (e ∷ es)) i d))
+      at is rest zero n d l s = let z : e.number ≡ n = omega arith in subst (λ (k : ℕ). FnReturns g f (k, tt) (Ok e.value)) z (All-head (IsGiven g f) e es given)
+      at is rest (suc i) n d l s = rest i n d (omega arith) (omega arith)
+
+  -- Put in ascending order, the results are those for the parts from 0 on.
+  pub sorted_gives : (parts : ℕ) (ns : List ℕ) (es ss : List (Entry X)) → ((n : ℕ) → times n ns ≡ below n (length ns)) → HasPassed parts ns → AreOf g f parts ns es → IsPermutation es ss → IsNonDecreasingBy number_of ss
+      → (length (map value_of ss) ≡ parts) × GivesEachOk g f parts (map value_of ss)
+  sorted_gives parts ns es ss once past are p up =
+      let s = stand ss 0 parts up
+      (λ n. let o = once_each parts ns es once past are n in let t = times_permuted n (map number_of es) (map number_of ss) (IsPermutation-map number_of es ss p) in let z = below_no n 0 (omega arith) in
+      let e : 0 + parts ≡ parts = omega arith in let b = ap (below n) e in omega arith)
+      (All-permutation (IsGiven g f) es ss p are.given) in
+      (length-map ss value_of ∙ s.0, λ i d l. (refl, s.1 i i d l (omega arith)))

@@ -1,0 +1,13 @@
+//! Work shared among threads by numbers.
+//!
+//! A [`Desk`] deals numbers out: no two turns get the same number, and once all turns are joined, the numbers drawn are those
+//! from 0 on, each once. [`map_numbered`] calls a function for each number below a count on 1 to 64 threads, which draw the numbers
+//! from a desk, and gives the results by ascending number.
+#![tactic(auto)]
+
+mod desk;
+mod numbered;
+mod rule;
+
+pub use desk::{Desk, MAX_PARTS, Turn};
+pub use numbered::map_numbered;
