@@ -6,34 +6,37 @@
     prove.py --times            tells of each crate how long it took
 
 Crates that don't stand on each other are proved side by side. The one that the longest chain of others waits for comes first, and
-takes half of the processors that are idle, or all if no other crate can begin. What is proved already stays as it is, and what a
-run that was ended had proved is kept.
+takes half of the processors that are idle, or all if no other crate can begin. A crate that is proved stays so until it or one
+below it changes, also if the run is ended.
 
-`rt` locks a crate and all below it while it works, so each crate is proved in a folder of its own, out/proving/NAME, beside copies
-of what was made of the crates below. Its work is then moved to where `rt` keeps it.
+Each crate is proved over the statements of those below, which stand in out/proved, as `rt ci` proves it. `rt lib` keeps whole
+proofs, and to read them all takes the upper crates longer than to prove their own.
 """
 
+import fcntl
+import hashlib
 import os
 import shutil
 import signal
 import subprocess
 import sys
+import tempfile
 import time
-from typing import IO, Iterable, Mapping
+from typing import Iterator, Mapping
 
 from abuflib import report
 from abuflib.program import TOP
 from abuflib.report import Fault
 
-PROVING = os.path.join(TOP, "out", "proving")
+PROVED = os.path.join(TOP, "out", "proved")
 PROGRAM = "abuf"
 # Tests, callers, and programs of their own: the program doesn't need them.
 OTHERS = ("abuf_drawing_rows", "abuf_reading_rows", "abuf_refused", "abuf_rows", "abuf_uses", "abuf_watch")
 
-# What a check takes at most with one processor, and with each further one, in bytes.
+# What a proof takes at most with one processor, and with each further one, in bytes.
 MEMORY = 4_000_000_000
 MORE_MEMORY = 1_500_000_000
-# A check gains little from more processors than these.
+# A proof gains little from more processors than these.
 MOST_PROCESSORS = 4
 
 Crates = Mapping[str, list[str]]
@@ -43,18 +46,23 @@ Crates = Mapping[str, list[str]]
 
 
 def read_crates(text: str) -> dict[str, list[str]]:
-    """Each crate of crates.txt, with those of this repository that it names."""
+    """Each crate of crates.txt, with those that it names, of this repository and of the toolchain."""
     named = {}
     for line in text.splitlines():
         head, _, rest = line.partition("#")[0].partition(":")
         if head.strip():
             named[head.split()[0]] = rest.split()
-    return {name: [it for it in below if it in named] for name, below in named.items()}
+    return named
+
+
+def own_below(crates: Crates, name: str) -> list[str]:
+    """The crates of this repository that a crate names."""
+    return [it for it in crates[name] if it in crates]
 
 
 def all_below(crates: Crates, name: str) -> set[str]:
-    found = set(crates[name])
-    for it in crates[name]:
+    found = set(own_below(crates, name))
+    for it in own_below(crates, name):
         found |= all_below(crates, it)
     return found
 
@@ -63,20 +71,29 @@ def chains(crates: Crates, lines: Mapping[str, int]) -> dict[str, int]:
     """For each crate the lines of the longest chain of crates that stand on each other, from it up."""
     found = dict(lines)
     for name in sorted(crates, key=lambda it: -len(all_below(crates, it))):
-        for it in crates[name]:
+        for it in own_below(crates, name):
             found[it] = max(found[it], lines[it] + found[name])
     return found
+
+
+def crate_folder(name: str) -> str:
+    return os.path.join(TOP, "crates", name)
+
+
+def sources(name: str) -> Iterator[str]:
+    """The files that a crate's proof is made from."""
+    for kind in ("proofs", "specs", "src"):
+        for folder, folders, files in os.walk(os.path.join(crate_folder(name), kind)):
+            folders.sort()
+            yield from (os.path.join(folder, it) for it in sorted(files))
 
 
 def count_lines(name: str) -> int:
     """How long a crate is, by which the time of its proof is guessed. A short one takes a while too."""
     count = 100
-    for kind in ("src", "specs", "proofs"):
-        for folder, _, files in os.walk(os.path.join(crate_folder(TOP, name), kind)):
-            for file in files:
-                if file.endswith((".rt", ".antt")):
-                    with open(os.path.join(folder, file), "rb") as it:
-                        count += it.read().count(b"\n")
+    for file in sources(name):
+        with open(file, "rb") as it:
+            count += it.read().count(b"\n")
     return count
 
 
@@ -103,60 +120,73 @@ def free_memory() -> int:
     return MEMORY
 
 
+# ---- the toolchain
+
+
+class Toolchain:
+    """What proves, builds and links, found by the rt on the PATH."""
+
+    def __init__(self) -> None:
+        rt = shutil.which("rt")
+        if rt is None:
+            raise Fault("there is no rt: the toolchain has to be installed, and to stand on the PATH")
+        self.folder = os.path.dirname(os.path.dirname(os.path.realpath(rt)))
+
+    def path(self, *parts: str) -> str:
+        return os.path.join(self.folder, *parts)
+
+    def proves(self, crates: Crates, name: str, processors: int) -> list[str]:
+        """The command that proves a crate and makes what is needed of it: the statements of a library, or the program."""
+        is_library = os.path.isfile(os.path.join(crate_folder(name), "src", "lib.rt"))
+        words = [self.path("bin", "rattle"), "build" if is_library or name == PROGRAM else "check", "--crate-name", name,
+                 "src/lib.rt" if is_library else "src/main.rt", "--jobs", str(processors), "--links", f"{name}=",
+                 "--antt-project", self.path("rattle", "logic", "antt-project.json"), "--logic-built", self.path("logic_built"),
+                 "-L", f"dependency={self.path('rlibs')}", "-L", f"dependency={PROVED}"]
+        for it in ["std", *crates[name]]:
+            words += ["--extern", f"{it}={library(it) if it in crates else self.path('rlibs', it + '.rlib')}"]
+        if is_library:
+            words += ["--statements", "-o", library(name)]
+        elif name == PROGRAM:
+            words += ["--toolchain", self.path("toolchain"), "--backend", "llvm", "-o", f"out/{name}.o"]
+        return words
+
+    def links(self) -> list[str]:
+        return [self.path("bin", "rattle-link"), "--target", "x86_64-unknown-linux-gnu", "--toolchain", self.path("toolchain"),
+                "-o", f"out/{PROGRAM}", f"out/{PROGRAM}.o", self.path("c", "libos_c.a"), self.path("c", "liblibc_c.a")]
+
+    def sums(self, crates: Crates) -> dict[str, str]:
+        """Of each crate a sum of all that its proof is made from."""
+        with open(self.path("WHAT"), "rb") as file:
+            kit = file.read()
+        found: dict[str, str] = {}
+        for name in sorted(crates, key=lambda it: len(all_below(crates, it))):
+            sum = hashlib.sha256(kit + repr([found[it] for it in own_below(crates, name)]).encode())
+            for path in sources(name):
+                with open(path, "rb") as file:
+                    sum.update(repr((os.path.relpath(path, TOP), file.read())).encode())
+            found[name] = sum.hexdigest()
+        return found
+
+
+def library(name: str) -> str:
+    return os.path.join(PROVED, name + ".rlib")
+
+
 # ---- proving
 
 
-def crate_folder(top: str, name: str) -> str:
-    return os.path.join(top, "crates", name)
-
-
-def command_for(name: str) -> str:
-    """The command that proves the crate and makes what is needed of it: the program, a library for those above, or nothing."""
-    is_program = os.path.isfile(os.path.join(crate_folder(TOP, name), "src", "main.rt"))
-    return "run" if name == PROGRAM else "check" if is_program else "lib"
-
-
-def link_or_copy(source: str, to: str) -> None:
-    try:
-        os.link(source, to)
-    except OSError:
-        shutil.copy(source, to)
-
-
 class Proof:
-    """The proof of one crate, under way in a folder of its own."""
+    """The proof of one crate, under way."""
 
-    def __init__(self, crates: Crates, name: str, processors: int) -> None:
-        self.name, self.processors, self.began = name, processors, time.monotonic()
-        self.room = os.path.join(PROVING, name)
-        self.own = os.path.join(crate_folder(TOP, name), "out")
-        self.out = os.path.join(crate_folder(self.room, name), "out")
-        self.lay_out(all_below(crates, name))
-        self.log: IO[str] = open(os.path.join(self.room, "log"), "w+", encoding="utf-8", errors="replace")
-        words = ["rt", command_for(name), "--jobs", str(processors)]
-        try:
-            self.ran = subprocess.Popen(words, cwd=os.path.dirname(self.out), stdin=subprocess.DEVNULL, stdout=self.log,
-                                        stderr=subprocess.STDOUT, start_new_session=True)
-        except FileNotFoundError:
-            raise Fault("there is no rt: the toolchain has to be installed, and to stand on the PATH") from None
+    def __init__(self, toolchain: Toolchain, crates: Crates, name: str, processors: int) -> None:
+        self.toolchain, self.name, self.processors, self.began = toolchain, name, processors, time.monotonic()
+        os.makedirs(os.path.join(crate_folder(name), "out"), exist_ok=True)
+        self.log = tempfile.TemporaryFile("w+", encoding="utf-8", errors="replace")
+        self.ran = self.start(toolchain.proves(crates, name, processors))
 
-    def lay_out(self, below: Iterable[str]) -> None:
-        """Copies the crate and those below it, with what was made of them."""
-        shutil.rmtree(self.room, ignore_errors=True)
-        os.makedirs(os.path.join(self.room, "crates"))
-        named = {*below, self.name}
-        with open(os.path.join(TOP, "crates.txt"), encoding="utf-8") as file, \
-                open(os.path.join(self.room, "crates.txt"), "w", encoding="utf-8") as to:
-            to.writelines(line for line in file if line.partition(":")[0].strip() in named)
-        shutil.copy(os.path.join(TOP, "HANDLES"), self.room)
-        for name in named:
-            shutil.copytree(crate_folder(TOP, name), crate_folder(self.room, name), ignore=shutil.ignore_patterns("out"))
-        for name in below:
-            made = os.path.join("out", "rlib")
-            shutil.copytree(os.path.join(crate_folder(TOP, name), made), os.path.join(crate_folder(self.room, name), made),
-                            copy_function=link_or_copy)
-        if os.path.isdir(self.own):
-            os.rename(self.own, self.out)
+    def start(self, words: list[str]) -> subprocess.Popen[bytes]:
+        return subprocess.Popen(words, cwd=crate_folder(self.name), stdin=subprocess.DEVNULL, stdout=self.log,
+                                stderr=subprocess.STDOUT, start_new_session=True)
 
     def is_running(self) -> bool:
         return self.ran.poll() is None
@@ -166,18 +196,35 @@ class Proof:
             os.killpg(self.ran.pid, signal.SIGTERM)
             self.ran.wait()
 
-    def keep(self) -> bool:
-        """Moves what was made to the crate, and returns whether the crate is proved. If it isn't, the end of what rt said is told."""
-        if os.path.isdir(self.out):
-            os.rename(self.out, self.own)
-        # The program may end in any status.
-        is_proved = os.path.isfile(os.path.join(self.own, PROGRAM)) if self.name == PROGRAM else self.ran.returncode == 0
+    def is_proved(self) -> bool:
+        """Whether the crate is proved, and linked if it is the program; else the end of what the toolchain said is told."""
+        is_proved = self.ran.returncode == 0 and (self.name != PROGRAM or self.start(self.toolchain.links()).wait() == 0)
         if not is_proved:
             self.log.seek(0)
             sys.stderr.writelines(self.log.readlines()[-20:])
-        self.log.close()
-        shutil.rmtree(self.room, ignore_errors=True)
         return is_proved
+
+
+class Kept:
+    """Which crates are proved as they are: by the sum of what each was proved from, which stands beside its statements."""
+
+    def __init__(self, sums: Mapping[str, str]) -> None:
+        self.sums = sums
+
+    def file(self, name: str) -> str:
+        return os.path.join(PROVED, name + ".sum")
+
+    def has(self, name: str) -> bool:
+        made = os.path.join(crate_folder(name), "out", name) if name == PROGRAM else self.file(name)
+        try:
+            with open(self.file(name), encoding="ascii") as file:
+                return file.read() == self.sums[name] and os.path.exists(made)
+        except FileNotFoundError:
+            return False
+
+    def add(self, name: str) -> None:
+        with open(self.file(name), "w", encoding="ascii") as file:
+            file.write(self.sums[name])
 
 
 class Progress:
@@ -199,16 +246,19 @@ class Progress:
         print(text, file=sys.stderr, flush=True)
 
 
-def prove(crates: Crates, processors: int, is_timed: bool) -> int:
-    """Proves the crates, and returns the status."""
-    lines = {name: count_lines(name) for name in crates}
-    chain = chains(crates, lines)
-    left = sorted(crates, key=lambda it: -chain[it])
+def prove(crates: Crates, left: list[str], processors: int, is_timed: bool) -> int:
+    """Proves the crates that are left, and returns the status."""
+    toolchain = Toolchain()
+    kept = Kept(toolchain.sums(crates))
+    left = [it for it in left if not kept.has(it)]
+    lines = {name: count_lines(name) for name in left}
+    chain = chains({it: [below for below in crates[it] if below in left] for it in left}, lines)
+    left.sort(key=lambda it: -chain[it])
     running: list[Proof] = []
     progress, memory = Progress(lines, is_timed), free_memory()
     try:
         while left or running:
-            ready = [it for it in left if all(below in progress.proved for below in crates[it])]
+            ready = [it for it in left if all(kept.has(below) for below in own_below(crates, it))]
             while ready:
                 idle = processors - sum(it.processors for it in running)
                 room = memory - sum(memory_of(it.processors) for it in running) if running else max(memory, MEMORY)
@@ -216,19 +266,18 @@ def prove(crates: Crates, processors: int, is_timed: bool) -> int:
                 if taken == 0:
                     break
                 left.remove(ready[0])
-                running.append(Proof(crates, ready.pop(0), taken))
+                running.append(Proof(toolchain, crates, ready.pop(0), taken))
             time.sleep(0.2)
             for proof in [it for it in running if not it.is_running()]:
                 running.remove(proof)
-                if not proof.keep():
+                if not proof.is_proved():
                     print(f"abuf: {proof.name} wasn't proved", file=sys.stderr)
                     return report.WRONG
+                kept.add(proof.name)
                 progress.add(proof)
     finally:
         for proof in running:
             proof.stop()
-            proof.keep()
-        shutil.rmtree(PROVING, ignore_errors=True)
     return report.WELL
 
 
@@ -248,10 +297,11 @@ def main() -> int:
         signal.signal(number, ended)
     with open(os.path.join(TOP, "crates.txt"), encoding="utf-8") as file:
         crates = read_crates(file.read())
-    if not given.all:
-        for name in OTHERS:
-            crates.pop(name, None)
-    return prove(crates, given.processors, given.times)
+    os.makedirs(PROVED, exist_ok=True)
+    # A second run waits here until the first has ended, and then finds its work.
+    with open(os.path.join(PROVED, "lock"), "w", encoding="ascii") as lock:
+        fcntl.flock(lock, fcntl.LOCK_EX)
+        return prove(crates, [it for it in crates if given.all or it not in OTHERS], given.processors, given.times)
 
 
 if __name__ == "__main__":

@@ -1,4 +1,4 @@
-"""The order in which crates are proved, and how the processors are shared among them."""
+"""The order in which crates are proved, how the processors are shared among them, and what is kept."""
 
 import os
 import tempfile
@@ -9,13 +9,15 @@ import helping
 import prove
 from abuflib.program import TOP
 
-CRATES = {"num": [], "text": ["num"], "raster": ["num"], "view": ["text", "raster"]}
+CRATES = {"num": [], "text": ["num", "bstr"], "raster": ["num"], "view": ["text", "raster"]}
 
 
 class Crates(unittest.TestCase):
     def test_lines_of_crates_txt(self):
         text = "# What stands on what.\n\nnum:\ntext: num bstr\nview tests_may=Threads: text  # and a remark\n"
-        self.assertEqual(prove.read_crates(text), {"num": [], "text": ["num"], "view": ["text"]})
+        crates = prove.read_crates(text)
+        self.assertEqual(crates, {"num": [], "text": ["num", "bstr"], "view": ["text"]})
+        self.assertEqual(prove.own_below(crates, "text"), ["num"])
 
     def test_all_below(self):
         self.assertEqual(prove.all_below(CRATES, "view"), {"num", "text", "raster"})
@@ -53,78 +55,121 @@ class Sharing(unittest.TestCase):
 
 
 class Proving(unittest.TestCase):
-    """A repository of three crates and the program, over an rt that writes what it was asked."""
+    """A repository of three crates and the program, over a toolchain that writes down what it is asked, and makes what it is told to
+    if all that it is given is there."""
 
-    RT = """#!/bin/sh
-crate=$(basename "$PWD")
-echo "$crate $*" >> "$RT_LOG"
-for below in ../*/; do
-    [ "$below" = "../$crate/" ] || [ -e "$below/out/rlib/made" ] || exit 3
+    RATTLE = """#!/bin/sh
+echo "$@" >> "$RATTLE_LOG"
+verb=$1 crate= made=
+while [ $# -gt 0 ]; do
+    case $1 in
+    --crate-name) crate=$2 ;;
+    --extern) case $2 in std=* | bstr=*) ;; *) [ -e "${2#*=}" ] || exit 3 ;; esac ;;
+    -o) made=$2 ;;
+    esac
+    shift
 done
 echo "told by $crate"
-[ "$crate" = "${RT_FAILS:-}" ] && exit 1
-mkdir -p out/rlib && echo made > out/rlib/made
-[ "$1" = run ] && echo program > out/abuf
-exit 0
+[ "$crate" = "${RATTLE_FAILS:-}" ] && exit 1
+[ "$verb" = check ] || echo made > "$made"
 """
+    LINK = """#!/bin/sh
+[ -e out/abuf.o ] && echo program > out/abuf
+"""
+    NAMED = {"num": [], "scene": ["num", "bstr"], "raster": ["num"], "abuf": ["scene", "raster"]}
 
     def setUp(self):
         folder = tempfile.TemporaryDirectory()
         self.addCleanup(folder.cleanup)
         self.top = folder.name
-        helping.write(os.path.join(self.top, "crates.txt"), b"num:\nscene: num\nraster: num\nabuf: scene raster\n")
-        helping.write(os.path.join(self.top, "HANDLES"), b"Handles allowed: none.\n")
-        for name in ("num", "scene", "raster", "abuf"):
-            os.makedirs(os.path.join(self.top, "crates", name, "src"))
-            helping.write(os.path.join(self.top, "crates", name, "src", "lib.rt"), b"// Nothing.\n")
-        os.chmod(helping.write(os.path.join(self.top, "rt"), self.RT.encode()), 0o755)
+        self.kit = os.path.join(os.path.realpath(self.top), "kit")
+        os.makedirs(os.path.join(self.kit, "bin"))
+        for name, text in (("rt", "#!/bin/sh\n"), ("rattle", self.RATTLE), ("rattle-link", self.LINK)):
+            os.chmod(helping.write(os.path.join(self.kit, "bin", name), text.encode()), 0o755)
+        helping.write(os.path.join(self.kit, "WHAT"), b"a toolchain\n")
+        self.write_crates("".join(f"{name}: {' '.join(named)}\n" for name, named in self.NAMED.items()))
+        for name in self.NAMED:
+            self.write_source(name, "main.rt" if name == "abuf" else "lib.rt")
         self.log = os.path.join(self.top, "log")
-        for name, value in (("TOP", self.top), ("PROVING", os.path.join(self.top, "out", "proving"))):
+        for name, value in (("TOP", self.top), ("PROVED", os.path.join(self.top, "out", "proved"))):
             self.enterContext(mock.patch.object(prove, name, value))
-        self.variables = {"PATH": self.top + os.pathsep + os.environ["PATH"], "RT_LOG": self.log}
+        self.variables = {"PATH": os.path.join(self.kit, "bin") + os.pathsep + os.environ["PATH"], "RATTLE_LOG": self.log}
+
+    def write_crates(self, text):
+        helping.write(os.path.join(self.top, "crates.txt"), text.encode())
+
+    def write_source(self, name, file, text="// Nothing.\n"):
+        os.makedirs(os.path.join(self.top, "crates", name, "src"), exist_ok=True)
+        helping.write(os.path.join(self.top, "crates", name, "src", file), text.encode())
 
     def prove(self, *words, **variables):
+        helping.write(self.log, b"")
         with mock.patch.dict(os.environ, {**self.variables, **variables}):
             return helping.call(prove, "--processors", "2", *words, folder=self.top)
 
-    def asked(self):
-        return helping.read(self.log).decode().splitlines()
+    def calls(self):
+        """The words of each call of the prover."""
+        return [it.split() for it in helping.read(self.log).decode().splitlines()]
 
-    def made(self, name):
-        return os.path.isfile(os.path.join(self.top, "crates", name, "out", "rlib", "made"))
+    def asked(self):
+        """Of each call of the prover the crate."""
+        return [it[it.index("--crate-name") + 1] for it in self.calls()]
 
     def test_all_are_proved_lowest_first(self):
         ran = self.prove()
         self.assertEqual(ran.returncode, 0, ran.stderr)
         asked = self.asked()
-        self.assertEqual((asked[0], asked[-1]), ("num lib --jobs 2", "abuf run --jobs 2"))
-        self.assertEqual(sorted(asked[1:3]), ["raster lib --jobs 1", "scene lib --jobs 1"])
+        self.assertEqual((asked[0], sorted(asked[1:3]), asked[3]), ("num", ["raster", "scene"], "abuf"))
+        self.assertEqual([it[it.index("--jobs") + 1] for it in self.calls()], ["2", "1", "1", "2"])
         self.assertTrue(os.path.isfile(os.path.join(self.top, "crates", "abuf", "out", "abuf")))
-        self.assertFalse(os.path.exists(prove.PROVING))
         self.assertIn("proved abuf, 4 of 4", ran.stderr.decode())
 
+    def test_each_is_proved_over_the_statements_of_those_that_it_names(self):
+        self.prove()
+        for name, words in zip(self.asked(), self.calls()):
+            given = dict(words[at + 1].split("=") for at, it in enumerate(words) if it == "--extern")
+            wanted = {it: os.path.join(prove.PROVED, it + ".rlib") for it in self.NAMED[name]}
+            wanted |= {it: os.path.join(self.kit, "rlibs", it + ".rlib") for it in ("std", "bstr") if it == "std" or it in wanted}
+            self.assertEqual(given, wanted)
+            self.assertEqual("--statements" in words, name != "abuf")
+
     def test_one_that_fails(self):
-        ran = self.prove(RT_FAILS="raster")
+        ran = self.prove(RATTLE_FAILS="raster")
         self.assertEqual(ran.returncode, 1)
         self.assertIn("told by raster\nabuf: raster wasn't proved", ran.stderr.decode())
-        self.assertTrue(self.made("num") and not self.made("raster"))
-        self.assertFalse(any(it.startswith("abuf") for it in self.asked()))
-        self.assertFalse(os.path.exists(prove.PROVING))
+        self.assertNotIn("abuf", self.asked())
 
     def test_what_was_proved_is_kept(self):
-        self.prove(RT_FAILS="abuf")
-        self.assertTrue(self.made("num") and self.made("raster") and self.made("scene"))
+        self.prove(RATTLE_FAILS="abuf")
+        self.prove()
+        self.assertEqual(self.asked(), ["abuf"])
+        ran = self.prove()
+        self.assertEqual((ran.returncode, self.asked()), (0, []))
+
+    def test_what_changed_is_proved_anew_with_all_above(self):
+        self.prove()
+        self.write_source("raster", "lib.rt", "// A line.\n")
+        self.prove()
+        self.assertEqual(self.asked(), ["raster", "abuf"])
+        helping.write(os.path.join(self.kit, "WHAT"), b"another toolchain\n")
+        self.prove()
+        self.assertEqual(len(self.asked()), 4)
+
+    def test_a_program_that_was_removed_is_built_again(self):
+        self.prove()
+        os.remove(os.path.join(self.top, "crates", "abuf", "out", "abuf"))
+        self.prove()
+        self.assertEqual(self.asked(), ["abuf"])
 
     def test_another_program_is_checked(self):
-        helping.write(os.path.join(self.top, "crates.txt"), b"num:\nabuf: num\nabuf_watch: num\n")
-        os.makedirs(os.path.join(self.top, "crates", "abuf_watch", "src"))
-        helping.write(os.path.join(self.top, "crates", "abuf_watch", "src", "main.rt"), b"// Nothing.\n")
+        self.write_crates("num:\nabuf: num\nabuf_watch: num\n")
+        self.write_source("abuf_watch", "main.rt")
         ran = self.prove("--all")
         self.assertEqual(ran.returncode, 0, ran.stderr)
-        self.assertEqual({"abuf_watch check"}, {it.partition(" --")[0] for it in self.asked() if it.startswith("abuf_watch")})
+        self.assertEqual([it[0] for it in self.calls() if "abuf_watch" in it], ["check"])
 
     def test_no_toolchain(self):
-        ran = self.prove(PATH=os.path.join(self.top, "src"))
+        ran = self.prove(PATH=os.path.join(self.top, "crates"))
         self.assertEqual(ran.returncode, 2)
         self.assertRegex(ran.stderr.decode(), "there is no rt")
 
