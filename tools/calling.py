@@ -366,12 +366,12 @@ def public_items(crate: str) -> Iterator[Quote]:
             quotes = [quote_item(crate, file, inner) for inner in file.items if inner.is_public]
             yield Quote([item.name], "\n\n".join(quote.text for quote in quotes), [file.path], set().union(*(quote.words for quote in quotes)))
         elif item.kind == "use" and item.is_public:
-            found = re.match(r"pub use (\w+)::(?:\{([^}]*)\}|(\w+))", re.sub(r"\s+", " ", item.head))
+            found = re.match(r"pub use (\w+(?:::[a-z]\w*(?=::))*)::(?:\{([^}]*)\}|(\w+))", re.sub(r"\s+", " ", item.head))
             if not found:
                 raise Fault(f"{crate}/src/lib.rt: a `pub use` of no known form: {item.head}")
             if found.group(1) in crates():
                 continue
-            file = module_file(crate, found.group(1))
+            file = module_file(crate, found.group(1).replace("::", "/"))
             for name in re.findall(r"\w+", found.group(2) or found.group(3)):
                 named = [inner for inner in file.items if inner.is_public and inner.name == name and inner.kind != "use"]
                 if not named:

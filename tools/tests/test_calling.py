@@ -18,7 +18,16 @@ mod shape;
 mod tests;
 
 pub use abuf_uses::{Given, given};
+pub use shape::half::halved;
 pub use shape::{Shape, double};
+"""
+HALF = """// Halves.
+
+/// Half a number.
+pub fn halved(n: u32) -> u32
+{
+    n / 2
+}
 """
 SHAPE = """// Shapes.
 ghost use Rattle.std.specs.Prelude.{◌≡◌, ◌*◌, IsTrue, List as Items};
@@ -143,7 +152,16 @@ fn twice_two(rt: HostRuntime) -> Result<(), Fail> {
 }
 ```
 """
-SHOWN = """### `Shape`, `double`
+SHOWN = """### `halved`
+
+From [abuf_one/src/shape/half.rt](src/shape/half.rt).
+
+```rust
+/// Half a number.
+pub fn halved(n: u32) -> u32
+```
+
+### `Shape`, `double`
 
 From [abuf_one/src/shape.rt](src/shape.rt).
 
@@ -202,7 +220,7 @@ class OfACheckout(unittest.TestCase):
             self.addCleanup(setattr, calling, name, getattr(calling, name))
             setattr(calling, name, value)
         for path, text in (("crates.txt", "# Crates.\nabuf_one: abuf_uses\nabuf_uses:\n"), ("README.md", "# One\n"), ("crates/abuf_one/src/lib.rt", LIB),
-                           ("crates/abuf_one/src/shape.rt", SHAPE), ("crates/abuf_one/src/laws.rt", LAWS),
+                           ("crates/abuf_one/src/shape/half.rt", HALF), ("crates/abuf_one/src/shape.rt", SHAPE), ("crates/abuf_one/src/laws.rt", LAWS),
                            ("crates/abuf_one/src/tests.rt", TESTS), ("crates/abuf_one/specs/Sides.antt", SIDES),
                            ("crates/abuf_one/CALLING.md", PAGE)):
             self.put(path, text)

@@ -1,11 +1,10 @@
 -- What the rows above a band have, band by band.
-use Rattle.std.proofs.Common.{◌≡◌, ℕ, zero, suc, ◌+◌, ◌-◌, ◌*◌, ◌≤◌, ℤ, List, [], ◌∷◌, ◌++◌, map, length, sum, refl, ap, ap₂, ◌∙◌, sym, subst, arith}
-use Rattle.std.specs.List.{range_with_len, filter_map}
+use Rattle.std.proofs.Common.{◌≡◌, ℕ, zero, suc, ◌+◌, ◌-◌, ◌≤◌, ℤ, List, ◌++◌, map, sum, ap, ap₂, ◌∙◌, sym, subst, arith}
+use Rattle.std.specs.List.{range_with_len}
 use Rattle.std.proofs.lemmas.List.FromFn.{sum_by-map-range_with_len_more}
 use Rattle.abuf_num.specs.declared.plain.Paint.{Paint}
 use Rattle.abuf_num.specs.declared.plain.PixelSum.{PixelSum}
 use Rattle.abuf_raster.specs.declared.pattern.Pattern.{Pattern}
-use Rattle.abuf_raster.specs.Hits.{all_fragments, hit_at, placed}
 use Rattle.abuf_raster.specs.Region.{Region, rectangle}
 use Rattle.abuf_raster.specs.Samples.{offsets_of}
 use Rattle.abuf_raster.specs.Triangle.{Triangle}
@@ -13,20 +12,12 @@ use Rattle.abuf_resolve.specs.Sums.{region_sums}
 use Rattle.abuf_picture.specs.Picture.{total}
 use Rattle.abuf_band.specs.Rows.{first_row, band_of}
 use Rattle.abuf_band.proofs.Rows.{first_row_zero, first_row_all, rows_next}
-use Rattle.abuf_band.proofs.Stacked.{sums_stacked}
+use Rattle.abuf_resolve.proofs.Stacked.{sums_stacked}
 use Rattle.abuf_band.proofs.Placed.{fragments_stacked}
 
 -- The rows above band k.
 abbrev pub above : Region → ℕ → ℕ → Region
 above r count k = rectangle r.x0 r.y0 r.w (first_row r.h count k)
-
--- No rows have no fragments.
-pub no_fragments : (triangles : List Triangle) (n : ℕ) (offsets : List (ℤ × ℤ)) (x y w : ℕ) → all_fragments triangles n offsets (rectangle x y w 0) ≡ []
-no_fragments [] n offsets x y w = refl
-no_fragments (t ∷ ts) n offsets x y w =
-    let none : w * 0 ≡ 0 = omega arith in
-    let r : Region = rectangle x y w 0 in
-    ap₂ ◌++◌ (ap (λ (k : ℕ). map (placed r) (filter_map (hit_at t n offsets r) (range_with_len 0 k))) none) (no_fragments ts (n + 1) offsets x y w)
 
 module _ (r : Region) (count : ℕ) (some : 1 ≤ count) (few : count ≤ r.h) where
   -- Above the first band there are no rows.
@@ -61,7 +52,10 @@ module _ (r : Region) (count : ℕ) (some : 1 ≤ count) (few : count ≤ r.h) w
 
       -- Above the first band there are no fragments.
       pub total_none : total triangles pattern (above r count 0) ≡ 0
-      total_none = ap (total triangles pattern) above_none ∙ ap (λ (es : List (ℕ × ℕ)). length es) (no_fragments triangles 0 (offsets_of pattern) r.x0 r.y0 r.w)
+      total_none =
+          let at : ℕ → ℕ → ℕ = λ y rows. total triangles pattern (rectangle r.x0 y r.w rows) in
+          let twice : at r.y0 0 + at r.y0 0 ≡ at r.y0 0 = ap₂ (λ (y rows : ℕ). at r.y0 0 + at y rows) (omega arith) (omega arith) ∙ (fragments_stacked r.x0 r.y0 r.w wide triangles 0 (offsets_of pattern) 0 0 ∙ ap (at r.y0) (omega arith)) in
+          ap (total triangles pattern) above_none ∙ omega arith
 
       -- The totals of the first k bands add up to that of the rows above band k.
       pub total_above : (k : ℕ) → sum (map (λ (j : ℕ). total triangles pattern (band_of r count j)) (range_with_len 0 k)) ≡ total triangles pattern (above r count k)

@@ -10,7 +10,7 @@ use Rattle.abuf_cli.specs.declared.parsing.CommandName.TheVariants.{Render, Pick
 use Rattle.abuf_cli.specs.declared.values.Size.{Size}
 use Rattle.abuf_cli.specs.Job.{Job}
 use Rattle.abuf_cli.specs.declared.settings.Pose.{Pose}
-use Rattle.abuf_cli.specs.declared.settings.Lens.{Lens}
+use Rattle.abuf_view.specs.declared.camera.Lens.{Lens}
 use Rattle.abuf_cli.specs.declared.settings.Settings.{Settings}
 use Rattle.abuf_cli.specs.declared.job.What.TheVariants as what
 use Rattle.abuf_cli.specs.declared.job.Command.{Command}

@@ -1,7 +1,8 @@
 // What the options ask for.
-ghost use Rattle.std.specs.Prelude.{◌≡◌};
+ghost use Rattle.std.specs.Prelude.{◌≡◌, IfOk};
 ghost use Rattle.clap.specs.Words.{rows_of, found_of};
 ghost use Rattle.abuf_view.specs.Camera.{IsSize, IsLens, IsCamera, camera};
+ghost use Rattle.abuf_cli.specs.Jobs.{lens_of};
 ghost use Rattle.abuf_cli.specs.Poses.{IsPose};
 
 use crate::job::{Opt, Storage, WordFault};
@@ -11,7 +12,7 @@ use crate::values::{
     size_of, threads_of, turn_of,
 };
 use abuf_raster::Pattern;
-use abuf_view::Camera;
+use abuf_view::{Camera, Lens};
 use clap::ArgMatches;
 
 /// Where the camera stands and looks. The shift is in units of 1/65536.
@@ -55,31 +56,18 @@ impl Pose {
     }
 }
 
-/// The lens of the camera, in units of 1/65536.
-#[derive(Clone, Copy)]
-pub struct Lens {
-    pub focal: i64,
-    pub near: i64,
-}
-
-impl Lens {
-    ghost use Rattle.std.specs.Prelude.{IfOk};
-    ghost use Rattle.abuf_view.specs.Camera.{IsLens};
-    ghost use Rattle.abuf_cli.specs.Jobs.{lens_of};
-
-    // The lens that the texts give.
-    fn read(matches: &ArgMatches) -> Result<Lens, WordFault>
-        ensures value { result ≡ lens_of (rows_of (found_of matches.now)) }
-        ensures sound { IfOk result (λ l. IsLens l.focal l.near) }
-    {
-        let Some(focal) = focal_of(text_of(matches, Opt::Focal).as_bytes()) else {
-            return Err(WordFault::Value { option: Opt::Focal });
-        };
-        let Some(near) = near_of(text_of(matches, Opt::Near).as_bytes()) else {
-            return Err(WordFault::Value { option: Opt::Near });
-        };
-        Ok(Lens { focal, near })
-    }
+// The lens that the texts give.
+fn lens_of(matches: &ArgMatches) -> Result<Lens, WordFault>
+    ensures value { result ≡ lens_of (rows_of (found_of matches.now)) }
+    ensures sound { IfOk result (λ l. IsLens l.focal l.near) }
+{
+    let Some(focal) = focal_of(text_of(matches, Opt::Focal).as_bytes()) else {
+        return Err(WordFault::Value { option: Opt::Focal });
+    };
+    let Some(near) = near_of(text_of(matches, Opt::Near).as_bytes()) else {
+        return Err(WordFault::Value { option: Opt::Near });
+    };
+    Ok(Lens { focal, near })
 }
 
 /// The camera of this size, pose and lens. What they keep to is Camera's own invariant, in parts.
@@ -90,17 +78,7 @@ pub fn camera_of(size: Size, pose: Pose, lens: Lens) -> Camera
     ensures value { result ≡ camera size.width size.height pose.turn pose.shift lens.focal lens.near }
     ensures sound { IsCamera result }
 {
-    match Camera::new(
-        size.width,
-        size.height,
-        pose.turn,
-        pose.shift,
-        lens.focal,
-        lens.near,
-    ) {
-        Some(camera) => camera,
-        None => unreachable!(),
-    }
+    Camera::of_parts(size.width, size.height, pose.turn, pose.shift, lens)
 }
 
 impl Storage {
@@ -185,7 +163,7 @@ impl Settings {
             return Err(WordFault::Value { option: Opt::Nodes });
         };
         let pose = Pose::read(name, matches)?;
-        let lens = Lens::read(matches)?;
+        let lens = lens_of(matches)?;
         let Some(background) = background_of(text_of(matches, Opt::Background).as_bytes()) else {
             return Err(WordFault::Value {
                 option: Opt::Background,

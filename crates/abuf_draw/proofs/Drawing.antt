@@ -1,8 +1,9 @@
 -- How far the drawing of a list of items has come.
-use Rattle.std.proofs.Common.{◌≡◌, ℕ, ◌+◌, ◌≤◌, List, [], ◌∷◌, ◌++◌, length, map, All, sym, ap, ◌∙◌, subst, arith, IsPermutation, length-append, append_assoc, append-nil}
-use Rattle.std.proofs.lemmas.List.{length-map, map-append}
-use Rattle.std.proofs.lemmas.List.Elements.{All-nil, All-cons, All-tail}
-use Rattle.std.proofs.lemmas.List.Sorted.{length_permutation, IsPermutation-refl, IsPermutation-trans, IsPermutation-append, IsPermutation-append_right}
+use Rattle.std.proofs.Common.{◌≡◌, ℕ, ◌+◌, ◌≤◌, List, [], ◌∷◌, ◌++◌, length, map, All, sym, subst, arith, IsPermutation, length-append, append_assoc, append-nil}
+use Rattle.std.proofs.lemmas.List.{length-map}
+use Rattle.std.proofs.Math.Seq.{take-append_seam}
+use Rattle.std.proofs.lemmas.List.Elements.{All-tail, All-take}
+use Rattle.std.proofs.lemmas.List.Sorted.{length_permutation, IsPermutation-refl, IsPermutation-trans, IsPermutation-append, IsPermutation-append_comm, IsPermutation-append_right}
 use Rattle.abuf_raster.specs.declared.region.Hit.{Hit}
 use Rattle.abuf_raster.specs.Region.{Region}
 use Rattle.abuf_raster.specs.Hits.{placed}
@@ -16,14 +17,6 @@ pub record Midway (all rest : List (ℕ × ℕ)) (v w : View) : Type 0 where
   pub out : List (ℕ × ℕ)
   pub drawn : Draws out v w
   pub left : IsPermutation (out ++ rest) all
-
--- Before the first item nothing is drawn and all are left.
-pub midway_starts : (all rest : List (ℕ × ℕ)) (v : View) → IsPermutation rest all → Midway all rest v v
-midway_starts all rest v p = record { out = []; drawn = draws_none v; left = p }
-
--- When those that wait had been put first, the others came.
-pub waiting_first : (waited came items : List (ℕ × ℕ)) → IsPermutation came items → IsPermutation (waited ++ came) (waited ++ items)
-waiting_first waited came items p = IsPermutation-append_right waited came items p
 
 module _ (all : List (ℕ × ℕ)) (v w : View) where
   -- there is credit for the next ones
@@ -39,15 +32,8 @@ module _ (all : List (ℕ × ℕ)) (v w : View) where
   pub midway_more : (waited came waits rest : List (ℕ × ℕ)) → Midway all (waited ++ (came ++ rest)) v w → (u : View) → Passes waited came waits w u → Midway all (waits ++ rest) v u
   midway_more waited came waits rest m u p =
       let xs : List (ℕ × ℕ) = m.out in let ys : List (ℕ × ℕ) = p.out in
-      let moved : IsPermutation ((ys ++ waits) ++ rest) ((waited ++ came) ++ rest) = IsPermutation-append (ys ++ waits) (waited ++ came) rest rest p.same (IsPermutation-refl rest) in
-      let inner : IsPermutation (ys ++ (waits ++ rest)) (waited ++ (came ++ rest)) =
-      subst (λ (l : List (ℕ × ℕ)). IsPermutation l (waited ++ (came ++ rest))) (append_assoc ys waits rest) (subst (IsPermutation ((ys ++ waits) ++ rest)) (append_assoc waited came rest) moved) in
-      let whole = IsPermutation-append_right xs (ys ++ (waits ++ rest)) (waited ++ (came ++ rest)) inner in
-      record {
-        out = xs ++ ys;
-        drawn = draws_then xs ys v w u m.drawn p.drawn;
-        left = subst (λ (l : List (ℕ × ℕ)). IsPermutation l all) (sym (append_assoc xs ys (waits ++ rest))) (IsPermutation-trans (xs ++ (ys ++ (waits ++ rest))) (xs ++ (waited ++ (came ++ rest))) all whole m.left);
-      }
+      let inner = IsPermutation-append_right xs _ _ (simp append_assoc at (IsPermutation-append (ys ++ waits) (waited ++ came) rest rest p.same (IsPermutation-refl rest))) in
+      record { out = xs ++ ys; drawn = draws_then xs ys v w u m.drawn p.drawn; left = rw append_assoc (IsPermutation-trans _ _ all inner m.left) }
 
 -- When only those are left that wait, the others were drawn.
 pub midway_ends : (waited came waits : List (ℕ × ℕ)) (v w : View) → Midway (waited ++ came) (waits ++ []) v w → Passes waited came waits v w
@@ -69,6 +55,10 @@ passes_waiting waited came waits v w is same = record {
   same = subst (λ (l : List (ℕ × ℕ)). IsPermutation l (waited ++ came)) (sym is) (IsPermutation-refl (waited ++ came));
 }
 
+-- Those that came were drawn, and those that waited wait.
+pub passes_drawn : (waited came : List (ℕ × ℕ)) (v w : View) → Draws came v w → Passes waited came waited v w
+passes_drawn waited came v w d = record { out = came; drawn = d; same = IsPermutation-append_comm came waited }
+
 -- Those that waited were drawn, and those that came wait.
 pub passes_flushed : (waited came waits : List (ℕ × ℕ)) (v w u : View) → waits ≡ came → Draws waited v w → u ≡ w → Passes waited came waits v u
 passes_flushed waited came waits v w u is d same = record {
@@ -84,9 +74,7 @@ passes_then a xs b ys d v w u p q =
     midway_ends a (xs ++ ys) d v u m
   where
     ready : IsPermutation (p.out ++ (b ++ (ys ++ []))) (a ++ (xs ++ ys))
-    ready = subst (λ (l : List (ℕ × ℕ)). IsPermutation (p.out ++ (b ++ l)) (a ++ (xs ++ ys))) (sym (append-nil ys))
-        (subst (λ (l : List (ℕ × ℕ)). IsPermutation l (a ++ (xs ++ ys))) (append_assoc p.out b ys)
-        (subst (IsPermutation ((p.out ++ b) ++ ys)) (append_assoc a xs ys) (IsPermutation-append (p.out ++ b) (a ++ xs) ys ys p.same (IsPermutation-refl ys))))
+    ready = simp append-nil (simp append_assoc at (IsPermutation-append (p.out ++ b) (a ++ xs) ys ys p.same (IsPermutation-refl ys)))
 
 -- Once those that wait are drawn, all are.
 pub passes_end : (came waits : List (ℕ × ℕ)) (v w u : View) → Passes [] came waits v w → Draws waits w u → Draws came v u
@@ -103,20 +91,11 @@ passes_credit waited came waits v w p =
 pub placed_few : (r : Region) (xs ys : List Hit) → IsPermutation xs ys → (n : ℕ) → length xs ≤ n → length (map (placed r) ys) ≤ n
 placed_few r xs ys p n few = let l = length_permutation xs ys p in let m = length-map ys (placed r) in omega arith
 
--- what holds of each element of two lists joined holds of those of each
+-- What holds of two lists of hits holds of the first,
 pub all_first : (P : Hit → Type 0) (xs ys : List Hit) → All P (xs ++ ys) → All P xs
-all_first P [] ys h = All-nil P
-all_first P (x ∷ xs) ys h = All-cons P x xs (h 0 x (omega arith)) (all_first P xs ys (All-tail P x (xs ++ ys) h))
+all_first P xs ys h = subst (All P) (take-append_seam xs ys) (All-take P (length xs) (xs ++ ys) h)
 
--- What holds of two lists of hits holds of the second.
+-- and of the second.
 pub all_rest : (P : Hit → Type 0) (xs ys : List Hit) → All P (xs ++ ys) → All P ys
 all_rest P [] ys h = h
 all_rest P (x ∷ xs) ys h = all_rest P xs ys (All-tail P x (xs ++ ys) h)
-
--- the next tile's hits, and what is left
-pub midway_tile : (r : Region) (all waits : List (ℕ × ℕ)) (next rest old : List Hit) (v w : View) → next ++ rest ≡ old → Midway all (waits ++ map (placed r) old) v w → Midway all (waits ++ (map (placed r) next ++ map (placed r) rest)) v w
-midway_tile r all waits next rest old v w e m = subst (λ (xs : List (ℕ × ℕ)). Midway all (waits ++ xs) v w) (ap (map (placed r)) (sym e) ∙ map-append (placed r) next rest) m
-
--- none is left
-pub none_left : (r : Region) (all waits : List (ℕ × ℕ)) (old : List Hit) (v w : View) → old ≡ [] → Midway all (waits ++ map (placed r) old) v w → Midway all (waits ++ []) v w
-none_left r all waits old v w e m = subst (λ (xs : List Hit). Midway all (waits ++ map (placed r) xs) v w) e m

@@ -1,23 +1,25 @@
 // Triangles, put into the frame one after another.
-ghost use Rattle.std.specs.Prelude.{◌≡◌, ◌+◌, ◌*◌, ◌<◌, ◌≤◌, [], length, map, take, All};
+ghost use Rattle.std.specs.Prelude.{◌≡◌, ◌+◌, ◌*◌, ◌<◌, ◌≤◌, false, [], length, map, take, All};
 ghost use Rattle.abuf_num.specs.declared.limits.TheConstants.{MAX_PRIMITIVES};
 ghost use Rattle.abuf_raster.specs.Samples.{offsets_of};
 ghost use Rattle.abuf_raster.specs.Hits.{IsHitIn, fragments, placed};
-ghost use Rattle.abuf_frame.specs.Views.{endowment, loose};
 ghost use Rattle.abuf_frame.specs.Draws.{Draws};
-ghost use Rattle.abuf_draw.specs.Waiting.{Passes};
+ghost use Rattle.abuf_draw.specs.Waiting.{KnowsFull, Passes};
 
 use crate::batch::Batch;
 use abuf_frame::{Frame, Pass};
-use abuf_raster::{Hit, NO_HIT, Pattern, Region, ScreenTri, TileHits, meets};
+use abuf_raster::{Hit, NO_HIT, Pattern, Region, ScreenTri, TileHits, count_hits, meets};
 
 /// Draws triangles into a region, sampled in a pattern. Fragments, of one triangle after another, wait until there are up to 64 of
 /// them, and are then put into the frame by one claim, since a claim costs as much as a fragment, and more where many threads draw.
-/// After the last triangle those that still wait are flushed.
+/// After the last triangle those that still wait are flushed. Once the pool is full, fragments are lost, whichever they are: those of
+/// a triangle are only counted then, which takes much less than to find them.
 #[derive(Drop)]
 pub struct Brush {
     pub region: Region,
     pub pattern: Pattern,
+    /// A claim of its pass has come to the end of the pool.
+    pub full: bool,
     hits: [Hit; 64],
     batch: Batch,
     ghost long: { length hits ≡ 64 },
@@ -28,10 +30,12 @@ impl Brush {
     pub fn new(region: Region, pattern: Pattern) -> Brush
         ensures brush { (result.region ≡ region) × (result.pattern ≡ pattern) }
         ensures none { result.batch ≡ [] }
+        ensures full { result.full ≡ false }
     {
         Brush {
             region,
             pattern,
+            full: false,
             hits: [NO_HIT; 64],
             batch: Batch::new(),
         }
@@ -42,12 +46,16 @@ impl Brush {
         requires frame { pass.old.frame ≡ frame.now }
         requires pixels { self.old.region.w * self.old.region.h ≤ frame.now.pixels }
         requires credit { length self.old.batch ≤ pass.old.view.credit }
+        requires full { KnowsFull self.old.full frame.now.nodes pass.old.view }
         ensures brush { (self.new.region ≡ self.old.region) × (self.new.pattern ≡ self.old.pattern) × (self.new.hits ≡ self.old.hits) }
         ensures none { self.new.batch ≡ [] }
         ensures frame { pass.new.frame ≡ pass.old.frame }
         ensures draws { Draws self.old.batch pass.old.view pass.new.view }
+        ensures full { KnowsFull self.new.full frame.now.nodes pass.new.view }
     {
-        pass.insert_all(frame, self.batch.as_slice());
+        if pass.insert_each(frame, self.batch.as_slice()) {
+            self.full = true;
+        }
         self.batch.clear();
     }
 
@@ -60,9 +68,11 @@ impl Brush {
         requires within { All (IsHitIn self.old.region) (take count self.old.hits) }
         requires pixels { self.old.region.w * self.old.region.h ≤ frame.now.pixels }
         requires credit { length self.old.batch ≤ pass.old.view.credit }
+        requires full { KnowsFull self.old.full frame.now.nodes pass.old.view }
         ensures brush { (self.new.region ≡ self.old.region) × (self.new.pattern ≡ self.old.pattern) }
         ensures frame { pass.new.frame ≡ pass.old.frame }
         ensures passes { Passes self.old.batch (map (placed self.old.region) (take count self.old.hits)) self.new.batch pass.old.view pass.new.view }
+        ensures full { KnowsFull self.new.full frame.now.nodes pass.new.view }
     {
         if !self.batch.has_room(count) {
             self.flush(frame, pass);
@@ -77,8 +87,10 @@ impl Brush {
         requires prim { prim < MAX_PRIMITIVES }
         requires pixels { self.old.region.w * self.old.region.h ≤ frame.now.pixels }
         requires credit { length self.old.batch + self.old.region.w * self.old.region.h ≤ pass.old.view.credit }
+        requires full { KnowsFull self.old.full frame.now.nodes pass.old.view }
         ensures brush { (self.new.region ≡ self.old.region) × (self.new.pattern ≡ self.old.pattern) }
         ensures frame { pass.new.frame ≡ pass.old.frame }
+        ensures full { KnowsFull self.new.full frame.now.nodes pass.new.view }
         ensures passes { Passes self.old.batch (fragments t.now prim (offsets_of self.old.pattern) self.old.region) self.new.batch pass.old.view pass.new.view }
         ensures few { pass.old.view.credit + length self.new.batch ≤ pass.new.view.credit + length self.old.batch + self.old.region.w * self.old.region.h }
     {
@@ -86,36 +98,13 @@ impl Brush {
         if !meets(t, self.region, self.pattern) {
             return;
         }
+        if self.full {
+            pass.lose(frame, count_hits(t, self.region, self.pattern));
+            return;
+        }
         let mut tiles = TileHits::new(t, prim, self.region, self.pattern);
         while let Some(count) = tiles.next_tile(&mut self.hits) {
             self.add(frame, pass, count);
         }
     }
-}
-
-/// Draws the triangle as primitive number `prim`: one new entry for each of its fragments in the region, at the pixel's place
-/// in the region (row by row from the top left), with the fragment's packed word. Each new entry is Linked, or Lost where the
-/// frame has no node for it. A pass with credit for every pixel of the region is enough for any triangle.
-pub fn draw(
-    frame: &Frame,
-    pass: &mut Pass,
-    t: &ScreenTri,
-    prim: u32,
-    region: Region,
-    pattern: Pattern,
-)
-    requires frame { pass.old.frame ≡ frame.now }
-    requires prim { prim < MAX_PRIMITIVES }
-    requires pixels { region.w * region.h ≤ frame.now.pixels }
-    requires credit { region.w * region.h ≤ pass.old.view.credit }
-    ensures frame { pass.new.frame ≡ pass.old.frame }
-    ensures draws { Draws (fragments t.now prim (offsets_of pattern) region) pass.old.view pass.new.view }
-    ensures credit { pass.new.view.credit + length (fragments t.now prim (offsets_of pattern) region) ≡ pass.old.view.credit }
-    ensures few { pass.old.view.credit ≤ pass.new.view.credit + region.w * region.h }
-    ensures endowment { endowment pass.new.view ≡ endowment pass.old.view }
-    ensures loose { loose pass.new.view.entries ≡ loose pass.old.view.entries }
-{
-    let mut brush = Brush::new(region, pattern);
-    brush.draw(frame, pass, t, prim);
-    brush.flush(frame, pass);
 }

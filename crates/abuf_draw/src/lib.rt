@@ -9,5 +9,7 @@
 
 mod batch;
 mod brush;
+mod for_users;
 
-pub use brush::{Brush, draw};
+pub use brush::Brush;
+pub use for_users::draw;

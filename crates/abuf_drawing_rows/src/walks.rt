@@ -2,7 +2,7 @@
 ghost use Rattle.std.specs.Prelude.{◌<◌};
 
 use abuf_raster::{
-    Fragment, Hit, Pattern, Region, ScreenTri, TileHits, TileWalk, mask_at, most_hits,
+    Fragment, Hit, Pattern, Region, ScreenTri, TileHits, TileWalk, count_hits, mask_at, most_hits,
 };
 use std::test::Fail;
 
@@ -47,9 +47,10 @@ fn length_by_tiles(tiles: TileHits) -> u32 {
     found
 }
 
-// The walk gives each pixel of the region that has a mask, once and with this mask, and no other.
+// The walk gives each pixel of the region that has a mask, once and with this mask, and no other. As many are counted.
 fn gives_the_masks(t: &ScreenTri, region: Region, pattern: Pattern) -> bool {
     let mut masks = [0; 1024];
+    let mut found: u32 = 0;
     for hit in TileWalk::new(t, 7, region, pattern) {
         let row = hit.y.wrapping_sub(region.y0());
         let column = hit.x.wrapping_sub(region.x0());
@@ -58,6 +59,7 @@ fn gives_the_masks(t: &ScreenTri, region: Region, pattern: Pattern) -> bool {
         match masks.get_mut(place as usize) {
             Some(mask) if *mask == 0 && is_inside && hit.fragment.prim == 7 => {
                 *mask = hit.fragment.mask;
+                found = found.saturating_add(1);
             }
             _ => return false,
         }
@@ -71,7 +73,7 @@ fn gives_the_masks(t: &ScreenTri, region: Region, pattern: Pattern) -> bool {
             }
         }
     }
-    true
+    count_hits(t, region, pattern) == found
 }
 
 #[test]

@@ -1,5 +1,5 @@
 -- What two halves of the workers have drawn.
-use Rattle.std.proofs.Common.{◌≡◌, ℕ, ◌+◌, ◌-◌, ◌≤◌, ℤ, List, [], ◌++◌, length, ap, ◌∙◌, subst, arith, length-append, append_assoc}
+use Rattle.std.proofs.Common.{◌≡◌, ℕ, ◌+◌, ◌-◌, ◌≤◌, ℤ, List, [], ◌++◌, length, ap, ◌∙◌, subst, arith, length-append, append_assoc, IsPermutation}
 use Rattle.std.specs.List.{flat_map}
 use Rattle.std.proofs.lemmas.Grind.{flat_map-append}
 use Rattle.abuf_raster.specs.Region.{Region}
@@ -10,15 +10,13 @@ use Rattle.abuf_frame.specs.Steps.{united}
 use Rattle.abuf_num.proofs.Counting.{times-append}
 use Rattle.abuf_frame.proofs.Draws.{adds_permuted}
 use Rattle.std.proofs.lemmas.List.Sorted.{IsPermutation-trans, length_permutation}
-use Rattle.std.proofs.Common.{IsPermutation}
 use Rattle.abuf_raster.specs.Hits.{all_fragments}
 use Rattle.abuf_fan.specs.Grows.{Grows}
-use Rattle.abuf_fan.specs.Workers.{Parted}
+use Rattle.abuf_fan.specs.Workers.{Parted, Served}
 use Rattle.abuf_fan.proofs.Growing.{grows_both}
 use Rattle.abuf_share.specs.declared.rule.Hand.{Hand}
 use Rattle.abuf_share.specs.Desk.{EachOnceIfWhole, holding, whole_hand}
 use Rattle.abuf_fan.specs.Parts.{IsOrder, fragments_of, part_fragments}
-use Rattle.abuf_fan.specs.Workers.{Served}
 use Rattle.abuf_fan.proofs.Taken.{taken_all, past_all}
 use Rattle.abuf_fan.proofs.Ordered.{ordered_all}
 

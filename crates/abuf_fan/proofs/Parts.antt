@@ -5,7 +5,7 @@ use Rattle.std.proofs.Math.Nat.{mul-le-mul}
 use Rattle.std.proofs.lemmas.List.{length-map}
 use Rattle.abuf_raster.specs.Region.{Region}
 use Rattle.abuf_raster.specs.Triangle.{Triangle}
-use Rattle.abuf_raster.specs.Hits.{all_fragments, fragments, hits, placed}
+use Rattle.abuf_raster.specs.Hits.{all_fragments, fragments, hit_at, hits, placed}
 use Rattle.abuf_raster.proofs.Hits.{hits_few}
 
 -- The items from index i on are item i and those after it.
@@ -35,7 +35,7 @@ module _ (os : List (ℤ × ℤ)) (r : Region) where
   -- no triangle has more fragments than the region has pixels
   pub all_fragments_few : (ts : List Triangle) (n : ℕ) → length (all_fragments ts n os r) ≤ length ts * (r.w * r.h)
   all_fragments_few [] n = omega arith
-  all_fragments_few (t ∷ ts) n = let m = length-map (hits t n os r) (placed r) in let h = hits_few t n os r (r.w * r.h) 0 in let a = length-append (fragments t n os r) (all_fragments ts (n + 1) os r) in let f = all_fragments_few ts (n + 1) in omega arith
+  all_fragments_few (t ∷ ts) n = let m = length-map (hits t n os r) (placed r) in let h = hits_few (hit_at t n os r) (r.w * r.h) 0 in let a = length-append (fragments t n os r) (all_fragments ts (n + 1) os r) in let f = all_fragments_few ts (n + 1) in omega arith
 
 -- the credit of so many workers is small
 pub need_small : (workers triangles area : ℕ) → workers ≤ 64 → triangles ≤ 2097152 → area ≤ 4194304 → workers * (triangles * area) < 2 ^ 64

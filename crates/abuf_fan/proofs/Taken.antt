@@ -11,8 +11,7 @@ use Rattle.std.proofs.lemmas.List.Sorted.{IsPermutation-refl, IsPermutation-tran
 use Rattle.abuf_raster.specs.Region.{Region}
 use Rattle.abuf_raster.specs.Triangle.{Triangle}
 use Rattle.abuf_num.specs.Counting.{below, times}
-use Rattle.abuf_num.proofs.Counting.{times-append, below_more, below_from}
-use Rattle.abuf_num.proofs.Counting.{split_at, none_in}
+use Rattle.abuf_num.proofs.Counting.{times-append, times_first, below_from, split_at, none_in}
 use Rattle.abuf_fan.specs.Parts.{fragments_of, part_fragments, parts_of}
 
 -- Lists of the same numbers lead to the same items, in some order.
@@ -24,18 +23,6 @@ flat_same {A} f (x ∷ xs) ys h = let t = ap (λ (b : Bool). cond {A = ℕ} b 1 
     let one : IsPermutation (f x ++ flat_map f xs) (f x ++ (f0 ++ f1)) = subst (λ (l : List A). IsPermutation (f x ++ flat_map f xs) (f x ++ l)) (flat_map-append f s.0 s.1) (IsPermutation-append_right (f x) (flat_map f xs) (flat_map f (s.0 ++ s.1)) rest) in
     let two : IsPermutation (f x ++ (f0 ++ f1)) (f0 ++ (f x ++ f1)) = subst (λ (l : List A). IsPermutation l (f0 ++ (f x ++ f1))) (append_assoc (f x) f0 f1) (subst (λ (l : List A). IsPermutation ((f x ++ f0) ++ f1) l) (append_assoc f0 (f x) f1) (IsPermutation-append (f x ++ f0) (f0 ++ f x) f1 f1 (IsPermutation-append_comm (f x) f0) (IsPermutation-refl f1))) in
     subst (λ (l : List A). IsPermutation (f x ++ flat_map f xs) l) (sym (ap (flat_map f) s.2 ∙ flat_map-append f s.0 (x ∷ s.1))) (IsPermutation-trans (f x ++ flat_map f xs) (f x ++ (f0 ++ f1)) (f0 ++ (f x ++ f1)) one two)
-
--- A range has each of its numbers once.
-times_range : (n a count : ℕ) → times n (range_with_len a count) + below n a ≡ below n (a + count)
-times_range n a zero = let e : a ≡ a + 0 = omega arith in let b = ap (below n) e in omega arith
-times_range n a (suc count) = let r = times_range n (a + 1) count in let m = below_more n a in let e : a + 1 + count ≡ a + suc count = omega arith in let b = ap (below n) e in omega arith
-
--- The numbers from 0 on up to a count have each number below it once.
-pub times_first : (n count : ℕ) → times n (range_with_len 0 count) ≡ below n count
-times_first n count = let r = times_range n 0 count in let z = none n in let e : 0 + count ≡ count = omega arith in let b = ap (below n) e in omega arith
-  where
-    none : (n : ℕ) → below n 0 ≡ 0
-    none n = grind arith
 
 module _ (ts : List Triangle) (os : List (ℤ × ℤ)) (r : Region) (order : List ℕ) where
   abbrev items : List ℕ → List (ℕ × ℕ)

@@ -1,5 +1,5 @@
 // The workers, each with a turn and a pass of its own.
-ghost use Rattle.std.specs.Prelude.{◌≡◌, ℕ, ◌+◌, ◌-◌, ◌*◌, ◌/◌, ◌^◌, ◌<◌, ◌≤◌, length, take, drop, OnOk, OnErr};
+ghost use Rattle.std.specs.Prelude.{◌≡◌, ◌+◌, ◌-◌, ◌*◌, ◌/◌, ◌<◌, ◌≤◌, length, take, OnOk, OnErr};
 ghost use Rattle.abuf_num.specs.declared.limits.TheConstants.{MAX_PRIMITIVES, MAX_THREADS};
 ghost use Rattle.abuf_raster.specs.Samples.{offsets_of};
 ghost use Rattle.abuf_raster.specs.Hits.{all_fragments};
@@ -19,6 +19,13 @@ use abuf_share::{Desk, MAX_PARTS, Turn};
 use std::alloc::Global;
 use std::thread::{Threads, join_mut};
 
+/// The second call of the gate, where the worker has drawn no part before.
+fn pass_by_again<G: Gate>(gate: &G, worker: u32, pass: &Pass, next: u32) {
+    if next == 0 {
+        gate.pass_by(worker, pass);
+    }
+}
+
 /// Takes parts from the desk and draws them, until none is left.
 fn draw_parts<G: Gate>(gate: &G, worker: u32, work: &Work, pass: &mut Pass, turn: &mut Turn)
     requires can { CanServe work.now 1 turn.old pass.old }
@@ -30,14 +37,10 @@ fn draw_parts<G: Gate>(gate: &G, worker: u32, work: &Work, pass: &mut Pass, turn
     while let Some(part) = work.desk.take(turn) {
         let numbers = part_of(work.order, part);
         draw_part(work, pass, numbers);
-        if next == 0 {
-            gate.pass_by(worker, pass);
-        }
+        pass_by_again(gate, worker, pass, next);
         next = part + 1;
     }
-    if next == 0 {
-        gate.pass_by(worker, pass);
-    }
+    pass_by_again(gate, worker, pass, next);
 }
 
 /// Splits off a pass with the credit that so many workers of the right half need, and keeps what those of the left half need.

@@ -1,3 +1,4 @@
+// Calls for users of the crate, which the program doesn't use.
 // A gate at which workers meet.
 use crate::Gate;
 use abuf_frame::Pass;

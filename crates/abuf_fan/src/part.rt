@@ -4,7 +4,7 @@ ghost use Rattle.std.specs.List.{flat_map};
 ghost use Rattle.abuf_num.specs.declared.limits.TheConstants.{MAX_PRIMITIVES};
 ghost use Rattle.abuf_raster.specs.Samples.{offsets_of};
 ghost use Rattle.abuf_frame.specs.Draws.{Draws};
-ghost use Rattle.abuf_draw.specs.Waiting.{Passes};
+ghost use Rattle.abuf_draw.specs.Waiting.{KnowsFull, Passes};
 ghost use Rattle.abuf_fan.specs.Parts.{fragments_of};
 
 use crate::work::Work;
@@ -27,8 +27,10 @@ fn draw_one(work: &Work, brush: &mut Brush, pass: &mut Pass, number: u32)
     requires frame { pass.old.frame ≡ work.now.frame.now }
     requires number { number < length work.now.tris.now }
     requires credit { length brush.old.batch + work.now.region.w * work.now.region.h ≤ pass.old.view.credit }
+    requires full { KnowsFull brush.old.full work.now.frame.now.nodes pass.old.view }
     ensures brush { (brush.new.region ≡ work.now.region) × (brush.new.pattern ≡ work.now.pattern) }
     ensures frame { pass.new.frame ≡ pass.old.frame }
+    ensures full { KnowsFull brush.new.full work.now.frame.now.nodes pass.new.view }
     ensures passes { Passes brush.old.batch (fragments_of work.now.tris.now (offsets_of work.now.pattern) work.now.region number)
         brush.new.batch pass.old.view pass.new.view }
     ensures few { pass.old.view.credit + length brush.new.batch ≤ pass.new.view.credit + length brush.old.batch + work.now.region.w * work.now.region.h }

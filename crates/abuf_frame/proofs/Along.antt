@@ -1,43 +1,20 @@
 -- A walk along a list: what is known at each node.
-use Rattle.std.proofs.Common.{◌≡◌, ◌≢◌, ℕ, ◌+◌, ◌-◌, ◌^◌, ◌<◌, ◌≤◌, Bool, cond, true, false, List, [], ◌∷◌, ◌++◌, map, length, set, get_or, drop, sym, refl, ap, ◌∙◌, subst, arith, length-append, length-set, slice_index, Some, None, eq-eqb, ne_eqb, append_assoc, append-nil, take}
+use Rattle.std.proofs.Common.{◌≡◌, ◌≢◌, ℕ, ◌+◌, ◌-◌, ◌^◌, ◌<◌, ◌≤◌, Bool, true, false, List, [], ◌∷◌, ◌++◌, map, length, set, get_or, drop, sym, refl, ap, ◌∙◌, subst, arith, length-append, length-set, None, eq-eqb, ne_eqb, append_assoc, append-nil, take}
 use Rattle.std.proofs.Math.Seq.{drop-length, take-append_seam}
 use mathlib.Core.List.{map-append}
 use Rattle.std.proofs.lemmas.List.{length-map, drop_more, set_at}
-use Rattle.atomic_table.specs.Table.{State, Me, Allows}
+use Rattle.atomic_table.specs.Table.{Me, Allows}
 use Rattle.abuf_frame.specs.declared.view.Walk.{Walk}
 use Rattle.abuf_frame.specs.declared.view.View.{View}
 use Rattle.abuf_frame.specs.declared.view.Size.{Size}
 use Rattle.abuf_frame.specs.declared.look.Look.TheVariants.{All, More, Unlinked}
 use Rattle.abuf_frame.specs.Chains.{IsListAt}
-use Rattle.abuf_frame.specs.Look.{Looked, SeesWhole, ShowsList, Written}
-use Rattle.abuf_frame.specs.Walks.{AllMet, LastHasNoted, going, noting, payload_at, walked_on, with_walk}
-use Rattle.abuf_frame.proofs.Looks.{SeesList, Shown}
+use Rattle.abuf_frame.specs.Look.{Looked, ShowsList, Written}
+use Rattle.abuf_frame.specs.Walks.{AllMet, IsNoted, LastHasNoted, OnLast, going, gone, noting, payload_at, walked_on, with_walk}
 use Rattle.abuf_frame.specs.Lawful.{Lawful}
 use Rattle.abuf_frame.specs.Views.{due_of, endowment, loose}
 use Rattle.abuf_frame.specs.Words.{mark, next_word, payload_word}
-use Rattle.abuf_frame.proofs.Looks.{last_has_noted, on_last-snoc, looks_payload, looks_next}
-
--- of two lists with a last element that are equal, the last elements are
-last_same : (xs ys : List Walk) (x y : Walk) → xs ++ x ∷ [] ≡ ys ++ y ∷ [] → x ≡ y
-last_same xs ys x y e = ap last_of (sym e' ∙ (ap rev e ∙ e''))
-  where
-    rev : List Walk → List Walk
-    rev [] = []
-    rev (z ∷ zs) = rev zs ++ z ∷ []
-
-    last_of : List Walk → Walk
-    last_of [] = x
-    last_of (z ∷ zs) = z
-
-    rev_snoc : (zs : List Walk) (z : Walk) → rev (zs ++ z ∷ []) ≡ z ∷ rev zs
-    rev_snoc [] z = refl
-    rev_snoc (a ∷ as') z = ap (λ (l : List Walk). l ++ a ∷ []) (rev_snoc as' z)
-
-    e' : rev (xs ++ x ∷ []) ≡ x ∷ rev xs
-    e' = rev_snoc xs x
-
-    e'' : rev (ys ++ y ∷ []) ≡ y ∷ rev ys
-    e'' = rev_snoc ys y
+use Rattle.abuf_frame.proofs.Looks.{SeesList, Shown, looks_next, looks_payload, on_last-snoc, on_last_is, sees_whole}
 
 pub record Going (pixel nodes : ℕ) (v : View) (old out : List ℕ) (here count : ℕ) (me : Me (Unit {0}) View) : Type 0 where
   pub walk : Walk
@@ -51,13 +28,12 @@ pub record Going (pixel nodes : ℕ) (v : View) (old out : List ℕ) (here count
   pub small : here ≤ nodes
   pub few : count ≤ nodes
   pub met : here ≡ 0 → AllMet walk
-  pub sees : SeesWhole v walk
   pub lists : SeesList v walk
 
 -- At the end of its list the count is that of the nodes passed, and all that were due were passed.
 pub reaches_end : (pixel nodes : ℕ) (v : View) (old out : List ℕ) (here count : ℕ) (me : Me (Unit {0}) View) → Going pixel nodes v old out here count me → here ≡ 0
     → (w : Walk) × (me ≡ (with_walk w v, [])) × Looked pixel v old out (All count) w
-reaches_end pixel nodes v old out here count me g ended = (g.walk, g.is, record { here = g.pixel_is; due = g.due_is; answer = (g.cursor_is ∙ ended, g.count_is, g.met ended); written = g.written; whole = g.sees })
+reaches_end pixel nodes v old out here count me g ended = (g.walk, g.is, record { here = g.pixel_is; due = g.due_is; answer = (g.cursor_is ∙ ended, g.count_is, g.met ended); written = g.written; whole = sees_whole v g.walk g.lists })
 
 -- what a whole, settled pass finds at the end
 pub ends_list : (pixel nodes : ℕ) (v : View) (old out : List ℕ) (here count : ℕ) (me : Me (Unit {0}) View) → Going pixel nodes v old out here count me → here ≡ 0
@@ -82,37 +58,21 @@ full_list pixel nodes v old out here count me g away full whole settled = let l 
       ((let a = ap (λ (m : List ℕ). length m) l.3 in let b = length-append p l.1 in let c = ap (λ (m : List ℕ). length m) is in omega arith), ap (λ (m : List ℕ). take (length m) l.0) is ∙ (ap (take (length p)) l.3 ∙ (take-append_seam p l.1 ∙ sym is))),
     )
 
--- A step that is allowed with one outcome is allowed with any that follows from it.
-weaken : (holds : State (Unit {0}) View → Type 0) (slots id : ℕ) (me : Me (Unit {0}) View) (i : ℕ) (f : ℕ → ℕ) (A B : ℕ → Me (Unit {0}) View → Type 0) → ((n : ℕ) (m : Me (Unit {0}) View) → A n m → B n m) → Allows holds slots id me i f A → Allows holds slots id me i f B
-weaken holds slots id me i f A B h a s r deep at small = let x = a s r deep at small in (x.0, x.1, x.2, x.3, h (slice_index s.words i) (x.0, _) x.4)
-
 module _ (pixel nodes : ℕ) (v : View) (old out : List ℕ) (here count : ℕ) (me : Me (Unit {0}) View) (g : Going pixel nodes v old out here count me) (away : here ≢ 0) where
-  -- The walk is the last of those of its view.
-  last : me.0.walks ≡ v.walks ++ g.walk ∷ []
-  last = ap (λ (m : Me (Unit {0}) View). m.0.walks) g.is
-
-  -- The pass holds nothing besides its view.
-  bare : me.1 ≡ []
-  bare = ap (λ (m : Me (Unit {0}) View). m.1) g.is
-
   -- A load of the payload at the cursor, which is noted, is allowed.
   pub may_note : (k : Size) (slots id : ℕ) → Allows (Lawful k) slots id me (payload_word k.pixels (here - 1)) (λ n. n) (λ found now. (now ≡ (walked_on (noting found) me.0, [])) × Unit {0})
   may_note k slots id = subst (λ (i : ℕ). Allows (Lawful k) slots id me (payload_word k.pixels (i - 1)) (λ n. n) (λ found now. (now ≡ (walked_on (noting found) me.0, [])) × Unit {0})) g.cursor_is
-      (looks_payload k slots id me bare v.walks g.walk last (λ e. away (sym g.cursor_is ∙ e)))
+      (looks_payload k slots id me (ap (λ (m : Me (Unit {0}) View). m.1) g.is) v.walks g.walk (ap (λ (m : Me (Unit {0}) View). m.0.walks) g.is) (λ e. away (sym g.cursor_is ∙ e)))
 
   -- Where the slice is full at a further node, the look answers `More`.
   pub stops_full : count ≡ length out → (w : Walk) × (me ≡ (with_walk w v, [])) × Looked pixel v old out More w
   stops_full full = let b = g.written.0 in let c = g.count_is in
-      (g.walk, g.is, record { here = g.pixel_is; due = g.due_is; answer = ((λ e. away (sym g.cursor_is ∙ e)), omega arith); written = g.written; whole = g.sees })
+      (g.walk, g.is, record { here = g.pixel_is; due = g.due_is; answer = ((λ e. away (sym g.cursor_is ∙ e)), omega arith); written = g.written; whole = sees_whole v g.walk g.lists })
 
   module _ (y : ℕ) (m1 : Me (Unit {0}) View) (is1 : m1 ≡ (walked_on (noting y) me.0, [])) where
     -- After the load of the payload the walk has noted it.
     noted_walk : m1 ≡ (with_walk (noting y g.walk) v, [])
     noted_walk = is1 ∙ (ap (λ (m : Me (Unit {0}) View). (walked_on (noting y) m.0, [])) g.is ∙ λ i. (record { credit = v.credit; entries = v.entries; told = v.told; seen = v.seen; walks = on_last-snoc (noting y) v.walks g.walk i }, []))
-
-    -- The pass then still holds nothing besides its view.
-    bare1 : m1.1 ≡ []
-    bare1 = ap (λ (m : Me (Unit {0}) View). m.1) is1
 
     -- The walk that has noted it is the last of the view's.
     last1 : m1.0.walks ≡ v.walks ++ noting y g.walk ∷ []
@@ -120,44 +80,33 @@ module _ (pixel nodes : ℕ) (v : View) (old out : List ℕ) (here count : ℕ) 
 
     -- So the last walk has noted a payload.
     pub has_noted : LastHasNoted m1.0.walks
-    has_noted = subst LastHasNoted (sym last1) (last_has_noted v.walks (noting y g.walk) tt)
+    has_noted = subst LastHasNoted (sym last1) (subst (λ (T : Type 0). T) (sym (on_last_is (λ (w : Walk). IsNoted w.noted) v.walks (noting y g.walk))) tt)
 
     -- A load of the next of that node is allowed.
     pub may_go : (k : Size) (slots id : ℕ) → k.nodes < mark
-        → Allows (Lawful k) slots id m1 (next_word k.pixels (here - 1)) (λ n. n) (λ found now. (now ≡ (walked_on (going found) m1.0, [])) × ((ws : List Walk) (w : Walk) → m1.0.walks ≡ ws ++ w ∷ [] → Shown k.nodes m1.0 w found))
-    may_go k slots id few = subst (λ (i : ℕ). Allows (Lawful k) slots id m1 (next_word k.pixels (i - 1)) (λ n. n) (λ found now. (now ≡ (walked_on (going found) m1.0, [])) × ((ws : List Walk) (w : Walk) → m1.0.walks ≡ ws ++ w ∷ [] → Shown k.nodes m1.0 w found))) g.cursor_is
-        (weaken (Lawful k) slots id m1 (next_word k.pixels (g.walk.cursor - 1)) (λ n. n) (λ found now. (now ≡ (walked_on (going found) m1.0, [])) × Shown k.nodes m1.0 (noting y g.walk) found)
-        (λ found now. (now ≡ (walked_on (going found) m1.0, [])) × ((ws : List Walk) (w : Walk) → m1.0.walks ≡ ws ++ w ∷ [] → Shown k.nodes m1.0 w found))
-        (λ n m a. (a.0, λ ws w e. subst (λ (x : Walk). Shown k.nodes m1.0 x n) (last_same v.walks ws (noting y g.walk) w (sym last1 ∙ e)) a.1))
-        (looks_next k slots id m1 bare1 v.walks (noting y g.walk) last1 (λ e. away (sym g.cursor_is ∙ e)) y refl few))
+        → Allows (Lawful k) slots id m1 (next_word k.pixels (here - 1)) (λ n. n) (λ found now. (now ≡ (walked_on (going found) m1.0, [])) × OnLast (λ (w : Walk). Shown k.nodes m1.0 w found) m1.0.walks)
+    may_go k slots id few = subst (λ (i : ℕ). Allows (Lawful k) slots id m1 (next_word k.pixels (i - 1)) (λ n. n) (λ found now. (now ≡ (walked_on (going found) m1.0, [])) × OnLast (λ (w : Walk). Shown k.nodes m1.0 w found) m1.0.walks)) g.cursor_is
+        (looks_next k slots id m1 (ap (λ (m : Me (Unit {0}) View). m.1) is1) v.walks (noting y g.walk) last1 (λ e. away (sym g.cursor_is ∙ e)) y refl few)
 
-    module _ (found : ℕ) (m2 : Me (Unit {0}) View) (is2 : m2 ≡ (walked_on (going found) m1.0, [])) (shows : (ws : List Walk) (w : Walk) → m1.0.walks ≡ ws ++ w ∷ [] → Shown nodes m1.0 w found) where
+    module _ (found : ℕ) (m2 : Me (Unit {0}) View) (is2 : m2 ≡ (walked_on (going found) m1.0, [])) (shows : OnLast (λ (w : Walk). Shown nodes m1.0 w found) m1.0.walks) where
       gone_walk : m2 ≡ (with_walk (going found (noting y g.walk)) v, [])
       gone_walk = is2 ∙ (ap (λ (m : Me (Unit {0}) View). (walked_on (going found) m.0, [])) noted_walk ∙ λ i. (record { credit = v.credit; entries = v.entries; told = v.told; seen = v.seen; walks = on_last-snoc (going found) v.walks (noting y g.walk) i }, []))
 
       told_more : Shown nodes m1.0 (noting y g.walk) found
-      told_more = shows v.walks (noting y g.walk) last1
+      told_more = subst (λ (T : Type 0). T) (on_last_is (λ (w : Walk). Shown nodes m1.0 w found) v.walks (noting y g.walk)) (subst (OnLast (λ (w : Walk). Shown nodes m1.0 w found)) last1 shows)
 
-      abbrev Went : Walk
-      Went = record { pixel = g.walk.pixel; due = g.walk.due; passed = g.walk.passed ++ record { node = g.walk.cursor - 1; payload = y } ∷ []; cursor = found; noted = None; unlinked = false }
-
-      went : found ≢ mark → going found (noting y g.walk) ≡ Went
-      went h = ap (λ (b : Bool). cond b (record { pixel = g.walk.pixel; due = g.walk.due; passed = g.walk.passed; cursor = g.walk.cursor; noted = Some y; unlinked = true })
-          (record { pixel = g.walk.pixel; due = g.walk.due; passed = g.walk.passed ++ record { node = g.walk.cursor - 1; payload = y } ∷ []; cursor = found; noted = None; unlinked = false })) (ne_eqb found mark h)
+      went : found ≢ mark → going found (noting y g.walk) ≡ gone false found (noting y g.walk)
+      went h = ap (λ (b : Bool). gone b found (noting y g.walk)) (ne_eqb found mark h)
 
       due_now : g.walk.due ≡ due_of g.walk.pixel m1.0
       due_now = let e : m1.0 ≡ with_walk (noting y g.walk) v = ap (λ (m : Me (Unit {0}) View). m.0) noted_walk in subst (λ (u : View). g.walk.due ≡ due_of g.walk.pixel u) (sym e) (g.due_is ∙ ap (λ (p : ℕ). due_of p v) (sym g.pixel_is))
-
-      -- the nodes passed are the first of the whole list, for a whole, settled pass
-      sees_now : SeesWhole v (going found (noting y g.walk))
-      sees_now = let e : m1.0 ≡ with_walk (noting y g.walk) v = ap (λ (m : Me (Unit {0}) View). m.0) noted_walk in subst (λ (u : View). SeesWhole u (going found (noting y g.walk))) e (told_more.sees due_now)
 
       lists_now : SeesList v (going found (noting y g.walk))
       lists_now = let e : m1.0 ≡ with_walk (noting y g.walk) v = ap (λ (m : Me (Unit {0}) View). m.0) noted_walk in subst (λ (u : View). SeesList u (going found (noting y g.walk))) e (told_more.lists due_now)
 
       pub goes_on : found ≢ mark → count < length old → Going pixel nodes v old (set out count y) found (count + 1) m2
       goes_on h room = let p : List ℕ = map payload_at g.walk.passed in let c = g.count_is in let lp : length p ≡ count = length-map g.walk.passed payload_at ∙ sym c in let len = length-append g.walk.passed (record { node = g.walk.cursor - 1; payload = y } ∷ []) in let sh = told_more in let wi = sh.within h in record {
-        walk = Went;
+        walk = gone false found (noting y g.walk);
         is = gone_walk ∙ ap (λ (w : Walk). (with_walk w v, [])) (went h);
         pixel_is = g.pixel_is;
         due_is = g.due_is;
@@ -175,15 +124,13 @@ module _ (pixel nodes : ℕ) (v : View) (old out : List ℕ) (here count : ℕ) 
         small = sh.small h;
         few = omega arith;
         met = λ z. subst AllMet (went h) (sh.met z due_now);
-        sees = subst (SeesWhole v) (went h) sees_now;
         lists = subst (SeesList v) (went h) lists_now;
       }
 
       pub stops_at : found ≡ mark → count ≢ length out → (w : Walk) × (m2 ≡ (with_walk w v, [])) × Looked pixel v old out (Unlinked (here - 1)) w
-      stops_at h room = let w : Walk = record { pixel = g.walk.pixel; due = g.walk.due; passed = g.walk.passed; cursor = g.walk.cursor; noted = Some y; unlinked = true } in
-          let is : going found (noting y g.walk) ≡ w = ap (λ (b : Bool). cond b w (record { pixel = g.walk.pixel; due = g.walk.due; passed = g.walk.passed ++ record { node = g.walk.cursor - 1; payload = y } ∷ []; cursor = found; noted = None; unlinked = false })) (eq-eqb found mark h) in
+      stops_at h room = let w : Walk = gone true found (noting y g.walk) in let is : going found (noting y g.walk) ≡ w = ap (λ (b : Bool). gone b found (noting y g.walk)) (eq-eqb found mark h) in
           let a = g.cursor_is in let b = g.written.0 in let d = g.written.1 in let c = g.count_is in
-          (w, gone_walk ∙ ap (λ (x : Walk). (with_walk x v, [])) is, record { here = g.pixel_is; due = g.due_is; answer = (omega arith, refl, omega arith); written = g.written; whole = g.sees })
+          (w, gone_walk ∙ ap (λ (x : Walk). (with_walk x v, [])) is, record { here = g.pixel_is; due = g.due_is; answer = (omega arith, refl, omega arith); written = g.written; whole = sees_whole v g.walk g.lists })
 
       pub never_stops : found ≡ mark → endowment v ≡ 2 ^ 60 → loose v.entries ≡ 0 → ⊥
       never_stops h whole settled = let e = ap (λ (m : Me (Unit {0}) View). m.0.entries) noted_walk in let c = ap (λ (m : Me (Unit {0}) View). endowment m.0) noted_walk in told_more.linked (c ∙ whole) (ap loose e ∙ settled) h

@@ -1,9 +1,10 @@
 -- The start, and a claim.
-use Rattle.std.proofs.Common.{◌≡◌, ◌≢◌, ℕ, zero, suc, ◌+◌, ◌-◌, ◌*◌, ◌%◌, ◌^◌, min, ◌<◌, ◌≤◌, Bool, cond, ltb, true, false, List, [], ◌∷◌, ◌++◌, map, length, set, get_or, sym, refl, ap, ◌∙◌, subst, arith, ⊎_elim, length-append, length-set, get_or-set_same, get_or-set_other, slice_index, eq-eqb}
+use Rattle.std.proofs.Common.{◌≡◌, ◌≢◌, ℕ, zero, suc, ◌+◌, ◌-◌, ◌*◌, ◌%◌, ◌^◌, min, ◌<◌, ◌≤◌, Bool, cond, ltb, true, false, List, [], ◌∷◌, ◌++◌, map, filter, length, set, get_or, sym, refl, ap, ◌∙◌, subst, arith, ⊎_elim, length-append, length-set, get_or-set_same, get_or-set_other, slice_index, eq-eqb}
 use mathlib.Core.Option.{some, some-injective, some-ne-none}
 use mathlib.Core.List.{map-append}
 use Rattle.std.specs.List.{AllByRecursion}
 use lib.ListN.{get_elem?}
+use Rattle.std.proofs.lemmas.List.Elements.{All-filter, All-from_recursion, All-weaker, filter_passes, recursion_from_All}
 use Rattle.std.proofs.lemmas.List.Sums.{sum_by-append, count_by-le-length}
 use Rattle.std.proofs.lemmas.Bool.Decides.{nat_tests}
 use Rattle.std.proofs.lemmas.Bool.{cases_lt}
@@ -24,7 +25,7 @@ use Rattle.abuf_frame.specs.Pass.{AllInRange, InRange, Ties}
 use Rattle.abuf_num.proofs.Counting.{count_by-cons, sum_set, sum_le, sum_both, times-append, below_more, below_no, below_from}
 
 -- The states of a frame's table.
-abbrev St : Type 0
+abbrev pub St : Type 0
 St = State (Unit {0}) View
 
 -- The stage of a number when it is claimed.
@@ -39,15 +40,9 @@ first_claimed nodes n h = grind (arith, nat_tests)
 pub first_lost : (nodes n : ℕ) → nodes ≤ n → first_stage nodes n ≡ Lost
 first_lost nodes n h = grind (arith, nat_tests)
 
--- Neither stands in a list.
-stands_first : (p : ℕ) (b : _) → stands p (cond b Claimed Lost) ≡ 0
-stands_first p true = refl
-stands_first p false = refl
-
--- Neither asks anything of its payload's word.
-carries_first : (pixels w : ℕ) (b : _) → Stores pixels w (cond b Claimed Lost)
-carries_first pixels w true = tt
-carries_first pixels w false = tt
+-- What holds of both holds of a number's first stage.
+pub at_first : (F : Stage → Type 0) → F Claimed → F Lost → (nodes n : ℕ) → F (first_stage nodes n)
+at_first F c l nodes n = elim (ltb n nodes) as (λ b. F (cond b Claimed Lost)) [ true ↦ c | false ↦ l ]
 
 -- What holds of the only view holds of each.
 one_view : (P : ℕ → View → Type 0) (v : View) → P 0 v → (j : ℕ) (u : View) → get_elem? (v ∷ []) j ≡ some u → P j u
@@ -71,17 +66,25 @@ starts k words wide zeros marks = record {
   fresh = λ n _ h. first_claimed k.nodes n h;
   lost = λ n h. first_lost k.nodes n h;
   kept = λ n h. ap is_lost (first_claimed k.nodes n h);
-  payload = λ n. carries_first k.pixels (slice_index words (payload_word k.pixels n)) (ltb n k.nodes);
+  payload = λ n. at_first (Stores k.pixels (slice_index words (payload_word k.pixels n))) tt tt k.nodes n;
   next = λ n h. marks n h ∙ sym (ap next_of (first_claimed k.nodes n h));
   head = λ p h. zeros (head_word p) (omega arith);
   follows = λ p h. tt;
-  exact = λ p n h. sym (stands_first p (ltb n k.nodes));
+  exact = λ p n h. at_first (λ y. 0 ≡ stands p y) refl refl k.nodes n;
 }
 
 -- What holds of the items of two lists holds of those of both together.
 pub all-append : {X : Type 0} (P : X → Type 0) (l m : List X) → AllByRecursion P l → AllByRecursion P m → AllByRecursion P (l ++ m)
 all-append P [] m a b = b
 all-append P (x ∷ xs) m a b = (a.0, all-append P xs m a.1 b)
+
+-- What holds of the items of a list holds of those that pass a test, which they pass.
+pub all-filter : {X : Type 0} (P : X → Type 0) (q : X → Bool) (l : List X) → AllByRecursion P l → AllByRecursion (λ x. P x × (q x ≡ true)) (filter q l)
+all-filter P q l a = recursion_from_All _ (filter q l) (λ k d h. (All-filter q P l (All-from_recursion P l a) k d h, filter_passes q l k d h))
+
+-- What follows of each item holds of each.
+pub all_more : {X : Type 0} {P : X → Type 0} (Q : X → Type 0) → ((x : X) → P x → Q x) → (l : List X) → AllByRecursion P l → AllByRecursion Q l
+all_more {P = P} Q f l a = recursion_from_All Q l (All-weaker P Q f l (All-from_recursion P l a))
 
 -- New entries agree where each number is at its first stage.
 agree_new : (stage : ℕ → Stage) (nodes first count : ℕ) → ((n : ℕ) → first ≤ n → stage n ≡ first_stage nodes n) → Agree stage (new_entries nodes first count)
@@ -94,7 +97,7 @@ length_new nodes first zero = refl
 length_new nodes first (suc count) = ap suc (length_new nodes (first + 1) count)
 
 -- The new entries have the numbers from the first on, each once.
-times_new : (nodes n first count : ℕ) → times n (map number_of (new_entries nodes first count)) + below n first ≡ below n (first + count)
+pub times_new : (nodes n first count : ℕ) → times n (map number_of (new_entries nodes first count)) + below n first ≡ below n (first + count)
 times_new nodes n first zero = let same : first ≡ first + 0 = omega arith in let e : below n first ≡ below n (first + 0) = ap (λ (x : ℕ). below n x) same in omega arith
 times_new nodes n first (suc count) = let r = times_new nodes n (first + 1) count in let m = below_more n first in
     let same : (first + 1) + count ≡ first + suc count = omega arith in let e : below n ((first + 1) + count) ≡ below n (first + suc count) = ap (λ (x : ℕ). below n x) same in omega arith
@@ -103,9 +106,13 @@ times_new nodes n first (suc count) = let r = times_new nodes n (first + 1) coun
 pub room : (k : Size) (s : St) → Lawful k s → (id : ℕ) (v : View) → get_elem? s.views id ≡ some v → v.credit + slice_index s.words 0 ≤ 2 ^ 60
 room k s r id v at = let b = sum_both (λ (u : View). u.credit) (λ (u : View). length u.entries) s.views in let c = sum_le (λ (u : View). u.credit) s.views id v at in let d = r.counted in let e = r.endowed in omega arith
 
--- What holds of all views and of a new one holds after one was replaced by it.
-pub all_views : (P : View → Type 0) (vs : List View) (id : ℕ) (w : View) → P w → ((j : ℕ) (u : View) → get_elem? vs j ≡ some u → P u) → (j : ℕ) (u : View) → get_elem? (set vs id w) j ≡ some u → P u
-all_views P vs id w mine others j u e = ⊎_elim (λ (t : (j ≡ id) × (w ≡ u)). subst P t.1 mine) (λ (t : (j ≢ id) × (get_elem? vs j ≡ some u)). others j u t.1) (at_set vs id j w u e)
+-- What holds of all other views and of a new one holds after one was replaced by it.
+pub views_set : (P : View → Type 0) (vs : List View) (id : ℕ) (w : View) → P w → ((j : ℕ) (u : View) → j ≢ id → get_elem? vs j ≡ some u → P u) → (j : ℕ) (u : View) → get_elem? (set vs id w) j ≡ some u → P u
+views_set P vs id w mine others j u e = ⊎_elim (λ (t : (j ≡ id) × (w ≡ u)). subst P t.1 mine) (λ (t : (j ≢ id) × (get_elem? vs j ≡ some u)). others j u t.0 t.1) (at_set vs id j w u e)
+
+-- A number that nobody has claimed is at its first stage.
+pub unclaimed : (k : Size) (s : St) (r : Lawful k s) (n : ℕ) → slice_index s.words 0 ≤ n → r.stage n ≡ first_stage k.nodes n
+unclaimed k s r n l = ⊎_elim (λ (h : n < k.nodes). r.fresh n l h ∙ sym (first_claimed k.nodes n h)) (λ (h : k.nodes ≤ n). r.lost n h ∙ sym (first_lost k.nodes n h)) (cases_lt n k.nodes)
 
 -- After a claim a view has the numbers of before and those claimed.
 numbers_claimed : (nodes first count n : ℕ) (v : View) → times n (numbers (claimed nodes first count v)) + below n first ≡ times n (numbers v) + below n (first + count)
@@ -126,11 +133,10 @@ claim_state k s r id count c v at fits is = let w : View = claimed k.nodes c cou
           let z = ap (below n) here in let y = ap (below n) is in omega arith;
       counted = let t = sum_set (λ (u : View). length u.entries) s.views id v w at in let o = r.counted in omega arith;
       endowed = let t = sum_set endowment s.views id v w at in let o = r.endowed in omega arith;
-      agree = all_views (λ u. Agree r.stage u.entries) s.views id w (all-append _ v.entries (new_entries k.nodes c count) (r.agree id v at)
-          (agree_new r.stage k.nodes c count (λ n l. ⊎_elim (λ (h : n < k.nodes). r.fresh n (omega arith) h ∙ sym (first_claimed k.nodes n h)) (λ (h : k.nodes ≤ n). r.lost n h ∙ sym (first_lost k.nodes n h)) (cases_lt n k.nodes)))) r.agree;
-      told = all_views (λ u. Told r.stage u.told) s.views id w (r.told id v at) r.told;
-      seen = all_views (λ u. u.seen ≤ get_or (set s.words 0 (c + count)) 0 0) s.views id w (let l = r.seen id v at in omega arith) (λ j u e. let l = r.seen j u e in omega arith);
-      walked = all_views (λ u. AreWalks r.stage r.chain k.pixels u.walks) s.views id w (r.walked id v at) r.walked;
+      agree = views_set (λ u. Agree r.stage u.entries) s.views id w (all-append _ v.entries (new_entries k.nodes c count) (r.agree id v at) (agree_new r.stage k.nodes c count (λ n l. unclaimed k s r n (omega arith)))) (λ j u _. r.agree j u);
+      told = views_set (λ u. Told r.stage u.told) s.views id w (r.told id v at) (λ j u _. r.told j u);
+      seen = views_set (λ u. u.seen ≤ get_or (set s.words 0 (c + count)) 0 0) s.views id w (let l = r.seen id v at in omega arith) (λ j u _ e. let l = r.seen j u e in omega arith);
+      walked = views_set (λ u. AreWalks r.stage r.chain k.pixels u.walks) s.views id w (r.walked id v at) (λ j u _. r.walked j u);
       fresh = λ n l h. r.fresh n (omega arith) h;
       lost = r.lost;
       kept = r.kept;
@@ -141,14 +147,14 @@ claim_state k s r id count c v at fits is = let w : View = claimed k.nodes c cou
       exact = r.exact;
     }
 
--- Entries whose numbers are all below a count are below it.
-below_entries : (c : ℕ) (es : List Entry) → ((n : ℕ) → 0 < times n (map number_of es) → n < c) → Below c es
-below_entries c [] h = tt
-below_entries c (e ∷ es) h = (h e.number (let t = ap (λ (b : Bool). cond {A = ℕ} b 1 0) (eq-eqb e.number e.number refl) in omega arith), below_entries c es (λ n l. h n (omega arith)))
+-- What holds of each number that stands among entries holds of the number of each.
+pub all_standing : (P : ℕ → Type 0) (es : List Entry) → ((n : ℕ) → 0 < times n (map number_of es) → P n) → AllByRecursion (λ e. P e.number) es
+all_standing P [] h = tt
+all_standing P (e ∷ es) h = (h e.number (let t = ap (λ (b : Bool). cond {A = ℕ} b 1 0) (eq-eqb e.number e.number refl) in omega arith), all_standing P es (λ n l. h n (omega arith)))
 
 -- The entries of each view are below the counter.
 pub all_below : (k : Size) (s : St) → Lawful k s → (id : ℕ) (v : View) → get_elem? s.views id ≡ some v → Below (slice_index s.words 0) v.entries
-all_below k s r id v at = below_entries (slice_index s.words 0) v.entries (λ n l. let t = sum_le (λ (u : View). times n (numbers u)) s.views id v at in let o = r.once n in below_from n (slice_index s.words 0) (omega arith))
+all_below k s r id v at = all_standing (λ n. n < slice_index s.words 0) v.entries (λ n l. let t = sum_le (λ (u : View). times n (numbers u)) s.views id v at in let o = r.once n in below_from n (slice_index s.words 0) (omega arith))
 
 -- A pass with enough credit may claim.
 pub claims : (k : Size) (slots id count : ℕ) (me : Me (Unit {0}) View) → me.1 ≡ [] → count ≤ me.0.credit

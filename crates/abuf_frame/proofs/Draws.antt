@@ -4,12 +4,12 @@ use Rattle.std.proofs.lemmas.List.Sums.{sum_by-append}
 use Rattle.std.proofs.lemmas.List.{nil_from_length}
 use Rattle.std.proofs.lemmas.List.Sorted.{IsPermutation-append, IsPermutation-append_comm, IsPermutation-append_left, IsPermutation-append_right, IsPermutation-cons, IsPermutation-middle, IsPermutation-refl, IsPermutation-trans, length_permutation}
 use Rattle.abuf_frame.specs.declared.view.Stage.{Stage}
-use Rattle.abuf_frame.specs.declared.view.Stage.TheVariants.{Claimed, Filled, Swapped, Linked, Lost}
+use Rattle.abuf_frame.specs.declared.view.Stage.TheVariants.{Linked, Lost}
 use Rattle.abuf_frame.specs.declared.view.Entry.{Entry}
 use Rattle.abuf_frame.specs.declared.view.View.{View}
 use Rattle.abuf_frame.specs.Stages.{is_loose, is_lost}
 use Rattle.abuf_frame.specs.Views.{endowment, loose, lost}
-use Rattle.abuf_frame.specs.Steps.{grown, united}
+use Rattle.abuf_frame.specs.Steps.{grown}
 use Rattle.abuf_frame.specs.Draws.{Adds, CarriesItem, CarryInOrder, Draws, pairs, with_pair}
 use Rattle.abuf_num.proofs.Counting.{count_by-cons}
 use Rattle.abuf_frame.proofs.Runs.{carry_length}
@@ -18,16 +18,13 @@ use Rattle.abuf_frame.proofs.Runs.{carry_length}
 carried_settled : (p y : ℕ) (x : Stage) → CarriesItem p y x → cond {A = ℕ} (is_loose x) 1 0 ≡ 0
 carried_settled p y (Linked q z o) c = refl
 carried_settled p y Lost c = refl
-carried_settled p y Claimed c = absurd c
-carried_settled p y (Filled q z) c = absurd c
-carried_settled p y (Swapped q z o) c = absurd c
+carried_settled p y _ c = absurd c
 
 -- Nor is any of those that carry items in order.
 carry_settled : (first : ℕ) (xs : List (ℕ × ℕ)) (es : List Entry) → CarryInOrder first xs es → loose es ≡ 0
 carry_settled first [] [] c = refl
-carry_settled first [] (e ∷ es) c = absurd c
-carry_settled first (x ∷ xs) [] c = absurd c
 carry_settled first (x ∷ xs) (e ∷ es) c = let r = carry_settled (first + 1) xs es c.2 in let s = carried_settled x.0 x.1 e.stage c.1 in omega (arith, count_by-cons (λ (f : Entry). is_loose f.stage) e es)
+carry_settled first _ _ c = absurd c
 
 -- Entries whose pairs, with a rest of as many as are lost, are the items in some order. Where none is lost, nothing is left of them.
 adds_but : (xs rest : List (ℕ × ℕ)) (es : List Entry) → length es ≡ length xs → loose es ≡ 0 → length rest ≡ lost es → IsPermutation (pairs es ++ rest) xs → Adds xs es
@@ -49,17 +46,14 @@ carried_pair p y Lost ps rest xs c k = (
   omega arith,
   IsPermutation-trans (ps ++ (p, y) ∷ rest) ((p, y) ∷ (ps ++ rest)) ((p, y) ∷ xs) (IsPermutation-middle ps (p, y) rest) (IsPermutation-cons (p, y) (ps ++ rest) xs k),
 )
-carried_pair p y Claimed ps rest xs c k = absurd c
-carried_pair p y (Filled q z) ps rest xs c k = absurd c
-carried_pair p y (Swapped q z o) ps rest xs c k = absurd c
+carried_pair p y _ ps rest xs c k = absurd c
 
 -- Entries that carry items in order have these as their pairs, but for a rest of as many as are lost.
 carry_pairs : (first : ℕ) (xs : List (ℕ × ℕ)) (es : List Entry) → CarryInOrder first xs es → (rest : List (ℕ × ℕ)) × (length rest ≡ lost es) × IsPermutation (pairs es ++ rest) xs
 carry_pairs first [] [] c = ([], refl, IsPermutation-refl [])
-carry_pairs first [] (e ∷ es) c = absurd c
-carry_pairs first (x ∷ xs) [] c = absurd c
 carry_pairs first (x ∷ xs) (e ∷ es) c = let r = carry_pairs (first + 1) xs es c.2 in let m = r.1 in let s = carried_pair x.0 x.1 e.stage (pairs es) r.0 xs c.1 r.2 in let n = s.1 in
     (s.0, omega (arith, count_by-cons (λ (f : Entry). is_lost f.stage) e es), s.2)
+carry_pairs first _ _ c = absurd c
 
 -- Entries that carry items in order add them.
 pub carry_adds : (first : ℕ) (xs : List (ℕ × ℕ)) (es : List Entry) → CarryInOrder first xs es → Adds xs es
@@ -69,12 +63,8 @@ carry_adds first xs es c = let r = carry_pairs first xs es c in adds_but xs r.0 
 pub draws_from : (items : List (ℕ × ℕ)) (v w : View) → length items ≤ v.credit → (first : ℕ) × (es : List Entry) × CarryInOrder first items es × (w ≡ grown es v) → Draws items v w
 draws_from items v w enough r = let l = carry_length r.0 items r.1 r.2 in record { added = r.1; adds = carry_adds r.0 items r.1 r.2; fits = omega arith; after = r.3 }
 
--- The same for one item.
-pub draws_one : (p y : ℕ) (v w : View) → 1 ≤ v.credit → (e : Entry) × CarriesItem p y e.stage × (w ≡ grown (e ∷ []) v) → Draws ((p, y) ∷ []) v w
-draws_one p y v w enough r = draws_from ((p, y) ∷ []) v w enough (r.0.number, r.0 ∷ [], (refl, r.1, tt), r.2)
-
 -- As many of two lists are loose as in each together.
-loose-append : (es fs : List Entry) → loose (es ++ fs) ≡ loose es + loose fs
+pub loose-append : (es fs : List Entry) → loose (es ++ fs) ≡ loose es + loose fs
 loose-append es fs = sum_by-append (λ (e : Entry). cond (is_loose e.stage) 1 0) es fs
 
 -- As many of two lists are lost as in each together.
@@ -83,11 +73,8 @@ lost-append es fs = sum_by-append (λ (e : Entry). cond (is_lost e.stage) 1 0) e
 
 -- The pair of a stage stands before any others.
 with_pair-append : (x : Stage) (ps qs : List (ℕ × ℕ)) → with_pair x (ps ++ qs) ≡ with_pair x ps ++ qs
-with_pair-append Claimed ps qs = refl
-with_pair-append (Filled p y) ps qs = refl
-with_pair-append (Swapped p y o) ps qs = refl
 with_pair-append (Linked p y o) ps qs = refl
-with_pair-append Lost ps qs = refl
+with_pair-append _ ps qs = refl
 
 -- The pairs of two lists are those of each together.
 pub pairs-append : (es fs : List Entry) → pairs (es ++ fs) ≡ pairs es ++ pairs fs
@@ -96,11 +83,7 @@ pairs-append (e ∷ es) fs = ap (with_pair e.stage) (pairs-append es fs) ∙ wit
 
 -- Of four lists, the middle two may change places.
 middle_swapped : (ws xs ys zs : List (ℕ × ℕ)) → IsPermutation ((ws ++ xs) ++ (ys ++ zs)) ((ws ++ ys) ++ (xs ++ zs))
-middle_swapped ws xs ys zs =
-    let two : IsPermutation ((xs ++ ys) ++ zs) ((ys ++ xs) ++ zs) = IsPermutation-append_left zs (xs ++ ys) (ys ++ xs) (IsPermutation-append_comm xs ys) in
-    let three : IsPermutation (xs ++ (ys ++ zs)) (ys ++ (xs ++ zs)) = subst (λ (l : List (ℕ × ℕ)). IsPermutation l (ys ++ (xs ++ zs))) (append_assoc xs ys zs) (subst (IsPermutation ((xs ++ ys) ++ zs)) (append_assoc ys xs zs) two) in
-    let four : IsPermutation (ws ++ (xs ++ (ys ++ zs))) (ws ++ (ys ++ (xs ++ zs))) = IsPermutation-append_right ws (xs ++ (ys ++ zs)) (ys ++ (xs ++ zs)) three in
-    subst (λ (l : List (ℕ × ℕ)). IsPermutation l ((ws ++ ys) ++ (xs ++ zs))) (sym (append_assoc ws xs (ys ++ zs))) (subst (IsPermutation (ws ++ (xs ++ (ys ++ zs)))) (sym (append_assoc ws ys (xs ++ zs))) four)
+middle_swapped ws xs ys zs = simp append_assoc (IsPermutation-append_right ws _ _ (simp append_assoc at (IsPermutation-append_left zs (xs ++ ys) (ys ++ xs) (IsPermutation-append_comm xs ys))))
 
 -- Entries of two lists add the items of both.
 pub adds-append : (xs ys : List (ℕ × ℕ)) (es fs : List Entry) → Adds xs es → Adds ys fs → Adds (xs ++ ys) (es ++ fs)
@@ -149,7 +132,3 @@ module _ (items : List (ℕ × ℕ)) (v w : View) (a : Draws items v w) where
   -- It leaves no entry loose that wasn't.
   pub draws_loose : loose w.entries ≡ loose v.entries
   draws_loose = let e = ap (λ (z : View). loose z.entries) a.after in let l = loose-append v.entries a.added in let s = a.adds.settled in omega arith
-
--- what two passes have together
-pub united_loose : (v w u : View) → u ≡ united v w → loose u.entries ≡ loose v.entries + loose w.entries
-united_loose v w u e = ap (λ (z : View). loose z.entries) e ∙ loose-append v.entries w.entries

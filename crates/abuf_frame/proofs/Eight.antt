@@ -1,11 +1,12 @@
 -- Eight walks side by side, each in a lane with a word and a list of its own.
-use Rattle.std.proofs.Common.{◌≡◌, ◌≢◌, ◌⊎◌, inl, ℕ, ◌+◌, ◌-◌, ◌*◌, ◌<◌, ◌≤◌, Bool, cond, ltb, true, false, List, [], ◌∷◌, ◌++◌, map, length, refl, sym, ◌∙◌, ap, subst, arith, ⊎_elim, slice_index, slice_index_or, slice_set, length-set, get_or-set_same, get_or-set_other, eq-eqb, ne_eqb, append-nil}
+use Rattle.std.proofs.Common.{◌≡◌, ◌≢◌, ◌⊎◌, ℕ, zero, suc, ◌+◌, ◌-◌, ◌*◌, ◌<◌, ◌≤◌, Bool, cond, eqb, ltb, true, false, List, [], ◌∷◌, ◌++◌, map, length, refl, sym, ◌∙◌, ap, subst, arith, ⊎_elim, slice_index, slice_index_or, slice_set, length-set, get_or-set_same, get_or-set_other, eq-eqb, ne_eqb, append_assoc, append-nil}
 use Rattle.std.proofs.lemmas.Bool.{cases_eq, ltb-true, ltb-false}
+use Rattle.std.proofs.lemmas.List.FromFn.{get_or-map-range_with_len}
 use Rattle.std.proofs.lemmas.List.{get_or-map, get_or_past, length-map, map-set}
 use Rattle.abuf_frame.specs.Closing.{Kept, Threaded, lists_from, payloads_from}
-use Rattle.abuf_frame.specs.Lanes.{Advances, Refers, head_or_end}
+use Rattle.abuf_frame.specs.Lanes.{Advances, Refers, head_or_end, next_from}
 use Rattle.abuf_frame.specs.Words.{head_word, next_word, payload_word}
-use Rattle.abuf_frame.proofs.Closes.{goes, lists_at, lists_length, walk_end, walk_more}
+use Rattle.abuf_frame.proofs.Closes.{lists_length}
 
 module _ {X : Type 0} (f : X → List ℕ) where
   -- the list of a lane that was just written
@@ -56,6 +57,25 @@ module _ {X : Type 0} (f : X → List ℕ) where
         )
 
 module _ (words : List ℕ) (pixels nodes : ℕ) where
+  -- At the end there is nothing to come.
+  end_gives : (most : ℕ) → payloads_from words pixels most 0 ≡ []
+  end_gives zero = refl
+  end_gives (suc most) = refl
+
+  -- A walk gives the payload of the node at which it stands, if any, and those from its next on.
+  walk_step : (most at : ℕ) → payloads_from words pixels (suc most) at ≡ payloads_from words pixels 1 at ++ payloads_from words pixels most (next_from words pixels at)
+  walk_step most at = let payload : ℕ = slice_index words (payload_word pixels (at - 1)) in let next : ℕ = slice_index words (next_word pixels (at - 1)) in
+      elim (eqb at 0) as (λ b. cond b [] (payload ∷ payloads_from words pixels most next) ≡ cond b [] (payload ∷ []) ++ payloads_from words pixels most (cond b 0 next)) [ true ↦ sym (end_gives most) | false ↦ refl ]
+
+  -- Threaded nodes lead on from the next.
+  leads_on : (at : ℕ) (ns : List ℕ) → Threaded words pixels nodes at ns → (ms : List ℕ) × Threaded words pixels nodes (next_from words pixels at) ms
+  leads_on at [] t = ([], ap (λ (b : Bool). cond b 0 (slice_index words (next_word pixels (at - 1)))) (eq-eqb at 0 t))
+  leads_on at (n ∷ ns) t = let e = t.0 in let is : n ≡ at - 1 = omega arith in (
+    ns,
+    subst (λ (m : ℕ). Threaded words pixels nodes m ns)
+        (ap (λ (i : ℕ). slice_index words (next_word pixels i)) is ∙ sym (ap (λ (b : Bool). cond b 0 (slice_index words (next_word pixels (at - 1)))) (ne_eqb at 0 (λ z. omega arith)))) t.2,
+  )
+
   -- A walk is to collect `all`. It has collected `done`, stands at the word `at`, and may pass at most so many nodes more.
   pub record Walks (most at : ℕ) (done all : List ℕ) : Type 0 where
     pub rest : List ℕ
@@ -75,40 +95,31 @@ module _ (words : List ℕ) (pixels nodes : ℕ) where
       all = slice_index_or (lists_from words pixels nodes 0 pixels) p []
 
       cases : (b : Bool) → ltb p pixels ≡ b → Walks most at done all
-      cases true e = let on : p < pixels = ltb-true p pixels e in let same : 0 + p ≡ p = omega arith in
+      cases true e = let on : p < pixels = ltb-true p pixels e in
           let head : at ≡ slice_index words (head_word p) = ea ∙ ap (λ (b : Bool). cond b (slice_index words (head_word p)) 0) e in record {
             rest = k.chain p;
             threaded = subst (λ (m : ℕ). Threaded words pixels nodes m (k.chain p)) (sym head) (k.threaded p on);
-            sum = (λ i. ed i ++ payloads_from words pixels (em i) (head i)) ∙ sym (lists_at words pixels nodes 0 pixels p on ∙ ap (λ (i : ℕ). payloads_from words pixels nodes (slice_index words (head_word i))) same);
+            sum = (λ i. ed i ++ payloads_from words pixels (em i) (head i)) ∙ sym (get_or-map-range_with_len (λ q. payloads_from words pixels nodes (slice_index words (head_word q))) 0 pixels p p [] on (omega arith));
           }
       cases false e = let past : pixels ≤ p = ltb-false p pixels e in let long = lists_length words pixels nodes 0 pixels in
           let ended : at ≡ 0 = ea ∙ ap (λ (b : Bool). cond b (slice_index words (head_word p)) 0) e in record {
             rest = [];
             threaded = ended;
-            sum = (λ i. ed i ++ walk_end words pixels nodes most at (inl ended) i) ∙ sym (get_or_past (lists_from words pixels nodes 0 pixels) p [] (omega arith));
+            sum = (λ i. ed i ++ (ap (payloads_from words pixels most) ended ∙ end_gives most) i) ∙ sym (get_or_past (lists_from words pixels nodes 0 pixels) p [] (omega arith));
           }
 
   -- a walk that passes one more node
   pub advances_walk : (counter at next : ℕ) (done new all : List ℕ) → counter < nodes → Advances words pixels at next done new → Walks (nodes - counter) at done all → Walks (nodes - (counter + 1)) next new all
-  advances_walk counter at next done new all l g w = ⊎_elim stays moves (cases_eq at 0)
-    where
-      stays : at ≡ 0 → Walks (nodes - (counter + 1)) next new all
-      stays h = let ended : next ≡ 0 = g.next_is ∙ ap (λ (b : Bool). cond b 0 (slice_index words (next_word pixels (at - 1)))) (eq-eqb at 0 h) in
-          let same : new ≡ done ++ [] = g.new_is ∙ ap (λ (b : Bool). done ++ cond b [] (slice_index words (payload_word pixels (at - 1)) ∷ [])) (eq-eqb at 0 h) in record {
-            rest = [];
-            threaded = ended;
-            sum = (λ i. (same ∙ append-nil done) i ++ walk_end words pixels nodes (nodes - (counter + 1)) next (inl ended) i) ∙ (sym (ap (λ (z : List ℕ). done ++ z) (walk_end words pixels nodes (nodes - counter) at (inl h))) ∙ w.sum);
-          }
-
-      moves : at ≢ 0 → Walks (nodes - (counter + 1)) next new all
-      moves h = let n = goes words pixels nodes at w.rest w.threaded h in let false_is = ne_eqb at 0 h in let payload : ℕ = slice_index words (payload_word pixels (at - 1)) in
-          let led : next ≡ slice_index words (next_word pixels (at - 1)) = g.next_is ∙ ap (λ (b : Bool). cond b 0 (slice_index words (next_word pixels (at - 1)))) false_is in
-          let more : new ≡ done ++ payload ∷ [] = g.new_is ∙ ap (λ (b : Bool). done ++ cond b [] (payload ∷ [])) false_is in record {
-            rest = n.rest;
-            threaded = subst (λ (m : ℕ). Threaded words pixels nodes m n.rest) (sym led) n.threaded;
-            sum = subst (λ (z : List ℕ). z ++ payloads_from words pixels (nodes - (counter + 1)) next ≡ all) (sym more) (walk_more words pixels nodes counter at payload next done all l h refl led w.sum);
-          }
+  advances_walk counter at next done new all l g w = let m : ℕ = nodes - (counter + 1) in let more : suc m ≡ nodes - counter = omega arith in let on = leads_on at w.rest w.threaded in record {
+    rest = on.0;
+    threaded = subst (λ (n : ℕ). Threaded words pixels nodes n on.0) (sym g.next_is) on.1;
+    sum = (λ i. g.new_is i ++ payloads_from words pixels m (g.next_is i)) ∙ (append_assoc done (payloads_from words pixels 1 at) (payloads_from words pixels m (next_from words pixels at))
+        ∙ (ap (λ (xs : List ℕ). done ++ xs) (sym (walk_step m at)) ∙ (ap (λ (n : ℕ). done ++ payloads_from words pixels n at) more ∙ w.sum)));
+  }
 
   -- a walk that can't pass another node has collected all
   pub ends : (most at : ℕ) (done all : List ℕ) → (at ≡ 0) ⊎ (most ≡ 0) → Walks most at done all → done ≡ all
-  ends most at done all stop w = sym (append-nil done) ∙ (ap (λ (z : List ℕ). done ++ z) (sym (walk_end words pixels nodes most at stop)) ∙ w.sum)
+  ends most at done all stop w = sym (append-nil done) ∙ (ap (λ (xs : List ℕ). done ++ xs) (sym none) ∙ w.sum)
+    where
+      none : payloads_from words pixels most at ≡ []
+      none = ⊎_elim (λ (e : at ≡ 0). ap (payloads_from words pixels most) e ∙ end_gives most) (λ (e : most ≡ 0). ap (λ (n : ℕ). payloads_from words pixels n at) e) stop

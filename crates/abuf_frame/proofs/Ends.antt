@@ -1,61 +1,55 @@
--- A whole, settled pass at the end.
-use Rattle.std.proofs.Common.{◌≡◌, ◌≢◌, ℕ, zero, suc, ◌+◌, ◌-◌, ◌^◌, ◌<◌, ◌≤◌, Bool, cond, eqb, true, false, true≢false, List, [], ◌∷◌, map, length, sym, refl, ap, ◌∙◌, subst, arith, ⊎_elim, slice_index, eq-eqb, ne_eqb, IsPermutation, filter, sum_by}
+-- A whole, settled pass at the end: the list of each pixel, which is the one chain of its entries along their old heads, and how many
+-- entries are lost.
+use Rattle.std.proofs.Common.{◌≡◌, ◌≢◌, ℕ, zero, suc, ◌+◌, ◌-◌, ◌^◌, ◌<◌, ◌≤◌, Bool, cond, eqb, ltb, true, false, true≢false, List, [], ◌∷◌, map, length, sym, refl, ap, ◌∙◌, subst, arith, ⊎_elim, slice_index, eq-eqb, ne_eqb, IsPermutation, filter, sum_by}
 use mathlib.Core.Option.{some}
 use lib.ListN.{get_elem?}
+use Rattle.std.specs.List.{range_with_len}
 use Rattle.std.proofs.lemmas.Bool.Decides.{nat_tests}
 use Rattle.std.proofs.lemmas.Bool.{cases_lt, cases_eq}
-use Rattle.std.proofs.lemmas.List.Sorted.{IsPermutation-map}
-use Rattle.atomic_table.specs.Table.{State}
+use Rattle.std.proofs.lemmas.List.{nil_from_length}
+use Rattle.std.proofs.lemmas.List.Elements.{All-from_recursion, recursion_from_All}
+use Rattle.std.proofs.lemmas.List.Sorted.{All-permutation, IsPermutation-map, IsPermutation-sym, sum_by-IsPermutation}
+use Rattle.std.proofs.lemmas.List.Sums.{sum_by-cons}
 use Rattle.abuf_frame.specs.declared.view.Stage.{Stage}
 use Rattle.abuf_frame.specs.declared.view.Stage.TheVariants.{Claimed, Filled, Swapped, Linked, Lost}
 use Rattle.abuf_frame.specs.declared.view.Entry.{Entry}
 use Rattle.abuf_frame.specs.declared.view.View.{View}
 use Rattle.abuf_frame.specs.declared.view.Size.{Size}
 use Rattle.abuf_num.specs.Counting.{below, times}
-use Rattle.abuf_frame.specs.Views.{Below, endowment, loose, lost, number_of, numbers}
+use Rattle.abuf_frame.specs.Chains.{AreChained, IsListAt, payload_in}
+use Rattle.abuf_frame.specs.Views.{at_pixel, endowment, loose, lost, number_of, numbers}
 use Rattle.abuf_frame.specs.Lawful.{Agree, Follows, Lawful}
 use Rattle.abuf_frame.specs.Words.{head_word, next_word, payload_word}
-use Rattle.abuf_frame.specs.Stages.{Precedes, Stores, is_loose, is_lost, next_of, payload_of, stands}
+use Rattle.abuf_frame.specs.Stages.{Precedes, Stores, is_loose, is_lost, next_of, old_of, payload_of, stands}
 use Rattle.abuf_frame.specs.Walks.{head_of}
 use Rattle.abuf_frame.specs.Closing.{Threaded, payloads_from}
 use Rattle.abuf_frame.specs.Pass.{AllInRange, InRange}
-use Rattle.abuf_num.proofs.Counting.{Under, count_by-cons, pigeons, same_times, sum_only}
 use Rattle.abuf_frame.specs.Draws.{pairs, payloads_at, with_pair}
+use Rattle.abuf_num.proofs.Counting.{Under, below_yes, count_by-cons, none_in, pigeons, same_times, sum_only, times_first, times_kept, times_permuted}
+use Rattle.abuf_frame.proofs.Claims.{St, all-filter, all_more, at_first, unclaimed}
 
--- The states of a frame's table.
-abbrev St : Type 0
-St = State (Unit {0}) View
-
--- A number stands among entries at most as often as there are entries.
-times_le : (n : ℕ) (es : List Entry) → times n (map number_of es) ≤ length es
-times_le n [] = omega arith
-times_le n (e ∷ es) = let r = times_le n es in let b : cond (eqb e.number n) 1 0 ≤ 1 = grind (arith, nat_tests) in omega arith
+-- A condition that counts for nothing is false.
+not_counted : (b : Bool) → cond {A = ℕ} b 1 0 ≡ 0 → b ≡ false
+not_counted true z = absurd (omega arith)
+not_counted false z = refl
 
 -- Where no entry is loose, no number of them is.
 settles : (stage : ℕ → Stage) (n : ℕ) (es : List Entry) → loose es ≡ 0 → Agree stage es → 0 < times n (map number_of es) → is_loose (stage n) ≡ false
 settles stage n [] l a t = absurd (omega arith)
-settles stage n (e ∷ es) l a t = let c = count_by-cons (λ (f : Entry). is_loose f.stage) e es in ⊎_elim (λ (h : e.number ≡ n). tight (is_loose e.stage) (omega arith) (ap (λ (y : Stage). is_loose y) (a.0 ∙ ap stage h)))
+settles stage n (e ∷ es) l a t = let c = count_by-cons (λ (f : Entry). is_loose f.stage) e es in ⊎_elim (λ (h : e.number ≡ n). subst (λ y. is_loose y ≡ false) (a.0 ∙ ap stage h) (not_counted (is_loose e.stage) (omega arith)))
     (λ (h : e.number ≢ n). let b = ap (λ (b : Bool). cond {A = ℕ} b 1 0) (ne_eqb e.number n h) in settles stage n es (omega arith) a.1 (omega arith)) (cases_eq e.number n)
-  where
-    tight : (b : Bool) → cond {A = ℕ} b 1 0 ≡ 0 → b ≡ is_loose (stage n) → is_loose (stage n) ≡ false
-    tight true z e = absurd (omega arith)
-    tight false z e = sym e
 
 -- The next of a node that isn't loose is the head that it precedes.
 pub next_after : (y : Stage) (p h : ℕ) → Precedes y p h → is_loose y ≡ false → next_of y ≡ h
 next_after (Linked q z o) p h a b = a.1
 next_after (Swapped q z o) p h a b = absurd (true≢false b)
-next_after Claimed p h a b = absurd a
-next_after (Filled q z) p h a b = absurd a
-next_after Lost p h a b = absurd a
+next_after _ p h a b = absurd a
 
 -- The word that such a node stores is its payload.
 pub carries_after : (pixels w : ℕ) (y : Stage) (p h : ℕ) → Precedes y p h → Stores pixels w y → w ≡ payload_of y
 carries_after pixels w (Linked q z o) p h a b = b.1
 carries_after pixels w (Swapped q z o) p h a b = b.1
-carries_after pixels w Claimed p h a b = absurd a
-carries_after pixels w (Filled q z) p h a b = absurd a
-carries_after pixels w Lost p h a b = absurd a
+carries_after pixels w _ p h a b = absurd a
 
 -- A walk along threaded nodes gives the words of their payloads.
 pub walk_is : (words : List ℕ) (pixels nodes : ℕ) (ns : List ℕ) (here fuel : ℕ) → Threaded words pixels nodes here ns → length ns ≤ fuel → payloads_from words pixels fuel here ≡ map (λ n. slice_index words (payload_word pixels n)) ns
@@ -67,83 +61,168 @@ walk_is words pixels nodes (n ∷ ns) here (suc fuel) t l = let e = t.0 in let i
     ∙ (ap (λ (m : ℕ). slice_index words (payload_word pixels m) ∷ payloads_from words pixels fuel (slice_index words (next_word pixels m))) is
     ∙ ap (λ (l : List ℕ). slice_index words (payload_word pixels n) ∷ l) (walk_is words pixels nodes ns (slice_index words (next_word pixels n)) fuel t.2 (omega arith)))
 
--- Threaded nodes are nodes of the frame.
-pub under_threaded : (words : List ℕ) (pixels nodes : ℕ) (ns : List ℕ) (here : ℕ) → Threaded words pixels nodes here ns → Under nodes ns
-under_threaded words pixels nodes [] here t = tt
-under_threaded words pixels nodes (n ∷ ns) here t = (t.1, under_threaded words pixels nodes ns (slice_index words (next_word pixels n)) t.2)
-
 -- A number stands at most once at a pixel.
 pub stands_le : (p : ℕ) (y : Stage) → stands p y ≤ 1
-stands_le p Claimed = omega arith
-stands_le p (Filled q z) = omega arith
 stands_le p (Swapped q z o) = let b : cond (eqb q p) 1 0 ≤ 1 = grind (arith, nat_tests) in b
 stands_le p (Linked q z o) = let b : cond (eqb q p) 1 0 ≤ 1 = grind (arith, nat_tests) in b
-stands_le p Lost = omega arith
-
--- the payloads of the entries that stand in the list of the pixel
-abbrev pub standing_payloads : ℕ → List Entry → List ℕ
-standing_payloads p [] = []
-standing_payloads p (e ∷ es) = cond (eqb (stands p e.stage) 1) (payload_of e.stage ∷ standing_payloads p es) (standing_payloads p es)
+stands_le p _ = omega arith
 
 -- One that stands at a pixel has its payload there, and any other has none.
-stand_pair : (p : ℕ) (y : Stage) → is_loose y ≡ false → (ys : List ℕ) (xs : List (ℕ × ℕ)) → ys ≡ payloads_at p xs → cond (eqb (stands p y) 1) (payload_of y ∷ ys) ys ≡ payloads_at p (with_pair y xs)
-stand_pair p (Linked q z o) t ys xs r = go (eqb q p)
+stand_pair : (p : ℕ) (e : Entry) → is_loose e.stage ≡ false → (es : List Entry) (xs : List (ℕ × ℕ)) → map payload_in (at_pixel p es) ≡ payloads_at p xs → map payload_in (at_pixel p (e ∷ es)) ≡ payloads_at p (with_pair e.stage xs)
+stand_pair p e t es xs r = pick e.stage t
   where
-    go : (b : Bool) → cond (eqb (cond {A = ℕ} b 1 0) 1) (z ∷ ys) ys ≡ map (λ x. x.1) (cond b ((q, z) ∷ filter (λ x. eqb x.0 p) xs) (filter (λ x. eqb x.0 p) xs))
-    go true = λ i. z ∷ r i
-    go false = r
-stand_pair p Lost t ys xs r = r
-stand_pair p Claimed t ys xs r = absurd (true≢false t)
-stand_pair p (Filled q z) t ys xs r = absurd (true≢false t)
-stand_pair p (Swapped q z o) t ys xs r = absurd (true≢false t)
+    pick : (y : Stage) → is_loose y ≡ false → map payload_in (cond (eqb (stands p y) 1) (record { number = e.number; stage = y } ∷ at_pixel p es) (at_pixel p es)) ≡ payloads_at p (with_pair y xs)
+    pick (Linked q z o) t = elim (eqb q p) as (λ b. map payload_in (cond (eqb (cond {A = ℕ} b 1 0) 1) (record { number = e.number; stage = Linked q z o } ∷ at_pixel p es) (at_pixel p es)) ≡ map (λ x. x.1) (cond b ((q, z) ∷ filter (λ x. eqb x.0 p) xs) (filter (λ x. eqb x.0 p) xs)))
+        [ true ↦ λ i. z ∷ r i | false ↦ r ]
+    pick Lost t = r
+    pick _ t = absurd (true≢false t)
 
--- A condition that counts for nothing is false.
-not_loose : (b : Bool) → cond {A = ℕ} b 1 0 ≡ 0 → b ≡ false
-not_loose true z = absurd (omega arith)
-not_loose false z = refl
-
--- where each is Linked or Lost, they are those of the Linked ones
-pub settled_pairs : (p : ℕ) (es : List Entry) → loose es ≡ 0 → standing_payloads p es ≡ payloads_at p (pairs es)
+-- Where each entry is Linked or Lost, the payloads of those at a pixel are those of the Linked ones.
+settled_pairs : (p : ℕ) (es : List Entry) → loose es ≡ 0 → map payload_in (at_pixel p es) ≡ payloads_at p (pairs es)
 settled_pairs p [] l = refl
-settled_pairs p (e ∷ es) l = let c = count_by-cons (λ (f : Entry). is_loose f.stage) e es in stand_pair p e.stage (not_loose (is_loose e.stage) (omega arith)) (standing_payloads p es) (pairs es) (settled_pairs p es (omega arith))
+settled_pairs p (e ∷ es) l = let c = count_by-cons (λ (f : Entry). is_loose f.stage) e es in stand_pair p e (not_counted (is_loose e.stage) (omega arith)) es (pairs es) (settled_pairs p es (omega arith))
 
--- the numbers of the entries that stand in the list of the pixel
-abbrev pub nodes_at : ℕ → List Entry → List ℕ
-nodes_at p [] = []
-nodes_at p (e ∷ es) = cond (eqb (stands p e.stage) 1) (e.number ∷ nodes_at p es) (nodes_at p es)
+-- So they are the list of the pixel in some order.
+pub list_pairs : (p : ℕ) (es : List Entry) (l : List ℕ) → loose es ≡ 0 → IsListAt p es l → IsPermutation l (payloads_at p (pairs es))
+list_pairs p es l settled is = subst (λ (xs : List ℕ). IsPermutation xs (payloads_at p (pairs es))) (sym is.payloads_are)
+    (subst (IsPermutation (map payload_in is.chain)) (settled_pairs p es settled) (IsPermutation-map payload_in is.chain (at_pixel p es) is.all))
 
--- The payloads of the nodes at a pixel are those that stand there.
-payloads_nodes : (stage : ℕ → Stage) (p : ℕ) (es : List Entry) → Agree stage es → map (λ n. payload_of (stage n)) (nodes_at p es) ≡ standing_payloads p es
-payloads_nodes stage p [] a = refl
-payloads_nodes stage p (e ∷ es) a = let r = payloads_nodes stage p es a.1 in pick (eqb (stands p e.stage) 1) (payload_of e.stage) e.number (sym (ap payload_of a.0)) r
-  where
-    pick : (b : Bool) (y n : ℕ) → payload_of (stage n) ≡ y → map (λ n. payload_of (stage n)) (nodes_at p es) ≡ standing_payloads p es
-        → map (λ n. payload_of (stage n)) (cond b (n ∷ nodes_at p es) (nodes_at p es)) ≡ cond b (y ∷ standing_payloads p es) (standing_payloads p es)
-    pick true y n d r = λ i. d i ∷ r i
-    pick false y n d r = r
+-- Of entries that agree with the stages, those that pass a test have the numbers that pass it by their stages.
+pub numbers_kept : (stage : ℕ → Stage) (q : Stage → Bool) (es : List Entry) → Agree stage es → map number_of (filter (λ e. q e.stage) es) ≡ filter (λ n. q (stage n)) (map number_of es)
+numbers_kept stage q [] a = refl
+numbers_kept stage q (e ∷ es) a = let r = numbers_kept stage q es a.1 in
+    subst (λ (y : Stage). map number_of (filter (λ f. q f.stage) (e ∷ es)) ≡ cond (q y) (e.number ∷ filter (λ n. q (stage n)) (map number_of es)) (filter (λ n. q (stage n)) (map number_of es))) a.0
+    (elim (q e.stage) as (λ b. map number_of (cond b (e ∷ filter (λ f. q f.stage) es) (filter (λ f. q f.stage) es)) ≡ cond b (e.number ∷ filter (λ n. q (stage n)) (map number_of es)) (filter (λ n. q (stage n)) (map number_of es)))
+    [ true ↦ λ i. e.number ∷ r i | false ↦ r ])
 
--- A number is among the nodes at a pixel as often as among the entries, if it stands there.
-times_nodes : (stage : ℕ → Stage) (p n : ℕ) (es : List Entry) → Agree stage es → times n (nodes_at p es) ≡ cond (eqb (stands p (stage n)) 1) (times n (map number_of es)) 0
-times_nodes stage p n [] a = pick (eqb (stands p (stage n)) 1)
-  where
-    pick : (b : Bool) → 0 ≡ cond {A = ℕ} b 0 0
-    pick true = refl
-    pick false = refl
-times_nodes stage p n (e ∷ es) a = let r = times_nodes stage p n es a.1 in ⊎_elim (λ (h : e.number ≡ n). let same : eqb (stands p e.stage) 1 ≡ eqb (stands p (stage n)) 1 = ap (λ (y : Stage). eqb (stands p y) 1) (a.0 ∙ ap stage h) in
-    here (eqb (stands p (stage n)) 1) (eqb (stands p e.stage) 1) same (eqb e.number n) r)
-    (λ (h : e.number ≢ n). there (eqb (stands p (stage n)) 1) (eqb (stands p e.stage) 1) (eqb e.number n) (ne_eqb e.number n h) r) (cases_eq e.number n)
-  where
-    here : (b c : Bool) → c ≡ b → (d : Bool) → times n (nodes_at p es) ≡ cond b (times n (map number_of es)) 0 → times n (cond c (e.number ∷ nodes_at p es) (nodes_at p es)) ≡ cond b (cond (eqb e.number n) 1 0 + times n (map number_of es)) 0
-    here true true s d r = ap (λ (m : ℕ). cond (eqb e.number n) 1 0 + m) r
-    here false false s d r = r
-    here true false s d r = absurd (true≢false (sym s))
-    here false true s d r = absurd (true≢false s)
+-- So a number stands among those at a pixel as often as among all, if its stage stands there.
+pub times_at : (stage : ℕ → Stage) (p n : ℕ) (es : List Entry) → Agree stage es → times n (map number_of (at_pixel p es)) ≡ cond (eqb (stands p (stage n)) 1) (times n (map number_of es)) 0
+times_at stage p n es a = ap (times n) (numbers_kept stage (λ y. eqb (stands p y) 1) es a) ∙ times_kept (λ m. eqb (stands p (stage m)) 1) n (map number_of es)
 
-    there : (b c d : Bool) → eqb e.number n ≡ false → times n (nodes_at p es) ≡ cond b (times n (map number_of es)) 0 → times n (cond c (e.number ∷ nodes_at p es) (nodes_at p es)) ≡ cond b (cond (eqb e.number n) 1 0 + times n (map number_of es)) 0
-    there true true d f r = ap (λ (m : ℕ). cond (eqb e.number n) 1 0 + m) r
-    there true false d f r = let z = ap (λ (b : Bool). cond {A = ℕ} b 1 0) f in omega arith
-    there false true d f r = let z = ap (λ (b : Bool). cond {A = ℕ} b 1 0) f in omega arith
-    there false false d f r = r
+-- A number put first stands once more.
+times_here : (n : ℕ) (ns : List ℕ) → times n (n ∷ ns) ≡ 1 + times n ns
+times_here n ns = ap (λ (b : Bool). cond {A = ℕ} b 1 0 + times n ns) (eq-eqb n n refl)
+
+-- Another number put first changes no count.
+times_other : (m n : ℕ) (ns : List ℕ) → m ≢ n → times n (m ∷ ns) ≡ times n ns
+times_other m n ns d = let z = ap (λ (b : Bool). cond {A = ℕ} b 1 0) (ne_eqb m n d) in omega arith
+
+module _ (stage : ℕ → Stage) where
+  -- the entry of a number
+  abbrev entry_at : ℕ → Entry
+  entry_at n = record { number = n; stage = stage n }
+
+  -- each old head refers to the next number
+  abbrev Leads : List ℕ → Type 0
+  Leads ns = AreChained (map entry_at ns)
+
+  -- what an old head refers to comes after the first
+  tail_has : (x : ℕ) (xs : List ℕ) → Leads (x ∷ xs) → (g m : ℕ) → 0 < times g (x ∷ xs) → old_of (stage g) ≡ m + 1 → 0 < times m xs
+  tail_has x [] l g m h e = ⊎_elim (λ (d : x ≡ g). let a = ap (λ (n : ℕ). old_of (stage n)) d in let b = l.0 in absurd (omega arith))
+      (λ (d : x ≢ g). let t = times_other x g [] d in absurd (omega arith)) (cases_eq x g)
+  tail_has x (y ∷ ys) l g m h e = ⊎_elim (λ (d : x ≡ g). let a = ap (λ (n : ℕ). old_of (stage n)) d in let b = l.0 in let same : y ≡ m = omega arith in let t = times_here y ys in
+      subst (λ (n : ℕ). 0 < times n (y ∷ ys)) same (omega arith))
+      (λ (d : x ≢ g). let t = times_other x g (y ∷ ys) d in let r = tail_has y ys l.1 g m (omega arith) e in omega arith) (cases_eq x g)
+
+  -- an old head refers to each number after the first
+  has_before : (x : ℕ) (xs : List ℕ) → Leads (x ∷ xs) → (m : ℕ) → 0 < times m xs → (g : ℕ) × (0 < times g (x ∷ xs)) × (old_of (stage g) ≡ m + 1)
+  has_before x [] l m h = absurd (omega arith)
+  has_before x (y ∷ ys) l m h = ⊎_elim (λ (d : y ≡ m). let t = times_here x (y ∷ ys) in (x, omega arith, l.0 ∙ ap (λ (n : ℕ). n + 1) d))
+      (λ (d : y ≢ m). let t = times_other y m ys d in let r = has_before y ys l.1 m (omega arith) in let a = r.1 in (r.0, omega arith, r.2)) (cases_eq y m)
+
+  -- Two chains that both lead on from each node are alike if they have the same nodes, each once.
+  one_chain : (xs ys : List ℕ) → Leads xs → Leads ys → ((n : ℕ) → times n xs ≡ times n ys) → ((n : ℕ) → times n xs ≤ 1) → xs ≡ ys
+  one_chain [] ys a b e o = sym (none_in ys (λ n. sym (e n)))
+  one_chain (x ∷ xs) [] a b e o = let t = times_here x xs in let h = e x in absurd (omega arith)
+  one_chain (x ∷ xs) (y ∷ ys) a b e o = ⊎_elim
+      (λ (d : y ≡ x). let rest = one_chain xs ys a.1 b.1 (λ n. let h = e n in let f = ap (λ (z : ℕ). times n (z ∷ ys)) d in omega arith) (λ n. let h = o n in omega arith) in λ i. sym d i ∷ rest i)
+      (λ (d : y ≢ x). let t = times_here x xs in let u = times_other y x ys d in let h = e x in let g = has_before y ys b x (omega arith) in let q = e g.0 in let w = g.1 in
+      let again = tail_has x xs a g.0 x (omega arith) g.2 in let once = o x in absurd (omega arith)) (cases_eq y x)
+
+  -- The old head of an entry that precedes a head is that head.
+  old_is : (y : Stage) (p h : ℕ) → Precedes y p h → old_of y ≡ h
+  old_is (Linked q z o) p h a = a.1
+  old_is (Swapped q z o) p h a = a.1
+  old_is _ p h a = absurd a
+
+  -- Nodes that follow each other by their stages lead from one to the next.
+  follows_leads : (p : ℕ) (ns : List ℕ) → Follows stage p ns → Leads ns
+  follows_leads p [] f = tt
+  follows_leads p (n ∷ []) f = (old_is (stage n) p 0 f.0, tt)
+  follows_leads p (n ∷ m ∷ ms) f = (old_is (stage n) p (m + 1) f.0, follows_leads p (m ∷ ms) f.1)
+
+  -- Entries that agree with the stages are those of their numbers.
+  entries_are : (es : List Entry) → Agree stage es → map entry_at (map number_of es) ≡ es
+  entries_are [] a = refl
+  entries_are (e ∷ es) a = let r = entries_are es a.1 in λ i. record { number = e.number; stage = sym a.0 i } ∷ r i
+
+  -- The payloads by the stages of some nodes are those in their entries.
+  payloads_nodes : (ns : List ℕ) → map (λ n. payload_of (stage n)) ns ≡ map payload_in (map entry_at ns)
+  payloads_nodes [] = refl
+  payloads_nodes (n ∷ ns) = let r = payloads_nodes ns in λ i. payload_of (stage n) ∷ r i
+
+  -- Entries agree with the stages if these in another order do.
+  agree_permuted : (es fs : List Entry) → IsPermutation es fs → Agree stage fs → Agree stage es
+  agree_permuted es fs p a = let P : Entry → Type 0 = λ e. e.stage ≡ stage e.number in
+      recursion_from_All P es (All-permutation P fs es (IsPermutation-sym es fs p) (All-from_recursion P fs a))
+
+  -- Entries that agree do so at each pixel.
+  agree_at : (p : ℕ) (es : List Entry) → Agree stage es → Agree stage (at_pixel p es)
+  agree_at p es a = all_more _ (λ e h. h.0) (at_pixel p es) (all-filter _ (λ (e : Entry). eqb (stands p e.stage) 1) es a)
+
+-- 1 where a number has no node, and else 0
+abbrev over : ℕ → ℕ → ℕ
+over nodes n = cond (ltb n nodes) 0 1
+
+-- As many numbers of a range have no node as it goes beyond the nodes.
+range_over : (nodes a count : ℕ) → sum_by (over nodes) (range_with_len a count) + (a - nodes) ≡ a + count - nodes
+range_over nodes a zero = omega arith
+range_over nodes a (suc count) = let r = range_over nodes (a + 1) count in let s = sum_by-cons (over nodes) a (range_with_len (a + 1) count) in grind (arith, nat_tests)
+
+-- An entry is lost exactly where its number has no node.
+lost_one : (pixels nodes n : ℕ) (x : Stage) → InRange pixels nodes n x → cond (is_lost x) 1 0 ≡ over nodes n
+lost_one pixels nodes n Lost h = grind (arith, nat_tests)
+lost_one pixels nodes n Claimed h = grind (arith, nat_tests)
+lost_one pixels nodes n (Filled p y) h = let l = h.0 in grind (arith, nat_tests)
+lost_one pixels nodes n (Swapped p y o) h = let l = h.0 in grind (arith, nat_tests)
+lost_one pixels nodes n (Linked p y o) h = let l = h.0 in grind (arith, nat_tests)
+
+-- So as many entries are lost as there are numbers without a node.
+lost_all : (pixels nodes : ℕ) (es : List Entry) → AllInRange pixels nodes es → lost es ≡ sum_by (over nodes) (map number_of es)
+lost_all pixels nodes [] a = refl
+lost_all pixels nodes (e ∷ es) a = let r = lost_all pixels nodes es a.1 in let one = lost_one pixels nodes e.number e.stage a.0 in
+    omega (arith, count_by-cons (λ (f : Entry). is_lost f.stage) e es, sum_by-cons (over nodes) e.number (map number_of es))
+
+module _ (k : Size) (s : St) (r : Lawful k s) where
+  -- A number that precedes a head has a node,
+  pub node_in : (p n h : ℕ) → Precedes (r.stage n) p h → n < k.nodes
+  node_in p n h a = ⊎_elim (λ (g : n < k.nodes). g) (λ (g : k.nodes ≤ n). absurd (subst (λ y. Precedes y p h) (r.lost n g) a)) (cases_lt n k.nodes)
+
+  -- and was claimed.
+  pub claimed_in : (p n h : ℕ) → Precedes (r.stage n) p h → n < slice_index s.words 0
+  claimed_in p n h a = ⊎_elim (λ (g : n < slice_index s.words 0). g) (λ (g : slice_index s.words 0 ≤ n). absurd (subst (λ y. Precedes y p h) (r.fresh n g (node_in p n h a)) a)) (cases_lt n (slice_index s.words 0))
+
+  -- One that wasn't claimed stands nowhere.
+  pub idle : (p n : ℕ) → slice_index s.words 0 ≤ n → stands p (r.stage n) ≡ 0
+  idle p n l = ap (stands p) (unclaimed k s r n l) ∙ at_first (λ y. stands p y ≡ 0) refl refl k.nodes n
+
+  -- The numbers of a chain have nodes.
+  under_chain : (p : ℕ) (ns : List ℕ) → Follows r.stage p ns → Under k.nodes ns
+  under_chain p [] f = tt
+  under_chain p (n ∷ ns) f = (node_in p n (head_of ns) f.0, under_chain p ns f.1)
+
+  -- A number stands in a chain at most once,
+  pub once_in : (p n : ℕ) → p < k.pixels → times n (r.chain p) ≤ 1
+  once_in p n on = let a = r.exact p n on in let b = stands_le p (r.stage n) in omega arith
+
+  -- so that it is no longer than there are nodes.
+  pub short : (p : ℕ) → p < k.pixels → length (r.chain p) ≤ k.nodes
+  short p on = pigeons k.nodes (r.chain p) (under_chain p (r.chain p) (r.follows p on)) (λ n. once_in p n on)
+
+  -- The words of the payloads of a chain are its payloads.
+  carried : (p : ℕ) (ns : List ℕ) → Follows r.stage p ns → map (λ n. slice_index s.words (payload_word k.pixels n)) ns ≡ map (λ n. payload_of (r.stage n)) ns
+  carried p [] f = refl
+  carried p (n ∷ ns) f = let a = carries_after k.pixels (slice_index s.words (payload_word k.pixels n)) (r.stage n) p (head_of ns) f.0 (r.payload n) in let b = carried p ns f.1 in λ i. a i ∷ b i
 
 module _ (k : Size) (s : St) (r : Lawful k s) (id : ℕ) (v : View) (at : get_elem? s.views id ≡ some v) (whole : endowment v ≡ 2 ^ 60) where
   -- If all other views have no entries, a sum over the views is what f is of this one.
@@ -152,11 +231,21 @@ module _ (k : Size) (s : St) (r : Lawful k s) (id : ℕ) (v : View) (at : get_el
 
   -- So it has each number below the counter once,
   pub all_mine : (n : ℕ) → times n (numbers v) ≡ below n (slice_index s.words 0)
-  all_mine n = sym (empty (λ (u : View). times n (numbers u)) (λ u e. let t = times_le n u.entries in omega arith)) ∙ r.once n
+  all_mine n = sym (empty (λ (u : View). times n (numbers u)) (λ u e. ap (λ (es : List Entry). times n (map number_of es)) (nil_from_length u.entries e))) ∙ r.once n
+
+  -- those at a pixel that stand in its chain,
+  pub exact_mine : (p n : ℕ) → p < k.pixels → times n (r.chain p) ≡ times n (map number_of (at_pixel p v.entries))
+  exact_mine p n on = let t = times_at r.stage p n v.entries (r.agree id v at) in let a = all_mine n in let x = r.exact p n on in let b = stands_le p (r.stage n) in
+      ⊎_elim (λ (h : n < slice_index s.words 0). let y = below_yes n (slice_index s.words 0) h in grind (arith, nat_tests)) (λ (h : slice_index s.words 0 ≤ n). let z = idle k s r p n h in grind (arith, nat_tests)) (cases_lt n (slice_index s.words 0))
 
   -- and as many entries as the counter says.
   pub count_mine : length v.entries ≡ slice_index s.words 0
   count_mine = sym (empty (λ (u : View). length u.entries) (λ u e. e)) ∙ r.counted
+
+  -- As many of its entries are lost as they are more than the nodes.
+  pub lost_mine : AllInRange k.pixels k.nodes v.entries → lost v.entries ≡ length v.entries - k.nodes
+  lost_mine sound = let c : ℕ = slice_index s.words 0 in let same : IsPermutation (range_with_len 0 c) (numbers v) = same_times (range_with_len 0 c) (numbers v) (λ n. times_first n c ∙ sym (all_mine n)) in
+      let a = lost_all k.pixels k.nodes v.entries sound in let b = sum_by-IsPermutation (over k.nodes) (range_with_len 0 c) (numbers v) same in let o = range_over k.nodes 0 c in let n = count_mine in omega arith
 
   module _ (settled : loose v.entries ≡ 0) where
     -- No number is loose.
@@ -166,69 +255,31 @@ module _ (k : Size) (s : St) (r : Lawful k s) (id : ℕ) (v : View) (at : get_el
     -- The nodes that follow each other by their stages are threaded by their words.
     threads : (p : ℕ) (ns : List ℕ) (here : ℕ) → Follows r.stage p ns → here ≡ head_of ns → Threaded s.words k.pixels k.nodes here ns
     threads p [] here f e = e
-    threads p (n ∷ ns) here f e = let node : n < k.nodes = ⊎_elim (λ (h : n < k.nodes). h) (λ (h : k.nodes ≤ n). absurd (subst (λ y. Precedes y p (head_of ns)) (r.lost n h) f.0)) (cases_lt n k.nodes) in
-        let old : n < slice_index s.words 0 = ⊎_elim (λ (h : n < slice_index s.words 0). h) (λ (h : slice_index s.words 0 ≤ n). absurd (subst (λ y. Precedes y p (head_of ns)) (r.fresh n h node) f.0)) (cases_lt n (slice_index s.words 0)) in
-        (e, node, threads p ns (slice_index s.words (next_word k.pixels n)) f.1 (r.next n node ∙ next_after (r.stage n) p (head_of ns) f.0 (tight_at n old)))
+    threads p (n ∷ ns) here f e = let node = node_in k s r p n (head_of ns) f.0 in let tight = tight_at n (claimed_in k s r p n (head_of ns) f.0) in
+        (e, node, threads p ns (slice_index s.words (next_word k.pixels n)) f.1 (r.next n node ∙ next_after (r.stage n) p (head_of ns) f.0 tight))
 
     -- So is the chain of each pixel, from its head.
     pub threaded : (p : ℕ) → p < k.pixels → Threaded s.words k.pixels k.nodes (slice_index s.words (head_word p)) (r.chain p)
     threaded p on = threads p (r.chain p) (slice_index s.words (head_word p)) (r.follows p on) (r.head p on)
 
-    -- The words of their payloads are the payloads.
-    carried : (p : ℕ) (ns : List ℕ) → Follows r.stage p ns → map (λ n. slice_index s.words (payload_word k.pixels n)) ns ≡ map (λ n. payload_of (r.stage n)) ns
-    carried p [] f = refl
-    carried p (n ∷ ns) f = let a = carries_after k.pixels (slice_index s.words (payload_word k.pixels n)) (r.stage n) p (head_of ns) f.0 (r.payload n) in let b = carried p ns f.1 in λ i. a i ∷ b i
-
-    -- A pixel's chain has the nodes that stand there, each as often.
-    exact_nodes : (p : ℕ) → p < k.pixels → (n : ℕ) → times n (r.chain p) ≡ times n (nodes_at p v.entries)
-    exact_nodes p on n = r.exact p n on ∙ sym (times_nodes r.stage p n v.entries (r.agree id v at) ∙ ⊎_elim
-        (λ (h : n < slice_index s.words 0). let a = all_mine n in let b : below n (slice_index s.words 0) ≡ 1 = grind (arith, nat_tests) in let c = stands_le p (r.stage n) in let d : times n (numbers v) ≡ 1 = omega arith in
-        ap (λ (m : ℕ). cond (eqb (stands p (r.stage n)) 1) m 0) d ∙ one_or_none (stands p (r.stage n)) c)
-        (λ (h : slice_index s.words 0 ≤ n). let z : stands p (r.stage n) ≡ 0 = ⊎_elim (λ (g : n < k.nodes). ap (stands p) (r.fresh n h g)) (λ (g : k.nodes ≤ n). ap (stands p) (r.lost n g)) (cases_lt n k.nodes) in
-        ap (λ (m : ℕ). cond (eqb m 1) (times n (numbers v)) 0) z ∙ sym z) (cases_lt n (slice_index s.words 0)))
-      where
-        one_or_none : (m : ℕ) → m ≤ 1 → cond (eqb m 1) 1 0 ≡ m
-        one_or_none m l = grind (arith, nat_tests)
-
-    -- So it is a permutation of these,
-    pub chain_nodes : (p : ℕ) → p < k.pixels → IsPermutation (r.chain p) (nodes_at p v.entries)
-    chain_nodes p on = same_times (r.chain p) (nodes_at p v.entries) (exact_nodes p on)
-
-    -- and its payloads are one of the payloads that stand there.
-    pub chain_list : (p : ℕ) → p < k.pixels → IsPermutation (map (λ n. payload_of (r.stage n)) (r.chain p)) (standing_payloads p v.entries)
-    chain_list p on = subst (IsPermutation (map (λ n. payload_of (r.stage n)) (r.chain p))) (payloads_nodes r.stage p v.entries (r.agree id v at))
-        (IsPermutation-map (λ n. payload_of (r.stage n)) (r.chain p) (nodes_at p v.entries) (chain_nodes p on))
-
-    -- The nodes of a chain are below the counter.
-    unders : (p : ℕ) (ns : List ℕ) → Follows r.stage p ns → Under (slice_index s.words 0) ns
-    unders p [] f = tt
-    unders p (n ∷ ns) f = let node : n < k.nodes = ⊎_elim (λ (h : n < k.nodes). h) (λ (h : k.nodes ≤ n). absurd (subst (λ y. Precedes y p (head_of ns)) (r.lost n h) f.0)) (cases_lt n k.nodes) in
-        let old : n < slice_index s.words 0 = ⊎_elim (λ (h : n < slice_index s.words 0). h) (λ (h : slice_index s.words 0 ≤ n). absurd (subst (λ y. Precedes y p (head_of ns)) (r.fresh n h node) f.0)) (cases_lt n (slice_index s.words 0)) in (old, unders p ns f.1)
-
-    -- the nodes of a list were claimed
-    pub under_counter : (p : ℕ) → p < k.pixels → Under (slice_index s.words 0) (r.chain p)
-    under_counter p on = unders p (r.chain p) (r.follows p on)
-
-    -- A chain is no longer than there are nodes.
-    pub short_chain : (p : ℕ) → p < k.pixels → length (r.chain p) ≤ k.nodes
-    short_chain p on = pigeons k.nodes (r.chain p) (under_threaded s.words k.pixels k.nodes (r.chain p) (slice_index s.words (head_word p)) (threaded p on)) (λ n. let a = r.exact p n on in let b = stands_le p (r.stage n) in omega arith)
-
     -- The walk from a head gives the payloads of the chain.
     pub walk_chain : (p : ℕ) → p < k.pixels → payloads_from s.words k.pixels k.nodes (slice_index s.words (head_word p)) ≡ map (λ n. payload_of (r.stage n)) (r.chain p)
-    walk_chain p on = walk_is s.words k.pixels k.nodes (r.chain p) (slice_index s.words (head_word p)) k.nodes (threaded p on) (short_chain p on) ∙ carried p (r.chain p) (r.follows p on)
+    walk_chain p on = walk_is s.words k.pixels k.nodes (r.chain p) (slice_index s.words (head_word p)) k.nodes (threaded p on) (short k s r p on) ∙ carried k s r p (r.chain p) (r.follows p on)
 
-    -- So it is a permutation of the payloads that stand there.
-    pub closed_list : (p : ℕ) → p < k.pixels → IsPermutation (payloads_from s.words k.pixels k.nodes (slice_index s.words (head_word p))) (standing_payloads p v.entries)
-    closed_list p on = subst (λ (l : List ℕ). IsPermutation l (standing_payloads p v.entries)) (sym (walk_chain p on)) (chain_list p on)
+    -- The payloads of a pixel's chain are its list.
+    pub list_is : (p : ℕ) → p < k.pixels → IsListAt p v.entries (map (λ n. payload_of (r.stage n)) (r.chain p))
+    list_is p on = record {
+      chain = map (entry_at r.stage) (r.chain p);
+      all = subst (IsPermutation (map (entry_at r.stage) (r.chain p))) (entries_are r.stage (at_pixel p v.entries) (agree_at r.stage p v.entries (r.agree id v at)))
+          (IsPermutation-map (entry_at r.stage) (r.chain p) (map number_of (at_pixel p v.entries)) (same_times (r.chain p) (map number_of (at_pixel p v.entries)) (λ n. exact_mine p n on)));
+      chained = follows_leads r.stage p (r.chain p) (r.follows p on);
+      payloads_are = payloads_nodes r.stage (r.chain p);
+    }
 
--- Where the counter is at most the nodes, no entry is lost.
-pub none_lost : (pixels nodes c : ℕ) (es : List Entry) → AllInRange pixels nodes es → Below c es → c ≤ nodes → lost es ≡ 0
-none_lost pixels nodes c [] a b l = refl
-none_lost pixels nodes c (e ∷ es) a b l = let r = none_lost pixels nodes c es a.1 b.1 l in let z = ap (λ (t : Bool). cond {A = ℕ} t 1 0) (kept e.stage a.0) in omega (arith, count_by-cons (λ (f : Entry). is_lost f.stage) e es)
-  where
-    kept : (y : Stage) → InRange pixels nodes e.number y → is_lost y ≡ false
-    kept Claimed h = refl
-    kept (Filled q z) h = refl
-    kept (Swapped q z o) h = refl
-    kept (Linked q z o) h = refl
-    kept Lost h = let below = b.0 in absurd (omega arith)
+    -- It has no other.
+    pub only_list : (p : ℕ) → p < k.pixels → (l : List ℕ) → IsListAt p v.entries l → l ≡ map (λ n. payload_of (r.stage n)) (r.chain p)
+    only_list p on l is = let at_p : List Entry = at_pixel p v.entries in let ns : List ℕ = map number_of is.chain in
+        let agree : Agree r.stage is.chain = agree_permuted r.stage is.chain at_p is.all (agree_at r.stage p v.entries (r.agree id v at)) in let same_chain = entries_are r.stage is.chain agree in
+        let same : r.chain p ≡ ns = one_chain r.stage (r.chain p) ns (follows_leads r.stage p (r.chain p) (r.follows p on)) (subst AreChained (sym same_chain) is.chained)
+        (λ n. exact_mine p n on ∙ sym (times_permuted n ns (map number_of at_p) (IsPermutation-map number_of is.chain at_p is.all))) (λ n. once_in k s r p n on) in
+        is.payloads_are ∙ (ap (map payload_in) (sym same_chain) ∙ (sym (payloads_nodes r.stage ns) ∙ ap (map (λ n. payload_of (r.stage n))) (sym same)))

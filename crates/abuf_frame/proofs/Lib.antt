@@ -3,9 +3,7 @@ pub mod Moves
 pub mod Tied
 pub mod Inserts
 pub mod Ends
-pub mod Chains
 pub mod Closes
-pub mod Overflow
 pub mod Shares
 pub mod Runs
 pub mod Looks
@@ -15,3 +13,4 @@ pub mod Eight
 pub mod Crosses
 pub mod Wrapping
 pub mod Blanks
+pub mod Losing

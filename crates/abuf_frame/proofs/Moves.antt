@@ -1,10 +1,11 @@
 -- An entry goes one stage on.
-use Rattle.std.proofs.Common.{◌≡◌, ◌≢◌, ℕ, suc, ◌+◌, ◌<◌, ◌≤◌, Bool, cond, eqb, false, true≢false, List, [], ◌∷◌, ◌++◌, map, length, set, get_or, sym, refl, ap, ◌∙◌, subst, arith, ⊎_elim, length-set, get_or-set_same, get_or-set_other, slice_index, Option, Some, None, eq-eqb, ne_eqb, append_assoc}
+use Rattle.std.proofs.Common.{◌≡◌, ◌≢◌, ℕ, ◌+◌, ◌<◌, ◌≤◌, Bool, cond, eqb, false, true≢false, List, [], ◌∷◌, ◌++◌, map, length, set, get_or, sym, refl, ap, ◌∙◌, subst, arith, ⊎_elim, length-set, get_or-set_same, get_or-set_other, slice_index, Option, Some, None, eq-eqb, ne_eqb, append_assoc}
 use mathlib.Core.Option.{some}
 use lib.ListN.{get_elem?}
+use Rattle.std.specs.List.{AllByRecursion}
 use Rattle.std.proofs.lemmas.Bool.{cases_lt, cases_eq}
-use Rattle.atomic_table.specs.Table.{State, Me, keeps, Allows}
-use Rattle.atomic_table.proofs.Lists.{at_set}
+use Rattle.std.proofs.lemmas.List.{length-map}
+use Rattle.atomic_table.specs.Table.{Me, keeps, Allows}
 use Rattle.abuf_frame.specs.declared.view.Stage.{Stage}
 use Rattle.abuf_frame.specs.declared.view.Stage.TheVariants.{Claimed, Filled, Swapped, Linked, Lost}
 use Rattle.abuf_frame.specs.declared.view.Entry.{Entry}
@@ -20,10 +21,7 @@ use Rattle.abuf_frame.specs.Stages.{Precedes, Stores, filled, is_linked, is_lost
 use Rattle.abuf_frame.specs.Words.{head_word, next_word, payload_word}
 use Rattle.abuf_frame.specs.Steps.{moved, restage}
 use Rattle.abuf_num.proofs.Counting.{times-append, sum_set, sum_two, sum_le, below_le, below_from}
-
--- The states of a frame's table.
-abbrev St : Type 0
-St = State (Unit {0}) View
+use Rattle.abuf_frame.proofs.Claims.{St, all_standing, views_set}
 
 -- The stages with that of one number replaced.
 abbrev pub put : (ℕ → Stage) → ℕ → Stage → ℕ → Stage
@@ -57,8 +55,7 @@ numbers_restage n f (e ∷ es) = ap (λ (l : List ℕ). e.number ∷ l) (numbers
 
 -- It keeps how many there are.
 pub length_restage : (n : ℕ) (f : Stage → Stage) (es : List Entry) → length (restage n f es) ≡ length es
-length_restage n f [] = refl
-length_restage n f (e ∷ es) = ap suc (length_restage n f es)
+length_restage n f es = let a = length-map (restage n f es) number_of in let b = length-map es number_of in let c = ap (λ (l : List ℕ). length l) (numbers_restage n f es) in omega arith
 
 -- Entries agree with the stages after one went on in both.
 agree_restage : (stage : ℕ → Stage) (n : ℕ) (f : Stage → Stage) (es : List Entry) → Agree stage es → Agree (put stage n (f (stage n))) (restage n f es)
@@ -69,17 +66,15 @@ agree_restage stage n f (e ∷ es) a = (
   agree_restage stage n f es a.1,
 )
 
+-- What holds of each entry holds of one that is found.
+pub found : (P : ℕ → Stage → Type 0) (n : ℕ) (es : List Entry) (y : Stage) → AllByRecursion (λ e. P e.number e.stage) es → stage_of n es ≡ Some y → P n y
+found P n [] y a f = absurd (cc)
+found P n (e ∷ es) y a f = ⊎_elim (λ (h : e.number ≡ n). let t = eq-eqb e.number n h in let g : Some e.stage ≡ Some y = subst (λ (b : Bool). cond b (Some e.stage) (stage_of n es) ≡ Some y) t f in let same : e.stage ≡ y = cc in subst (P n) same (subst (λ (m : ℕ). P m e.stage) h a.0))
+    (λ (h : e.number ≢ n). let t = ne_eqb e.number n h in found P n es y a.1 (subst (λ (b : Bool). cond b (Some e.stage) (stage_of n es) ≡ Some y) t f)) (cases_eq e.number n)
+
 -- A number whose entry is found stands among the entries.
 one_at_least : (n : ℕ) (es : List Entry) (y : Stage) → stage_of n es ≡ Some y → 0 < times n (map number_of es)
-one_at_least n [] y f = absurd (cc)
-one_at_least n (e ∷ es) y f = ⊎_elim (λ (h : e.number ≡ n). let t = eq-eqb e.number n h in let z = ap (λ (b : Bool). cond {A = ℕ} b 1 0) t in omega arith)
-    (λ (h : e.number ≢ n). let t = ne_eqb e.number n h in let r = one_at_least n es y (subst (λ (b : Bool). cond b (Some e.stage) (stage_of n es) ≡ Some y) t f) in omega arith) (cases_eq e.number n)
-
--- The stage that is found is that of the number.
-agree_find : (stage : ℕ → Stage) (n : ℕ) (es : List Entry) (y : Stage) → Agree stage es → stage_of n es ≡ Some y → stage n ≡ y
-agree_find stage n [] y a f = absurd (cc)
-agree_find stage n (e ∷ es) y a f = ⊎_elim (λ (h : e.number ≡ n). let t = eq-eqb e.number n h in let g : Some e.stage ≡ Some y = subst (λ (b : Bool). cond b (Some e.stage) (stage_of n es) ≡ Some y) t f in let same : e.stage ≡ y = cc in ap stage (sym h) ∙ (sym a.0 ∙ same))
-    (λ (h : e.number ≢ n). let t = ne_eqb e.number n h in agree_find stage n es y a.1 (subst (λ (b : Bool). cond b (Some e.stage) (stage_of n es) ≡ Some y) t f)) (cases_eq e.number n)
+one_at_least n es y f = found (λ m _. 0 < times m (map number_of es)) n es y (all_standing (λ m. 0 < times m (map number_of es)) es (λ m l. l)) f
 
 -- Entries without the number agree whatever its stage is.
 agree_other : (stage : ℕ → Stage) (n : ℕ) (x : Stage) (es : List Entry) → times n (map number_of es) ≡ 0 → Agree stage es → Agree (put stage n x) es
@@ -91,10 +86,6 @@ agree_other stage n x (e ∷ es) t a = ⊎_elim (λ (h : e.number ≡ n). let z 
 told_put : (stage : ℕ → Stage) (n : ℕ) (x : Stage) (es : List Entry) → is_linked (stage n) ≡ false → Told stage es → Told (put stage n x) es
 told_put stage n x [] f t = tt
 told_put stage n x (e ∷ es) f t = let other : e.number ≢ n = λ h. true≢false (sym t.0.1 ∙ (ap is_linked (t.0.0 ∙ ap stage h) ∙ f)) in ((t.0.0 ∙ sym (put_else stage n e.number x other), t.0.1), told_put stage n x es f t.1)
-
--- What holds of a new view and of all others holds after one was replaced.
-pub views_set : (P : ℕ → View → Type 0) (vs : List View) (id : ℕ) (w : View) → P id w → ((j : ℕ) (u : View) → j ≢ id → get_elem? vs j ≡ some u → P j u) → (j : ℕ) (u : View) → get_elem? (set vs id w) j ≡ some u → P j u
-views_set P vs id w mine others j u e = ⊎_elim (λ (t : (j ≡ id) × (w ≡ u)). subst (λ (z : ℕ × View). P z.0 z.1) (λ i. (sym t.0 i, t.1 i)) mine) (λ (t : (j ≢ id) × (get_elem? vs j ≡ some u)). others j u t.0 t.1) (at_set vs id j w u e)
 
 -- Payloads that were passed stay right where no stage changes its payload.
 paid_put : (stage stage' : ℕ → Stage) (xs : List Passed) → ((m : ℕ) → 0 < times m (map node_of xs) → payload_of (stage' m) ≡ payload_of (stage m)) → AllPaid stage xs → AllPaid stage' xs
@@ -129,7 +120,7 @@ walks_put stage stage' chain chain' pixels grow keep (w ∷ ws) a = let o = a.0 
 module _ (k : Size) (s : St) (r : Lawful k s) (id n : ℕ) (v : View) (at : get_elem? s.views id ≡ some v) (y : Stage) (has : stage_of n v.entries ≡ Some y) (there : is_lost y ≡ false) (under_way : is_linked y ≡ false) where
   -- The number has the stage that was found.
   is_here : r.stage n ≡ y
-  is_here = agree_find r.stage n v.entries y (r.agree id v at) has
+  is_here = sym (found (λ m x. x ≡ r.stage m) n v.entries y (r.agree id v at) has)
 
   -- It was claimed.
   inside : n < slice_index s.words 0
@@ -163,10 +154,10 @@ module _ (k : Size) (s : St) (r : Lawful k s) (id n : ℕ) (v : View) (at : get_
     once = λ m. let t = sum_set (λ (u : View). times m (numbers u)) s.views id v w at in let e = ap (times m) (numbers_restage n f v.entries) in let o = r.once m in let z = ap (below m) zero_is in omega arith;
     counted = let t = sum_set (λ (u : View). length u.entries) s.views id v w at in let e = length_restage n f v.entries in let o = r.counted in omega arith;
     endowed = let t = sum_set endowment s.views id v w at in let e = length_restage n f v.entries in let o = r.endowed in omega arith;
-    agree = views_set (λ j u. Agree (put r.stage n x) u.entries) s.views id w (subst (λ (z : Stage). Agree (put r.stage n z) (restage n f v.entries)) (ap f is_here ∙ to) (agree_restage r.stage n f v.entries (r.agree id v at))) (λ j u other e. agree_other r.stage n x u.entries (elsewhere j u other e) (r.agree j u e));
-    told = let open_now = ap is_linked is_here ∙ under_way in views_set (λ j u. Told (put r.stage n x) u.told) s.views id w (told_put r.stage n x v.told open_now (r.told id v at)) (λ j u other e. told_put r.stage n x u.told open_now (r.told j u e));
-    seen = views_set (λ j u. u.seen ≤ slice_index words' 0) s.views id w (let l = r.seen id v at in omega arith) (λ j u other e. let l = r.seen j u e in omega arith);
-    walked = let kept_walks = walks_put r.stage (put r.stage n x) r.chain chain' k.pixels grow keep in views_set (λ j u. AreWalks (put r.stage n x) chain' k.pixels u.walks) s.views id w (kept_walks v.walks (r.walked id v at)) (λ j u other e. kept_walks u.walks (r.walked j u e));
+    agree = views_set (λ u. Agree (put r.stage n x) u.entries) s.views id w (subst (λ (z : Stage). Agree (put r.stage n z) (restage n f v.entries)) (ap f is_here ∙ to) (agree_restage r.stage n f v.entries (r.agree id v at))) (λ j u other e. agree_other r.stage n x u.entries (elsewhere j u other e) (r.agree j u e));
+    told = let open_now = ap is_linked is_here ∙ under_way in views_set (λ u. Told (put r.stage n x) u.told) s.views id w (told_put r.stage n x v.told open_now (r.told id v at)) (λ j u other e. told_put r.stage n x u.told open_now (r.told j u e));
+    seen = views_set (λ u. u.seen ≤ slice_index words' 0) s.views id w (let l = r.seen id v at in omega arith) (λ j u other e. let l = r.seen j u e in omega arith);
+    walked = let kept_walks = walks_put r.stage (put r.stage n x) r.chain chain' k.pixels grow keep in views_set (λ u. AreWalks (put r.stage n x) chain' k.pixels u.walks) s.views id w (kept_walks v.walks (r.walked id v at)) (λ j u other e. kept_walks u.walks (r.walked j u e));
     fresh = put_all (λ m y. slice_index words' 0 ≤ m → m < k.nodes → y ≡ Claimed) r.stage n x (λ a. let i = inside in absurd (omega arith)) (λ m other a. r.fresh m (omega arith));
     lost = put_all (λ m y. k.nodes ≤ m → y ≡ Lost) r.stage n x (λ a. let i = a_node in absurd (omega arith)) (λ m other. r.lost m);
     kept = put_all (λ m y. m < k.nodes → is_lost y ≡ false) r.stage n x (λ _. lives) (λ m other. r.kept m);

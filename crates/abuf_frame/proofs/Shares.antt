@@ -1,12 +1,12 @@
 -- A pass is cut in two, two are joined, and the counter is read.
-use Rattle.std.proofs.Common.{◌≡◌, ◌≢◌, ℕ, ◌+◌, ◌^◌, ◌<◌, ◌≤◌, Bool, cond, true, false, true≢false, List, [], ◌∷◌, ◌++◌, map, length, set, sym, refl, ap, ◌∙◌, subst, arith, ⊎_elim, length-append, slice_index, sum_by}
+use Rattle.std.proofs.Common.{◌≡◌, ◌≢◌, ℕ, ◌+◌, ◌^◌, ◌<◌, ◌≤◌, cond, false, true≢false, List, [], ◌∷◌, ◌++◌, map, length, set, sym, refl, ap, ◌∙◌, subst, arith, ⊎_elim, length-append, slice_index, sum_by}
 use mathlib.Core.Option.{some}
 use mathlib.Core.List.{map-append}
 use lib.ListN.{get_elem?}
 use lib.Seq.{set-get_or}
 use Rattle.std.proofs.lemmas.List.Sums.{sum_by-append}
 use Rattle.std.proofs.lemmas.Bool.{cases_lt}
-use Rattle.atomic_table.specs.Table.{State, Me, keeps, stepped, Allows, Splits, Joins}
+use Rattle.atomic_table.specs.Table.{Me, keeps, stepped, Allows, Splits, Joins}
 use Rattle.atomic_table.proofs.Lists.{at_set, at_snoc}
 use Rattle.abuf_frame.specs.declared.view.Stage.{Stage}
 use Rattle.abuf_frame.specs.declared.view.Entry.{Entry}
@@ -21,21 +21,12 @@ use Rattle.abuf_frame.specs.Steps.{split_left, split_right, having_seen, united}
 use Rattle.abuf_frame.specs.Walks.{with_walk}
 use Rattle.abuf_frame.specs.Pass.{Ties}
 use Rattle.abuf_num.proofs.Counting.{sum_set, sum_le, times-append}
-use Rattle.abuf_frame.proofs.Claims.{all-append, all_below, all_views}
+use Rattle.abuf_frame.proofs.Claims.{St, all-append, all-filter, all_below, all_more, at_first, unclaimed, views_set}
 use Rattle.abuf_frame.proofs.Ends.{count_mine}
-
--- The states of a frame's table.
-abbrev St : Type 0
-St = State (Unit {0}) View
 
 -- Linked entries may be told of.
 pub told_linked : (stage : ℕ → Stage) (es : List Entry) → Agree stage es → Told stage (linked_of es)
-told_linked stage [] a = tt
-told_linked stage (e ∷ es) a = pick (is_linked e.stage) refl (told_linked stage es a.1)
-  where
-    pick : (b : Bool) → is_linked e.stage ≡ b → Told stage (linked_of es) → Told stage (cond b (e ∷ linked_of es) (linked_of es))
-    pick true is t = ((a.0, is), t)
-    pick false is t = t
+told_linked stage es a = all-filter _ (λ (e : Entry). is_linked e.stage) es a
 
 -- the same words, and other views
 module _ (k : Size) (s : St) (r : Lawful k s) where
@@ -79,7 +70,7 @@ splits k id credit v enough s r at = let l : View = split_left credit v in let w
     (λ n. let a = sum_by-append (λ (u : View). times n (numbers u)) vs (w ∷ []) in let b = sum_set (λ (u : View). times n (numbers u)) s.views id v l at in omega arith)
     (let a = sum_by-append (λ (u : View). length u.entries) vs (w ∷ []) in let b = sum_set (λ (u : View). length u.entries) s.views id v l at in omega arith)
     (let a = sum_by-append endowment vs (w ∷ []) in let b = sum_set endowment s.views id v l at in omega arith)
-    (λ j u e. ⊎_elim (λ (h : get_elem? vs j ≡ some u). all_views (Fits k s r) s.views id l mine (fits k s r) j u h)
+    (λ j u e. ⊎_elim (λ (h : get_elem? vs j ≡ some u). views_set (Fits k s r) s.views id l mine (λ i x _. fits k s r i x) j u h)
     (λ (h : w ≡ u). subst (Fits k s r) h (tt, all-append _ (linked_of v.entries) v.told (told_linked r.stage v.entries mine.0) mine.1, mine.2, tt)) (at_snoc vs w u j e))
 
 -- Two views may be joined.
@@ -92,18 +83,13 @@ joins k id other v w s r at apart at' = let b : View = united v w in let vs : Li
     let m = ap (times n) (map-append number_of v.entries w.entries) in let t = times-append n (numbers v) (numbers w) in omega arith)
     (let p = sum_set (λ (u : View). length u.entries) s.views id v b at in let q = sum_set (λ (u : View). length u.entries) vs other w spent_view at' in omega arith)
     (let p = sum_set endowment s.views id v b at in let q = sum_set endowment vs other w spent_view at' in omega arith)
-    (all_views (Fits k s r) vs other spent_view (tt, tt, omega arith, tt)
-    (all_views (Fits k s r) s.views id b (all-append _ v.entries w.entries mine.0 theirs.0, all-append _ v.told w.told mine.1 theirs.1, (let x = mine.2 in let y = theirs.2 in omega arith), all-append _ v.walks w.walks mine.3 theirs.3) (fits k s r)))
+    (views_set (Fits k s r) vs other spent_view (tt, tt, omega arith, tt)
+    (λ j u _. views_set (Fits k s r) s.views id b (all-append _ v.entries w.entries mine.0 theirs.0, all-append _ v.told w.told mine.1 theirs.1, (let x = mine.2 in let y = theirs.2 in omega arith), all-append _ v.walks w.walks mine.3 theirs.3) (λ i x _. fits k s r i x) j u))
 
 -- What was told of is below the counter.
 told_below : (k : Size) (s : St) (r : Lawful k s) (es : List Entry) → Told r.stage es → Below (slice_index s.words 0) es
-told_below k s r [] t = tt
-told_below k s r (e ∷ es) t = (
-  ⊎_elim (λ (h : e.number < slice_index s.words 0). h)
-      (λ (h : slice_index s.words 0 ≤ e.number). absurd (⊎_elim (λ (g : e.number < k.nodes). true≢false (sym t.0.1 ∙ ap is_linked (t.0.0 ∙ r.fresh e.number h g))) (λ (g : k.nodes ≤ e.number). true≢false (sym t.0.1 ∙ ap is_linked (t.0.0 ∙ r.lost e.number g))) (cases_lt e.number k.nodes)))
-      (cases_lt e.number (slice_index s.words 0)),
-  told_below k s r es t.1,
-)
+told_below k s r es t = all_more _ (λ e h. ⊎_elim (λ (g : e.number < slice_index s.words 0). g)
+    (λ (g : slice_index s.words 0 ≤ e.number). absurd (true≢false (sym h.1 ∙ (ap is_linked (h.0 ∙ unclaimed k s r e.number g) ∙ at_first (λ y. is_linked y ≡ false) refl refl k.nodes e.number)))) (cases_lt e.number (slice_index s.words 0))) es t
 
 -- a load of the word i, after which the view is w, which has the same entries, told entries and credit
 pub looks : (k : Size) (s : St) (r : Lawful k s) (id i : ℕ) (me : Me (Unit {0}) View) (w : View) → get_elem? s.views id ≡ some me.0 → w.credit ≡ me.0.credit → w.entries ≡ me.0.entries → w.told ≡ me.0.told → w.seen ≤ slice_index s.words 0 → AreWalks r.stage r.chain k.pixels w.walks
@@ -114,7 +100,7 @@ looks k s r id i me w at credit entries told seen walked = let v = me.0 in let m
     (λ n. let p = sum_set (λ (u : View). times n (numbers u)) s.views id v w at in let e = ap (λ (es : List Entry). times n (map number_of es)) entries in omega arith)
     (let p = sum_set (λ (u : View). length u.entries) s.views id v w at in omega arith)
     (let p = sum_set endowment s.views id v w at in omega arith)
-    (all_views (Fits k s r) s.views id w (subst (Agree r.stage) (sym entries) mine.0, subst (Told r.stage) (sym told) mine.1, seen, walked) (fits k s r)))
+    (views_set (Fits k s r) s.views id w (subst (Agree r.stage) (sym entries) mine.0, subst (Told r.stage) (sym told) mine.1, seen, walked) (λ j u _. fits k s r j u)))
 
 -- A load of the counter is allowed, and shows what is below it.
 pub counts : (k : Size) (slots id : ℕ) (me : Me (Unit {0}) View) → me.1 ≡ []

@@ -1,9 +1,9 @@
 -- What ties the fields of a pass to its view, after a step.
-use Rattle.std.proofs.Common.{◌≡◌, ◌≢◌, ℕ, ◌+◌, ◌-◌, ◌<◌, ◌≤◌, Bool, cond, eqb, true, false, List, [], ◌∷◌, map, sym, refl, ap, ◌∙◌, subst, arith, ⊎_elim, Option, Some, None, eq-eqb, ne_eqb}
+use Rattle.std.proofs.Common.{◌≡◌, ◌≢◌, ℕ, ◌+◌, ◌-◌, ◌<◌, ◌≤◌, Bool, cond, eqb, true, false, List, [], ◌∷◌, map, sym, refl, ap, ◌∙◌, subst, arith, ⊎_elim, Option, Some, eq-eqb, ne_eqb}
 use Rattle.std.proofs.lemmas.Bool.{cases_eq}
 use Rattle.atomic_table.specs.Table.{Me}
 use Rattle.abuf_frame.specs.declared.view.Stage.{Stage}
-use Rattle.abuf_frame.specs.declared.view.Stage.TheVariants.{Claimed, Filled, Swapped, Linked, Lost}
+use Rattle.abuf_frame.specs.declared.view.Stage.TheVariants.{Claimed, Filled, Swapped}
 use Rattle.abuf_frame.specs.declared.view.Entry.{Entry}
 use Rattle.abuf_frame.specs.declared.view.View.{View}
 use Rattle.abuf_num.specs.Counting.{times}
@@ -12,13 +12,11 @@ use Rattle.abuf_frame.specs.Stages.{IsFilled, IsSwapped, filled, is_loose, linke
 use Rattle.abuf_frame.specs.Steps.{moved, restage}
 use Rattle.abuf_frame.specs.Pass.{AllInRange, InRange, Ties}
 use Rattle.abuf_num.proofs.Counting.{count_by-cons}
-use Rattle.abuf_frame.proofs.Moves.{length_restage}
+use Rattle.abuf_frame.proofs.Moves.{found, length_restage}
 
 -- A stage that is found is in range.
 pub sound_find : (pixels nodes n : ℕ) (es : List Entry) (y : Stage) → AllInRange pixels nodes es → stage_of n es ≡ Some y → InRange pixels nodes n y
-sound_find pixels nodes n [] y a f = absurd (cc)
-sound_find pixels nodes n (e ∷ es) y a f = ⊎_elim (λ (h : e.number ≡ n). let t = eq-eqb e.number n h in let g : Some e.stage ≡ Some y = subst (λ (b : Bool). cond b (Some e.stage) (stage_of n es) ≡ Some y) t f in let same : e.stage ≡ y = cc in subst (λ (z : ℕ × Stage). InRange pixels nodes z.0 z.1) (λ i. (h i, same i)) a.0)
-    (λ (h : e.number ≢ n). let t = ne_eqb e.number n h in sound_find pixels nodes n es y a.1 (subst (λ (b : Bool). cond b (Some e.stage) (stage_of n es) ≡ Some y) t f)) (cases_eq e.number n)
+sound_find pixels nodes n es y a f = found (InRange pixels nodes) n es y a f
 
 -- Entries stay in range after one went on in range.
 sound_restage : (pixels nodes n : ℕ) (f : Stage → Stage) → ((y : Stage) → InRange pixels nodes n y → InRange pixels nodes n (f y)) → (es : List Entry) → AllInRange pixels nodes es → AllInRange pixels nodes (restage n f es)
@@ -63,43 +61,28 @@ loose_linked n p y o (e ∷ es) f t = ⊎_elim (λ (h : e.number ≡ n). let b =
 -- A fill leaves it loose,
 loose_filled : (p z : ℕ) (y : Stage) → is_loose (filled p z y) ≡ is_loose y
 loose_filled p z Claimed = refl
-loose_filled p z (Filled q x) = refl
-loose_filled p z (Swapped q x o) = refl
-loose_filled p z (Linked q x o) = refl
-loose_filled p z Lost = refl
+loose_filled p z _ = refl
 
 -- and so does a swap.
 loose_swapped : (old : ℕ) (y : Stage) → is_loose (swapped old y) ≡ is_loose y
-loose_swapped old Claimed = refl
 loose_swapped old (Filled q x) = refl
-loose_swapped old (Swapped q x o) = refl
-loose_swapped old (Linked q x o) = refl
-loose_swapped old Lost = refl
+loose_swapped old _ = refl
 
 module _ (pixels nodes n : ℕ) where
   -- A fill keeps a stage in range.
   right_filled : (p z : ℕ) → p < pixels → (y : Stage) → InRange pixels nodes n y → InRange pixels nodes n (filled p z y)
   right_filled p z on Claimed a = (a, on)
-  right_filled p z on (Filled q x) a = a
-  right_filled p z on (Swapped q x o) a = a
-  right_filled p z on (Linked q x o) a = a
-  right_filled p z on Lost a = a
+  right_filled p z on _ a = a
 
   -- So does a swap.
   right_swapped : (old : ℕ) (y : Stage) → InRange pixels nodes n y → InRange pixels nodes n (swapped old y)
-  right_swapped old Claimed a = a
   right_swapped old (Filled q x) a = a
-  right_swapped old (Swapped q x o) a = a
-  right_swapped old (Linked q x o) a = a
-  right_swapped old Lost a = a
+  right_swapped old _ a = a
 
   -- So does a link.
   right_linked : (y : Stage) → InRange pixels nodes n y → InRange pixels nodes n (linked y)
-  right_linked Claimed a = a
-  right_linked (Filled q x) a = a
   right_linked (Swapped q x o) a = a
-  right_linked (Linked q x o) a = a
-  right_linked Lost a = a
+  right_linked _ a = a
 
   -- What ties a pass to its view holds after an entry went on.
   ties_moved : (f : Stage → Stage) (me now : Me (Unit {0}) View) (credit own ones ones' : ℕ) → Ties pixels nodes me credit own ones → now ≡ (moved n f me.0, [])
@@ -133,18 +116,10 @@ module _ (pixels nodes n : ℕ) where
 
 -- What is filled has a payload.
 pub filled_is : (p : ℕ) (o : Option Stage) → IsFilled p o → (y : ℕ) × (o ≡ Some (Filled p y))
-filled_is p None h = absurd h
 filled_is p (Some (Filled q y)) h = (y, ap (λ (i : ℕ). Some (Filled i y)) h)
-filled_is p (Some Claimed) h = absurd h
-filled_is p (Some (Swapped q y o)) h = absurd h
-filled_is p (Some (Linked q y o)) h = absurd h
-filled_is p (Some Lost) h = absurd h
+filled_is p _ h = absurd h
 
 -- What is swapped has a pixel, a payload and the old head.
 pub swapped_is : (old : ℕ) (o : Option Stage) → IsSwapped old o → (q : ℕ) × (y : ℕ) × (o ≡ Some (Swapped q y old))
-swapped_is old None h = absurd h
 swapped_is old (Some (Swapped q y o)) h = (q, y, ap (λ (i : ℕ). Some (Swapped q y i)) h)
-swapped_is old (Some Claimed) h = absurd h
-swapped_is old (Some (Filled q y)) h = absurd h
-swapped_is old (Some (Linked q y o)) h = absurd h
-swapped_is old (Some Lost) h = absurd h
+swapped_is old _ h = absurd h

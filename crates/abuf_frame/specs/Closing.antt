@@ -1,6 +1,6 @@
 -- What contracts see of a closed frame.
 use Rattle.std.specs.Prelude.{◌≡◌, ℕ, zero, suc, ◌+◌, ◌-◌, ◌*◌, ◌<◌, if◌then◌else◌, ◌==◌, List, [], ◌∷◌, ◌++◌, length, map, slice_index, slice_index_or}
-use Rattle.std.specs.List.{AllByRecursion}
+use Rattle.std.specs.List.{AllByRecursion, range_with_len}
 use Rattle.abuf_frame.specs.declared.view.Walk.{Walk}
 use Rattle.abuf_frame.specs.Words.{Sized, head_word, payload_word, next_word}
 use Rattle.abuf_frame.specs.Walks.{payload_at}
@@ -24,8 +24,7 @@ payloads_from words pixels (suc most) at = if at == 0 then []
 
 -- the lists of so many pixels from p on, each the walk from its head
 abbrev pub lists_from : List ℕ → ℕ → ℕ → ℕ → ℕ → List (List ℕ)
-lists_from words pixels nodes p zero = []
-lists_from words pixels nodes p (suc count) = payloads_from words pixels nodes (slice_index words (head_word p)) ∷ lists_from words pixels nodes (p + 1) count
+lists_from words pixels nodes p count = map (λ q. payloads_from words pixels nodes (slice_index words (head_word q))) (range_with_len p count)
 
 abbrev pub IsSuffix : List ℕ → List ℕ → Type 0
 IsSuffix xs ys = (front : List ℕ) × (ys ≡ front ++ xs)

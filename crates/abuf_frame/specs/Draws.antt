@@ -47,6 +47,5 @@ CarriesItem p y _ = ⊥
 -- the entries have the numbers from `first` on, and each carries the item at its place
 abbrev pub CarryInOrder : ℕ → List (ℕ × ℕ) → List Entry → Type 0
 CarryInOrder first [] [] = Unit {0}
-CarryInOrder first [] (e ∷ es) = ⊥
-CarryInOrder first (x ∷ xs) [] = ⊥
 CarryInOrder first (x ∷ xs) (e ∷ es) = (e.number ≡ first) × CarriesItem x.0 x.1 e.stage × CarryInOrder (first + 1) xs es
+CarryInOrder first _ _ = ⊥

@@ -1,7 +1,7 @@
 -- How far an entry has come. A claimed number is an entry of the pass that claimed it. Where it has a node it goes through
 -- four stages, each by one step: Claimed, Filled with its payload, Swapped into the head of its pixel's list, and Linked to
 -- the node that was the head before. Where it has none it is Lost.
-use Rattle.std.specs.Prelude.{◌≡◌, ℕ, ◌<◌, if◌then◌else◌, ◌==◌, Bool, true, false, Option, Some, None}
+use Rattle.std.specs.Prelude.{◌≡◌, ℕ, ◌<◌, if◌then◌else◌, ◌==◌, Bool, true, false, Option, Some}
 use Rattle.abuf_frame.specs.declared.view.Stage.{Stage}
 use Rattle.abuf_frame.specs.declared.view.Stage.TheVariants.{Claimed, Filled, Swapped, Linked, Lost}
 use Rattle.abuf_frame.specs.Words.{mark}
@@ -76,19 +76,11 @@ next_of (Linked pixel payload old) = old
 next_of _ = mark
 
 -- there is an entry, and it is Filled with this pixel
-abbrev pub FilledAt : ℕ → Stage → Type 0
-FilledAt p (Filled pixel payload) = pixel ≡ p
-FilledAt p _ = ⊥
-
 abbrev pub IsFilled : ℕ → Option Stage → Type 0
-IsFilled p None = ⊥
-IsFilled p (Some stage) = FilledAt p stage
+IsFilled p (Some (Filled pixel payload)) = pixel ≡ p
+IsFilled p _ = ⊥
 
 -- there is an entry, and it is Swapped with this old head
-abbrev pub SwappedAt : ℕ → Stage → Type 0
-SwappedAt h (Swapped pixel payload old) = old ≡ h
-SwappedAt h _ = ⊥
-
 abbrev pub IsSwapped : ℕ → Option Stage → Type 0
-IsSwapped h None = ⊥
-IsSwapped h (Some stage) = SwappedAt h stage
+IsSwapped h (Some (Swapped pixel payload old)) = old ≡ h
+IsSwapped h _ = ⊥

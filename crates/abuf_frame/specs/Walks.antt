@@ -1,7 +1,7 @@
 -- Walks along a pixel's list while others draw. A walk has its pixel, the entries that were due in the list when it began,
 -- the nodes passed with their payloads, the cursor, which is the word at which it stands, the payload noted there, and
 -- whether its last load found the mark.
-use Rattle.std.specs.Prelude.{◌≡◌, ℕ, ◌+◌, ◌-◌, ◌<◌, if◌then◌else◌, ◌==◌, true, false, List, [], ◌∷◌, ◌++◌, map, Option, Some, None}
+use Rattle.std.specs.Prelude.{◌≡◌, ℕ, ◌+◌, ◌-◌, ◌<◌, if◌then◌else◌, ◌==◌, Bool, true, false, List, [], ◌∷◌, ◌++◌, map, Option, Some, None}
 use Rattle.std.specs.List.{AllByRecursion, Contains}
 use Rattle.abuf_frame.specs.declared.view.Stage.{Stage}
 use Rattle.abuf_frame.specs.declared.view.Entry.{Entry}
@@ -32,25 +32,38 @@ new_walk p found v = record { pixel = p; due = due_of p v; passed = []; cursor =
 abbrev pub noting : ℕ → Walk → Walk
 noting payload w = record { pixel = w.pixel; due = w.due; passed = w.passed; cursor = w.cursor; noted = Some payload; unlinked = false }
 
--- after a load of the next at the cursor, whose payload is noted: at the mark the walk stays, and else it passes the node
-abbrev pub passing : ℕ → ℕ → Walk → Walk
-passing found payload w = let here : Passed = record { node = w.cursor - 1; payload = payload } in if found == mark
-    then record { pixel = w.pixel; due = w.due; passed = w.passed; cursor = w.cursor; noted = Some payload; unlinked = true }
-    else record { pixel = w.pixel; due = w.due; passed = w.passed ++ here ∷ []; cursor = found; noted = None; unlinked = false }
+abbrev pub payload_noted : Option ℕ → ℕ
+payload_noted None = 0
+payload_noted (Some payload) = payload
 
--- the same, which is no step of a walk that has no payload noted
+-- the walk at the mark, where it stays, or past the node at the cursor, at the word that was found
+abbrev pub gone : Bool → ℕ → Walk → Walk
+gone stays found w = record {
+  pixel = w.pixel;
+  due = w.due;
+  passed = if stays then w.passed else w.passed ++ record { node = w.cursor - 1; payload = payload_noted w.noted } ∷ [];
+  cursor = if stays then w.cursor else found;
+  noted = if stays then w.noted else None;
+  unlinked = stays;
+}
+
+-- after a load of the next at the cursor, whose payload is noted
 abbrev pub going : ℕ → Walk → Walk
-going found w = elim w.noted [ None ↦ w | Some payload ↦ passing found payload w ]
+going found w = gone (found == mark) found w
 
 abbrev pub IsNoted : Option ℕ → Type 0
 IsNoted None = ⊥
 IsNoted (Some payload) = Unit {0}
 
--- there is a last walk, and it has noted the payload at its cursor: the next is loaded only then
+-- there is a last walk, and P holds of it
+abbrev pub OnLast : (Walk → Type 0) → List Walk → Type 0
+OnLast P [] = ⊥
+OnLast P (w ∷ []) = P w
+OnLast P (w ∷ x ∷ xs) = OnLast P (x ∷ xs)
+
+-- the last walk has noted the payload at its cursor: the next is loaded only then
 abbrev pub LastHasNoted : List Walk → Type 0
-LastHasNoted [] = ⊥
-LastHasNoted (w ∷ []) = IsNoted w.noted
-LastHasNoted (w ∷ x ∷ xs) = LastHasNoted (x ∷ xs)
+LastHasNoted ws = OnLast (λ w. IsNoted w.noted) ws
 
 -- f of the last walk
 abbrev pub on_last : (Walk → Walk) → List Walk → List Walk

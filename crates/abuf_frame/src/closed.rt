@@ -1,15 +1,15 @@
 // A frame that is drawn.
-ghost use Rattle.std.specs.Prelude.{◌≡◌, ℕ, ◌+◌, ◌-◌, ◌*◌, ◌<◌, ◌≤◌, ◌^◌, IfOk, IfSome, IfNone, IsPermutation, List, length, slice_index, slice_index_or, []};
+ghost use Rattle.std.specs.Prelude.{◌≡◌, ◌<◌, ◌≤◌, IfOk, IfSome, IfNone, length, []};
 ghost use Rattle.abuf_num.specs.declared.limits.TheConstants.{MAX_NODES};
-ghost use Rattle.abuf_frame.specs.Chains.{IsListAt};
-ghost use Rattle.abuf_frame.specs.Closing.{AllSeen, list_at};
-ghost use Rattle.abuf_frame.specs.Draws.{pairs, payloads_at};
-ghost use Rattle.abuf_frame.specs.Views.{IsSettled, IsWhole, lost, whole_view};
+ghost use Rattle.abuf_frame.specs.Views.{whole_view};
+
+pub(crate) mod lanes;
 
 use crate::frame::Frame;
 use crate::pass::Pass;
+use crate::reader::Reader;
 use crate::still::Still;
-use abuf_num::{List, NoMemory};
+use abuf_num::NoMemory;
 use std::alloc::Global;
 use std::marker::Model;
 
@@ -21,8 +21,8 @@ pub struct Closed {
     // How many nodes the words have, which is the most that a walk can pass.
     pub(crate) table_nodes: u32,
     // How many the pool has: `full` compares with these.
-    nodes: u32,
-    fragments: u64,
+    pub(crate) nodes: u32,
+    pub(crate) fragments: u64,
 }
 
 impl Model for Closed {
@@ -42,45 +42,6 @@ pub struct Full {
     /// How many nodes would have held them all.
     pub fragments: u64,
     pub nodes: u32,
-}
-
-impl Frame {
-    /// Ends the drawing. The pass has to be whole, so that every other was joined into it, and settled. Each list is the walk
-    /// from its head, along the old heads that the entries keep. It takes constant time: the words stay where they are.
-    pub fn close(self, pass: Pass) -> Closed
-        requires frame { pass.frame ≡ self }
-        requires whole { IsWhole pass.view }
-        requires settled { IsSettled pass.view }
-        ensures sizes { (result.pixels ≡ self.pixels) × (result.nodes ≡ self.nodes) × (length result.lists ≡ self.pixels) }
-        ensures fragments { result.fragments ≡ length pass.view.entries }
-        ensures lists { (p : ℕ) → p < self.pixels → IsPermutation (list_at result p) (payloads_at p (pairs pass.view.entries)) }
-        ensures kept { length pass.view.entries ≤ self.nodes → lost pass.view.entries ≡ 0 }
-        ensures lost { lost pass.view.entries ≡ length pass.view.entries - self.nodes }
-        ensures walks { AllSeen result.lists pass.view.walks }
-        ensures chains { (p : ℕ) → p < self.pixels → IsListAt p pass.view.entries (list_at result p) }
-        ensures only { (p : ℕ) → p < self.pixels → (l : List ℕ) → IsListAt p pass.view.entries l → l ≡ list_at result p }
-    {
-        let Frame {
-            table,
-            pixels,
-            nodes,
-        } = self;
-        let Pass {
-            seat,
-            credit: _,
-            own: fragments,
-            loose: _,
-            pixels: _,
-            nodes: _,
-        } = pass;
-        Closed {
-            words: Still::new(table.close_with(seat)),
-            pixels,
-            table_nodes: nodes,
-            nodes,
-            fragments,
-        }
-    }
 }
 
 impl Closed {
@@ -148,33 +109,11 @@ impl Closed {
         Frame::start(alloc, pixels, nodes)
     }
 
-    /// The payloads of the pixel's fragments, in the order of the walk from its head: the entry that was swapped in last
-    /// stands first, whatever the order of the links. The cost grows with the list. Whoever reads many lists takes a `Reader`.
-    pub fn list(&self, alloc: Global, pixel: u32) -> Result<List<u64>, NoMemory>
-        requires { pixel < self.now.pixels }
-        ensures { IfOk result (λ l. l ≡ list_at self.now pixel) }
+    /// A reader of the lists, which has read none yet.
+    pub fn reader<'a>(&'a self, alloc: Global) -> Reader<'a>
+        ensures frame { result.frame ≡ self.now }
+        ensures list { result.list ≡ [] }
     {
-        let mut items = Vec::new(alloc);
-        self.copy_list(pixel, &mut items)?;
-        Ok(List::from_vec(items))
-    }
-
-    // Makes a buffer hold the payloads of the pixel's list. When memory runs out it holds some of them.
-    fn copy_list(&self, pixel: u32, items: &mut Vec<u64>) -> Result<(), NoMemory>
-        requires { pixel < self.now.pixels }
-        ensures { IfOk result (λ _. items.new.items ≡ list_at self.now pixel) }
-    {
-        items.clear();
-        let payloads = 1 + self.pixels as usize;
-        let mut at = self.words.word(1 + pixel as usize);
-        for _ in 0..self.table_nodes {
-            if at == 0 {
-                break;
-            }
-            let node = payloads + 2 * (at - 1) as usize;
-            items.push(self.words.word(node))?;
-            at = self.words.word(node + 1);
-        }
-        Ok(())
+        Reader::new(self, alloc)
     }
 }

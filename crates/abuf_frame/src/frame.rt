@@ -1,11 +1,16 @@
-// The frame and its start.
-ghost use Rattle.std.specs.Prelude.{◌≡◌, ◌≤◌, IfOk};
-ghost use Rattle.abuf_frame.specs.Views.{whole_view};
+// The frame, its start and its end.
+ghost use Rattle.std.specs.Prelude.{◌≡◌, ℕ, ◌-◌, ◌<◌, ◌≤◌, IfOk, IsPermutation, List, length};
+ghost use Rattle.abuf_frame.specs.Chains.{IsListAt};
+ghost use Rattle.abuf_frame.specs.Closing.{AllSeen, list_at};
+ghost use Rattle.abuf_frame.specs.Draws.{pairs, payloads_at};
+ghost use Rattle.abuf_frame.specs.Views.{IsSettled, IsWhole, lost, whole_view};
 ghost use Rattle.abuf_frame.specs.Words.{IsBlank, Sized};
 
 use crate::blank::Blank;
+use crate::closed::Closed;
 use crate::pass::Pass;
 use crate::rule::Lists;
+use crate::still::Still;
 use crate::view::{Size, View};
 use abuf_num::NoMemory;
 use atomic_table::Table;
@@ -79,5 +84,41 @@ impl Frame {
         ensures { IfOk result (λ r. (r.0.pixels ≡ blank.now.pixels) × (r.0.nodes ≡ blank.now.nodes) × (r.1.frame ≡ r.0) × (r.1.view ≡ whole_view)) }
     {
         Frame::of_words(alloc, blank.words(), blank.pixels, blank.nodes)
+    }
+    /// Ends the drawing. The pass has to be whole, so that every other was joined into it, and settled. Each list is the walk
+    /// from its head, along the old heads that the entries keep. It takes constant time: the words stay where they are.
+    pub fn close(self, pass: Pass) -> Closed
+        requires frame { pass.frame ≡ self }
+        requires whole { IsWhole pass.view }
+        requires settled { IsSettled pass.view }
+        ensures sizes { (result.pixels ≡ self.pixels) × (result.nodes ≡ self.nodes) × (length result.lists ≡ self.pixels) }
+        ensures fragments { result.fragments ≡ length pass.view.entries }
+        ensures lists { (p : ℕ) → p < self.pixels → IsPermutation (list_at result p) (payloads_at p (pairs pass.view.entries)) }
+        ensures kept { length pass.view.entries ≤ self.nodes → lost pass.view.entries ≡ 0 }
+        ensures lost { lost pass.view.entries ≡ length pass.view.entries - self.nodes }
+        ensures walks { AllSeen result.lists pass.view.walks }
+        ensures chains { (p : ℕ) → p < self.pixels → IsListAt p pass.view.entries (list_at result p) }
+        ensures only { (p : ℕ) → p < self.pixels → (l : List ℕ) → IsListAt p pass.view.entries l → l ≡ list_at result p }
+    {
+        let Frame {
+            table,
+            pixels,
+            nodes,
+        } = self;
+        let Pass {
+            seat,
+            credit: _,
+            own: fragments,
+            loose: _,
+            pixels: _,
+            nodes: _,
+        } = pass;
+        Closed {
+            words: Still::new(table.close_with(seat)),
+            pixels,
+            table_nodes: nodes,
+            nodes,
+            fragments,
+        }
     }
 }

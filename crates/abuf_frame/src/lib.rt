@@ -21,8 +21,8 @@
 
 mod blank;
 mod closed;
+mod for_users;
 mod frame;
-mod lanes;
 mod look;
 mod pass;
 mod reader;

@@ -1,5 +1,5 @@
 // The token of one drawer, and the steps that it makes.
-ghost use Rattle.std.specs.Prelude.{◌≡◌, ℕ, ◌+◌, ◌*◌, ◌<◌, ◌≤◌, ◌^◌, ◌-◌, min, [], ◌∷◌, IsTrue, ◌↔◌, length, List, All, ◌≢◌};
+ghost use Rattle.std.specs.Prelude.{IsTrue, ◌≡◌, ℕ, ◌+◌, ◌<◌, ◌≤◌, ◌^◌, ◌-◌, min, length, List, All, ◌≢◌};
 ghost use Rattle.abuf_frame.specs.Draws.{CarryInOrder, Draws};
 ghost use Rattle.abuf_frame.specs.Look.{FindsList, Looked};
 ghost use Rattle.abuf_frame.specs.Stages.{IsFilled, IsSwapped, filled, linked, linked_in, swapped};
@@ -11,7 +11,7 @@ ghost use Rattle.abuf_frame.specs.declared.view.Entry.{Entry};
 ghost use Rattle.abuf_frame.specs.declared.view.Stage.TheVariants.{Claimed};
 ghost use Rattle.abuf_frame.specs.declared.view.Walk.{Walk};
 
-use crate::frame::{Frame, WHOLE};
+use crate::frame::Frame;
 use crate::look::{Look, look_along};
 use crate::steps::{FrameSeat, Union, claim_at, count_at, fill_at, link_at, split_at, swap_at};
 use std::marker::{Brand, Model};
@@ -118,24 +118,10 @@ impl Pass {
         self.link(frame, number, old);
     }
 
-    /// Adds one entry: Linked with this pixel and payload, or Lost.
-    pub fn insert(&mut self, frame: &Frame, pixel: u32, payload: u64)
-        requires frame { self.old.frame ≡ frame.now }
-        requires credit { 1 ≤ self.old.view.credit }
-        requires pixel { pixel < frame.now.pixels }
-        ensures frame { self.new.frame ≡ self.old.frame }
-        ensures draws { Draws ((pixel, payload) ∷ []) self.old.view self.new.view }
-        ensures endowment { endowment self.new.view ≡ endowment self.old.view }
-        ensures loose { loose self.new.view.entries ≡ loose self.old.view.entries }
-    {
-        let number = self.claim(frame, 1);
-        if number < frame.nodes as u64 {
-            self.set_in(frame, number, pixel, payload);
-        }
-    }
-
-    /// Adds one entry for each item, a pixel and a payload, by one claim of as many numbers. An empty slice claims none.
-    pub fn insert_all(&mut self, frame: &Frame, items: &[(u32, u64)])
+    /// Adds one entry for each item, a pixel and a payload, by one claim of as many numbers. An empty slice claims none. Returns
+    /// whether one of the numbers has no node. From then on no claim finds a node, so [`lose`](Pass::lose) serves for what is still
+    /// to be inserted.
+    pub fn insert_each(&mut self, frame: &Frame, items: &[(u32, u64)]) -> bool
         requires frame { self.old.frame ≡ frame.now }
         requires credit { length items.now ≤ self.old.view.credit }
         requires count { length items.now < 2 ^ 32 }
@@ -143,11 +129,12 @@ impl Pass {
         ensures frame { self.new.frame ≡ self.old.frame }
         ensures order { (first : ℕ) × (es : List Entry) × CarryInOrder first items.now es × (self.new.view ≡ grown es self.old.view) }
         ensures draws { Draws items.now self.old.view self.new.view }
+        ensures full { IsTrue result → ¬ (Below frame.now.nodes self.new.view.entries) }
         ensures endowment { endowment self.new.view ≡ endowment self.old.view }
         ensures loose { loose self.new.view.entries ≡ loose self.old.view.entries }
     {
         if items.is_empty() {
-            return;
+            return false;
         }
         let first = self.claim(frame, items.len() as u32);
         let nodes = frame.nodes as u64;
@@ -156,6 +143,21 @@ impl Pass {
             if number < nodes {
                 self.set_in(frame, number, items[i].0, items[i].1);
             }
+        }
+        nodes < first + items.len() as u64
+    }
+
+    /// Adds so many Lost entries by one claim. The pass has an entry whose number has no node, so no later number has one either.
+    pub fn lose(&mut self, frame: &Frame, count: u32)
+        requires frame { self.old.frame ≡ frame.now }
+        requires full { ¬ (Below frame.now.nodes self.old.view.entries) }
+        requires credit { count ≤ self.old.view.credit }
+        ensures frame { self.new.frame ≡ self.old.frame }
+        ensures draws { (items : List (ℕ × ℕ)) → length items ≡ count → Draws items self.old.view self.new.view }
+        ensures full { ¬ (Below frame.now.nodes self.new.view.entries) }
+    {
+        if count > 0 {
+            self.claim(frame, count);
         }
     }
 
@@ -225,20 +227,6 @@ impl Pass {
         ensures { result ≡ self.now.view.credit }
     {
         self.credit
-    }
-
-    /// Whether the pass has the endowment of all passes of its frame together, so that no other has credit or entries.
-    pub fn whole(&self) -> bool
-        ensures { IsTrue result ↔ IsWhole self.now.view }
-    {
-        self.credit + self.own == WHOLE
-    }
-
-    /// Whether each of its entries is Linked or Lost.
-    pub fn settled(&self) -> bool
-        ensures { IsTrue result ↔ IsSettled self.now.view }
-    {
-        self.loose == 0
     }
 
     /// Walks along the list of the pixel as it stands, from its newest node, and writes the payloads into `out`, whose other

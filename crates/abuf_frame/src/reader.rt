@@ -50,14 +50,13 @@ impl<'a> Model for Reader<'a> {
     ghost invariant = { λ r. (r.lane < 8) × (length r.buffers.lists ≡ 8) × (IsTrue r.is_held → HoldsEight r.closed.now r.first (map vec_items r.buffers.lists)) };
 }
 
-impl Closed {
-    /// A reader of the lists, which has read none yet.
-    pub fn reader<'a>(&'a self, alloc: Global) -> Reader<'a>
-        ensures frame { result.frame ≡ self.now }
+impl<'a> Reader<'a> {
+    pub(crate) fn new(closed: &'a Closed, alloc: Global) -> Reader<'a>
+        ensures frame { result.frame ≡ closed.now }
         ensures list { result.list ≡ [] }
     {
         Reader {
-            closed: self,
+            closed,
             is_held: false,
             first: 0,
             buffers: Buffers {
@@ -75,9 +74,7 @@ impl Closed {
             lane: 0,
         }
     }
-}
 
-impl<'a> Reader<'a> {
     /// Reads the list of the pixel. The cost grows with the longest of the eight lists that are copied, and with their sum. An
     /// error means that memory ran out; what was read last is then left open.
     #[inline(always)]

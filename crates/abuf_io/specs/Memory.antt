@@ -1,11 +1,11 @@
 -- What the sources, the sink and the shelves over memory hold.
 use Rattle.std.specs.Prelude.{◌-◌, ℕ, List, length, drop}
 use Rattle.abuf_io.specs.declared.plan.Step.{Step}
-use Rattle.abuf_io.specs.declared.memory_source.MemSource.{MemSource}
-use Rattle.abuf_io.specs.declared.memory_source.SteadySource.{SteadySource}
-use Rattle.abuf_io.specs.declared.memory_sink.MemSink.{MemSink}
+use Rattle.abuf_io.specs.declared.memory.MemSource.{MemSource}
+use Rattle.abuf_io.specs.declared.memory.SteadySource.{SteadySource}
+use Rattle.abuf_io.specs.declared.memory.MemSink.{MemSink}
 use Rattle.abuf_io.specs.declared.memory_shelf.SteadyShelf.{SteadyShelf}
-use Rattle.abuf_io.specs.declared.memory_shelf.MemShelf.{MemShelf}
+use Rattle.abuf_io.specs.declared.memory.MemShelf.{MemShelf}
 
 -- the bytes that a source has left
 abbrev pub source_left : MemSource → List ℕ

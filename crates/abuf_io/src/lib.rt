@@ -13,18 +13,16 @@
 
 mod adapters;
 mod folder;
+mod memory;
 mod memory_shelf;
-mod memory_sink;
-mod memory_source;
 mod outside;
 mod plan;
 mod whole;
 
 pub use adapters::{ReadSource, WriteSink};
 pub use folder::FolderShelf;
-pub use memory_shelf::{MemShelf, SteadyShelf};
-pub use memory_sink::MemSink;
-pub use memory_source::{MemSource, SteadySource};
+pub use memory::{MemShelf, MemSink, MemSource, SteadySource};
+pub use memory_shelf::SteadyShelf;
 pub use outside::{Failed, Fetch, Shelf, Sink, Source};
 pub use plan::Step;
 pub use whole::{ReadEnd, WriteFault, read_all, write_all};

@@ -1,11 +1,12 @@
 -- Sums and counts over lists.
-use Rattle.std.proofs.Common.{◌≡◌, ◌≢◌, ℕ, zero, suc, ◌+◌, ◌<◌, ◌≤◌, Bool, cond, eqb, List, [], ◌∷◌, ◌++◌, length, set, sym, refl, ap, subst, arith, ⊎_elim, eq-eqb, ne_eqb, sum_by, count_by, IsPermutation}
+use Rattle.std.proofs.Common.{◌≡◌, ◌≢◌, ℕ, zero, suc, ◌+◌, ◌<◌, ◌≤◌, Bool, true, false, cond, eqb, List, [], ◌∷◌, ◌++◌, length, set, filter, sym, refl, ap, ◌∙◌, subst, arith, ⊎_elim, eq-eqb, ne_eqb, sum_by, count_by, IsPermutation}
+use Rattle.std.specs.List.{range_with_len}
 use mathlib.Core.Option.{some, some-injective, some-ne-none}
 use lib.ListN.{get_elem?}
 use Rattle.std.proofs.lemmas.Bool.Decides.{nat_tests}
 use Rattle.std.proofs.lemmas.Bool.{cases_eq}
 use Rattle.std.proofs.lemmas.List.Sums.{sum_by-cons}
-use Rattle.std.proofs.lemmas.List.Sorted.{IsPermutation-refl, IsPermutation-sym, IsPermutation-cons, IsPermutation-trans, IsPermutation-middle}
+use Rattle.std.proofs.lemmas.List.Sorted.{IsPermutation-refl, IsPermutation-sym, IsPermutation-cons, IsPermutation-trans, IsPermutation-middle, sum_by-IsPermutation}
 use Rattle.abuf_num.specs.Counting.{below, times}
 
 module _ {A : Type 0} where
@@ -43,6 +44,26 @@ pub times-append : (n : ℕ) (l m : List ℕ) → times n (l ++ m) ≡ times n l
 times-append n [] m = omega arith
 times-append n (x ∷ xs) m = let r = times-append n xs m in omega arith
 
+-- How often a number stands in a list is a sum over the list.
+times_sum : (n : ℕ) (xs : List ℕ) → times n xs ≡ sum_by (λ x. cond (eqb x n) 1 0) xs
+times_sum n [] = refl
+times_sum n (x ∷ xs) = let r = times_sum n xs in omega (arith, sum_by-cons (λ x. cond (eqb x n) 1 0) x xs)
+
+-- Whatever the order of a list, each number stands in it as often.
+pub times_permuted : (n : ℕ) (xs ys : List ℕ) → IsPermutation xs ys → times n xs ≡ times n ys
+times_permuted n xs ys p = times_sum n xs ∙ (sym (sum_by-IsPermutation (λ x. cond (eqb x n) 1 0) xs ys p) ∙ sym (times_sum n ys))
+
+-- A number stands among those that pass a test as often as before where it passes, and else never.
+pub times_kept : (p : ℕ → Bool) (n : ℕ) (xs : List ℕ) → times n (filter p xs) ≡ cond (p n) (times n xs) 0
+times_kept p n [] = elim (p n) as (λ b. times n [] ≡ cond b 0 0) [ true ↦ refl | false ↦ refl ]
+times_kept p n (x ∷ xs) = pick (p x) (p n) (λ (e : x ≡ n). ap p e) (times_kept p n xs)
+  where
+    pick : (b c : Bool) → (x ≡ n → b ≡ c) → times n (filter p xs) ≡ cond c (times n xs) 0 → times n (cond b (x ∷ filter p xs) (filter p xs)) ≡ cond c (times n (x ∷ xs)) 0
+    pick true true s r = omega arith
+    pick true false s r = grind (arith, nat_tests)
+    pick false true s r = grind (arith, nat_tests)
+    pick false false s r = r
+
 -- One more count is one more number below it.
 pub below_more : (n c : ℕ) → cond (eqb c n) 1 0 + below n c ≡ below n (c + 1)
 below_more n c = grind (arith, nat_tests)
@@ -62,6 +83,15 @@ below_le n c = grind (arith, nat_tests)
 -- If it counts, it is below.
 pub below_from : (n c : ℕ) → 0 < below n c → n < c
 below_from n c h = grind (arith, nat_tests)
+
+-- A range has each of its numbers once.
+pub times_range : (n a count : ℕ) → times n (range_with_len a count) + below n a ≡ below n (a + count)
+times_range n a zero = let e : a ≡ a + 0 = omega arith in let b = ap (below n) e in omega arith
+times_range n a (suc count) = let r = times_range n (a + 1) count in let m = below_more n a in let e : a + 1 + count ≡ a + suc count = omega arith in let b = ap (below n) e in omega arith
+
+-- So the numbers from 0 on up to a count have each number below it once.
+pub times_first : (n count : ℕ) → times n (range_with_len 0 count) ≡ below n count
+times_first n count = let r = times_range n 0 count in let z = below_no n 0 (omega arith) in let e : 0 + count ≡ count = omega arith in let b = ap (below n) e in omega arith
 
 module _ {A : Type 0} where
   -- Where a sum is 0, so is the sum of what is 0 with its values.

@@ -1,10 +1,9 @@
 -- What a step finds, and what a sample then takes.
-use Rattle.std.proofs.Common.{◌≡◌, ℕ, ◌+◌, ◌<◌, Bool, true, false, if◌then◌else◌, List, [], ◌∷◌, ◌++◌, Option, Some, None, is_some, refl, ap, ◌∙◌, sym, arith}
+use Rattle.std.proofs.Common.{◌≡◌, ℕ, ◌+◌, ◌<◌, Bool, true, false, if◌then◌else◌, List, [], ◌∷◌, ◌++◌, Option, Some, None, is_some, refl, ap, ◌∙◌, arith}
 use Rattle.std.specs.List.{range_with_len}
 use Rattle.std.proofs.lemmas.Bool.{eq-eqb, ne_eqb}
-use Rattle.std.proofs.lemmas.List.{map-id}
-use Rattle.std.proofs.lemmas.List.FromFn.{map-range_with_len_more}
 use Rattle.abuf_num.specs.declared.plain.Paint.{Paint}
+use Rattle.abuf_raster.proofs.Blocks as raster
 use Rattle.abuf_resolve.specs.Over.{laid_over}
 use Rattle.abuf_resolve.specs.Words.{paint_of}
 use Rattle.abuf_peel.specs.Next.{left_from, with_word}
@@ -12,9 +11,7 @@ use Rattle.abuf_peel.specs.Taking.{Finds, marked, no_word, painted}
 
 -- A range with one number more.
 pub range_more : (n : ℕ) → range_with_len 0 (n + 1) ≡ range_with_len 0 n ++ n ∷ []
-range_more n =
-    sym (map-id (range_with_len 0 (n + 1)))
-    ∙ (map-range_with_len_more (λ (x : ℕ). x) 0 n n (omega arith) ∙ ap (λ (xs : List ℕ). xs ++ n ∷ []) (map-id (range_with_len 0 n)))
+range_more n = raster.range_more 0 n ∙ ap (λ (m : ℕ). range_with_len 0 n ++ m ∷ []) (omega arith)
 
 -- ---- what is taken
 -- The mark of a sample is that of what is found.

@@ -1,9 +1,10 @@
 -- The primitives that samples still take.
-use Rattle.std.proofs.Common.{◌≡◌, ℕ, zero, suc, nat_lt, ◌^◌, ◌+◌, ◌<◌, ◌≤◌, ◌⊎◌, inl, inr, Bool, true, false, ◌&&◌, if◌then◌else◌, List, [], ◌∷◌, ◌++◌, map, take, length, get_or, set, ℤ, Option, Some, None, All, IsPermutation, refl, ap, ◌∙◌, sym, subst, arith}
+use Rattle.std.proofs.Common.{◌≡◌, ℕ, zero, suc, nat_lt, ◌^◌, ◌+◌, ◌<◌, ◌≤◌, Bool, true, false, ◌&&◌, if◌then◌else◌, List, [], ◌∷◌, ◌++◌, map, take, length, get_or, set, ℤ, All, IsPermutation, refl, ap, ◌∙◌, sym, subst, arith}
 use Rattle.std.specs.List.{count_by, filter}
-use Rattle.std.proofs.lemmas.Bool.{lt-ltb, le-ltb, cases_lt}
+use Rattle.std.proofs.lemmas.Bool.{ltb-false, not-true}
 use Rattle.std.proofs.lemmas.List.{append-nil, length-set, map-append, get_or-set_other, take-set, take_more, take_more_set, take_all}
-use Rattle.std.proofs.lemmas.List.Elements.{filter-append, All-nil, All-push}
+use Rattle.std.proofs.lemmas.List.Elements.{filter-append, filter_passes, All-nil, All-push}
+use Rattle.std.proofs.lemmas.List.Sorted.{All-permutation}
 use Rattle.abuf_num.specs.declared.plain.Paint.{Paint}
 use Rattle.abuf_raster.specs.declared.pattern.Pattern.{Pattern}
 use Rattle.abuf_raster.specs.Triangle.{Triangle}
@@ -14,30 +15,27 @@ use Rattle.abuf_raster.specs.declared.region.Hit.{Hit}
 use Rattle.abuf_raster.specs.Samples.{offsets_of}
 use Rattle.abuf_raster.proofs.Masks.{offsets_some}
 use Rattle.abuf_resolve.specs.Colour.{triangle_at, numbers}
+use Rattle.abuf_resolve.specs.Order.{in_order}
 use Rattle.abuf_resolve.specs.Words.{layer_word, prim_of, reaches, IsDepthWord}
 use Rattle.abuf_peel.specs.Layers.{Seen, TakesTimes, count_of, sample_at, size_of, taken, taken_times}
 use Rattle.abuf_peel.specs.Members.{HaveAll, HaveLeft, left_at}
-use Rattle.abuf_peel.specs.Next.{Sample, covering_among, least, lower_of, left_among, left_from, next_among, next_word, words_among}
+use Rattle.abuf_peel.specs.Next.{Sample, covering_among, least, left_among, left_from, next_among, next_word, words_among}
 use Rattle.abuf_peel.specs.Offers.{AreNext, AreNextAmong, IsDone, OffersHits, OffersNext, has_at, inserted, is_covered, offered_times, word_at, word_of}
 use Rattle.abuf_peel.specs.Taking.{FindsLowest, lowest}
 use Rattle.abuf_peel.proofs.Insertion.{lowest_more}
 use Rattle.abuf_peel.proofs.Chosen.{sample_in}
 use Rattle.abuf_peel.proofs.Hits.{once_covered}
-use Rattle.abuf_peel.proofs.Words.{narrower}
+use Rattle.abuf_peel.proofs.Words.{first, least-first}
+use Rattle.abuf_resolve.proofs.Orders.{permuted}
+use Rattle.abuf_resolve.proofs.Seen.{reaches_greater}
 
 -- ---- the words from which on a sample takes only rise
--- The word above the lower of two isn't below a bound that neither is below.
-lower_rises : (from x : ℕ) (o : Option ℕ) → from ≤ x → from ≤ left_from o from → from ≤ lower_of x o + 1
-lower_rises from x None l h = omega arith
-lower_rises from x (Some w) l h = omega arith
-
 -- The word above the least of those that aren't below a bound isn't below it.
 least_rises : (from : ℕ) (xs : List ℕ) → from ≤ left_from (least (filter (reaches from) xs)) from
-least_rises from [] = omega arith
-least_rises from (x ∷ xs) = go (least_rises from xs) (cases_lt x from) where
-  go : from ≤ left_from (least (filter (reaches from) xs)) from → (x < from) ⊎ (from ≤ x) → from ≤ left_from (least (filter (reaches from) (x ∷ xs))) from
-  go r (inl l) = rw (lt-ltb x from l) r
-  go r (inr l) = rw (le-ltb x from l) (lower_rises from x (least (filter (reaches from) xs)) l r)
+least_rises from xs = rw (least-first (filter (reaches from) xs)) (go (in_order nat_lt (filter (reaches from) xs)) (All-permutation (λ x. reaches from x ≡ true) _ _ (permuted nat_lt _) (filter_passes (reaches from) xs))) where
+  go : (ys : List ℕ) → All (λ x. reaches from x ≡ true) ys → from ≤ left_from (first ys) from
+  go [] all = omega arith
+  go (y ∷ ys) all = let low : from ≤ y = ltb-false y from (not-true (nat_lt y from) (all 0 0 (omega arith))) in omega arith
 
 -- So it is once a sample takes its next primitive.
 next_rises : (os : List (ℤ × ℤ)) (tris : List Triangle) (s : Sample) (from : ℕ) → from ≤ left_from (next_word os tris s from) from
@@ -87,7 +85,7 @@ module _ (os : List (ℤ × ℤ)) (tris : List Triangle) (s : Sample) where
   -- So it is from a higher word on.
   pub left_rises : (a b : ℕ) (ms ns : List ℕ) → a ≤ b → left_among os tris s a ms ≡ left_among os tris s a ns → left_among os tris s b ms ≡ left_among os tris s b ns
   unfolding left_among
-  left_rises a b ms ns h e = sym (narrower a b (words_among os tris s ms) h) ∙ (ap (filter (reaches b)) e ∙ narrower a b (words_among os tris s ns) h)
+  left_rises a b ms ns h e = sym (reaches_greater a b (words_among os tris s ms) h) ∙ (ap (filter (reaches b)) e ∙ reaches_greater a b (words_among os tris s ns) h)
 
   -- What is found among some primitives, once one more is offered.
   lowest_next : (from : ℕ) (ns : List ℕ) (n : ℕ) (best new : List ℕ) → n < length tris → length tris ≤ 2 ^ 24
@@ -114,7 +112,7 @@ module _ (tris : List Triangle) (r : Region) (pattern : Pattern) (from : List �
   -- Among no primitives nothing is found.
   pub next_none : (best : List (List ℕ)) → length best ≡ count_of r pattern → ((j : ℕ) → j < length best → get_or best j [] ≡ lowest []) → AreNextAmong tris r pattern from [] best
   unfolding left_among
-  next_none best e each = record { size = e; each = λ j l. record { is = each j (omega (arith, e)); known = tt } }
+  next_none best e each = record { size = e; each = λ j l. record { is = each j (omega (arith, e)); known = All-nil (IsDepthWord (length tris)) } }
 
   -- Once a triangle is offered to the samples of all its hits, it is offered to all samples.
   pub offers_next : (t : Triangle) (n : ℕ) (all : List Hit) (old new : List (List ℕ)) (left : Bool) → t ≡ triangle_at tris n → n < length tris → length tris ≤ 2 ^ 24 → IsRegion r → IsPermutation all (hits t n (offsets_of pattern) r)

@@ -13,7 +13,7 @@ use Rattle.abuf_resolve.specs.Sums.{sums_at, region_sums}
 use Rattle.abuf_resolve.proofs.Totals.{summed_same, same_on_range}
 use Rattle.abuf_peel.specs.Next.{Sample, next_word}
 use Rattle.abuf_peel.specs.Layers.{Peeled, Seen, peeled_of, seen_at, taken_times, after, started, TakesTimes, StandsFor, HaveLayer, AreWhole, NoneLeft, count_of, size_of, sample_at, sum_of_place, layer_sums, whole_colour}
-use Rattle.abuf_peel.proofs.Steps.{after-layer, after-none, after-many, after_times}
+use Rattle.abuf_peel.proofs.Steps.{after-layer, after-none, after-many, times_after}
 
 -- ---- a layer whose parts are read, and written again
 -- The same parts show the same layer.
@@ -54,7 +54,7 @@ module _ (background : List ℕ) (tris : List Triangle) (paints : List Paint) wh
         let here : j < count_of old.region old.pattern = subst (λ (m : ℕ). j < m) (ap₂ count_of t.region t.pattern) l in
         let steps : seen_at new j ≡ after (offsets_of old.pattern) background tris paints (sample_at old.region (size_of old.pattern) j) (n + k)
         = t.each j here ∙ (ap (taken_times (offsets_of old.pattern) tris paints (sample_at old.region (size_of old.pattern) j) k) (p.each j here)
-        ∙ after_times (offsets_of old.pattern) background tris paints (sample_at old.region (size_of old.pattern) j) n k) in
+        ∙ times_after (offsets_of old.pattern) tris paints (sample_at old.region (size_of old.pattern) j) n k (record { from = 0; colour = background })) in
         steps ∙ ap₂ (λ (r : Region) (q : Pattern). after (offsets_of q) background tris paints (sample_at r (size_of q) j) (n + k)) (sym t.region) (sym t.pattern);
   }
 

@@ -1,19 +1,21 @@
 -- A sample takes several primitives at once.
-use Rattle.std.proofs.Common.{◌≡◌, ℕ, zero, suc, ◌^◌, ◌≤◌, List, [], ◌∷◌, length, ℤ, Option, Some, None, refl, ap, ◌∙◌, sym, nat_lt}
+use Rattle.std.proofs.Common.{◌≡◌, ℕ, zero, suc, ◌^◌, ◌≤◌, All, List, [], ◌∷◌, length, ℤ, Option, Some, None, refl, ap, ◌∙◌, sym, nat_lt}
 use Rattle.std.specs.List.{filter}
 use Rattle.abuf_num.specs.declared.plain.Paint.{Paint}
 use Rattle.std.proofs.lemmas.List.{drop_all}
+use Rattle.std.proofs.lemmas.List.Elements.{All-head, All-tail}
+use Rattle.std.proofs.lemmas.List.Sorted.{All-permutation}
 use Rattle.abuf_raster.specs.Triangle.{Triangle}
 use Rattle.abuf_resolve.specs.Colour.{numbers}
 use Rattle.abuf_resolve.specs.Order.{in_order}
-use Rattle.abuf_resolve.specs.Words.{reaches}
+use Rattle.abuf_resolve.specs.Words.{reaches, IsDepthWord}
+use Rattle.abuf_resolve.proofs.Covered.{filter-in_order}
+use Rattle.abuf_resolve.proofs.Orders.{permuted}
 use Rattle.abuf_peel.specs.Layers.{Seen, taken, taken_times}
 use Rattle.abuf_peel.specs.Next.{Sample, left_among, left_from, next_word, with_word}
-use Rattle.abuf_peel.specs.Taking.{AreDepthWords, Finds, marked_by, no_word, padded, painted_by}
+use Rattle.abuf_peel.specs.Taking.{Finds, marked_by, no_word, padded, painted_by}
 use Rattle.abuf_peel.proofs.Found.{marked_is, painted_is}
-use Rattle.abuf_peel.proofs.Insertion.{known-in_order}
 use Rattle.abuf_peel.proofs.Steps.{left_next, left_nothing, next_first, sorted, steps}
-use Rattle.abuf_peel.proofs.Words.{filter-in_order}
 
 module _ (os : List (ℤ × ℤ)) (tris : List Triangle) (paints : List Paint) (s : Sample) (few : length tris ≤ 2 ^ 24) where
   -- The words of all primitives that cover the sample, in order.
@@ -32,14 +34,14 @@ module _ (os : List (ℤ × ℤ)) (tris : List Triangle) (paints : List Paint) (
   }
 
   -- The first n words that are left are those that are taken in n steps.
-  takes_padded : (n : ℕ) (rest : List ℕ) (seen : Seen) → filter (reaches seen.from) all ≡ rest → AreDepthWords (length tris) rest → given (padded n rest) seen ≡ taken_times os tris paints s n seen
+  takes_padded : (n : ℕ) (rest : List ℕ) (seen : Seen) → filter (reaches seen.from) all ≡ rest → All (IsDepthWord (length tris)) rest → given (padded n rest) seen ≡ taken_times os tris paints s n seen
   takes_padded zero rest seen e k = refl
   takes_padded (suc n) [] seen e k =
       ap (given (padded n [])) (one seen None no_word (next_first os [] tris paints s few seen.from [] e) refl)
-      ∙ takes_padded n [] (taken os tris paints s seen) (left_nothing os [] tris paints s few seen e) tt
+      ∙ takes_padded n [] (taken os tris paints s seen) (left_nothing os [] tris paints s few seen e) k
   takes_padded (suc n) (w ∷ rest) seen e k =
-      ap (given (padded n rest)) (one seen (Some w) w (next_first os [] tris paints s few seen.from (w ∷ rest) e) (refl, k.0))
-      ∙ takes_padded n rest (taken os tris paints s seen) (left_next os [] tris paints s few seen w rest e) k.1
+      ap (given (padded n rest)) (one seen (Some w) w (next_first os [] tris paints s few seen.from (w ∷ rest) e) (refl, All-head (IsDepthWord (length tris)) w rest k))
+      ∙ takes_padded n rest (taken os tris paints s seen) (left_next os [] tris paints s few seen w rest e) (All-tail (IsDepthWord (length tris)) w rest k)
 
   -- Of what is left of all primitives.
   starts : (from : ℕ) → filter (reaches from) all ≡ in_order nat_lt (left_among os tris s from (numbers tris))
@@ -47,9 +49,9 @@ module _ (os : List (ℤ × ℤ)) (tris : List Triangle) (paints : List Paint) (
   starts from = filter-in_order (reaches from) _
 
   -- So it is of what is left of all primitives.
-  pub takes_lowest : (n : ℕ) (seen : Seen) → AreDepthWords (length tris) (left_among os tris s seen.from (numbers tris))
+  pub takes_lowest : (n : ℕ) (seen : Seen) → All (IsDepthWord (length tris)) (left_among os tris s seen.from (numbers tris))
       → given (padded n (in_order nat_lt (left_among os tris s seen.from (numbers tris)))) seen ≡ taken_times os tris paints s n seen
-  takes_lowest n seen k = takes_padded n _ seen (starts seen.from) (known-in_order (length tris) _ k)
+  takes_lowest n seen k = takes_padded n _ seen (starts seen.from) (All-permutation (IsDepthWord (length tris)) _ _ (permuted nat_lt _) k)
 
   -- Where there were fewer than n, none is left.
   pub none_after : (n : ℕ) (seen : Seen) → length (in_order nat_lt (left_among os tris s seen.from (numbers tris))) ≤ n → next_word os tris s (taken_times os tris paints s n seen).from ≡ None

@@ -76,8 +76,7 @@ taken_times offsets triangles paints s (suc n) seen = taken_times offsets triang
 
 -- The sample after n steps from the background on.
 abbrev pub after : List (ℤ × ℤ) → List ℕ → List Triangle → List Paint → Sample → ℕ → Seen
-after offsets background triangles paints s zero = record { from = 0; colour = background }
-after offsets background triangles paints s (suc n) = taken offsets triangles paints s (after offsets background triangles paints s n)
+after offsets background triangles paints s n = taken_times offsets triangles paints s n (record { from = 0; colour = background })
 
 -- What is seen of the sample at an index.
 abbrev pub seen_at : Peeled → ℕ → Seen

@@ -1,6 +1,6 @@
 -- What a step finds, as it is kept in words of 64 bits.
-use Rattle.std.specs.Prelude.{◌≡◌, ℕ, zero, suc, ◌+◌, ◌^◌, ◌-◌, ◌<◌, ◌⊎◌, ◌==◌, if◌then◌else◌, nat_lt, List, [], ◌∷◌, length, slice_index_or, Option, Some, None}
-use Rattle.std.specs.List.{fold}
+use Rattle.std.specs.Prelude.{◌≡◌, ℕ, zero, suc, ◌+◌, ◌^◌, ◌-◌, ◌<◌, ◌⊎◌, ◌==◌, if◌then◌else◌, nat_lt, List, [], ◌∷◌, Option, Some, None}
+use Rattle.std.specs.List.{fold, All}
 use Rattle.abuf_num.specs.declared.plain.Paint.{Paint}
 use Rattle.abuf_resolve.specs.Order.{in_order}
 use Rattle.abuf_resolve.specs.Over.{laid_over}
@@ -25,19 +25,14 @@ padded (suc n) (word ∷ words) = word ∷ padded n words
 unfoldable pub lowest : List ℕ → List ℕ
 lowest words = padded 16 (in_order nat_lt words)
 
--- They are words of primitives, of which there are so many.
-abbrev pub AreDepthWords : ℕ → List ℕ → Type 0
-AreDepthWords count [] = Unit {0}
-AreDepthWords count (word ∷ words) = IsDepthWord count word × AreDepthWords count words
-
 -- The lowest 16 of some words, each of which is that of one of so many primitives.
 pub record FindsLowest (count : ℕ) (words best : List ℕ) : Type 0 where
   pub is : best ≡ lowest words
-  pub known : AreDepthWords count words
+  pub known : All (IsDepthWord count) words
 
 -- Each of the words is that of one of so many primitives, or of none.
 abbrev pub AreKnown : ℕ → List ℕ → Type 0
-AreKnown count words = (i : ℕ) → i < length words → (slice_index_or words i 0 ≡ no_word) ⊎ (prim_of (slice_index_or words i 0) < count)
+AreKnown count words = All (λ word. (word ≡ no_word) ⊎ (prim_of word < count)) words
 
 -- The word from which on primitives are left, once the primitive of this word is taken;
 abbrev pub marked : ℕ → ℕ → ℕ

@@ -1,9 +1,9 @@
 // The samples of a region, peeled layer by layer.
-ghost use Rattle.std.specs.Prelude.{◌≡◌, ◌≤◌, false, true, length, IfOk};
+ghost use Rattle.std.specs.Prelude.{◌≡◌, ◌≤◌, false, length, IfOk};
 ghost use Rattle.std.specs.List.{All};
 ghost use Rattle.abuf_num.specs.declared.limits.TheConstants.{MAX_PRIMITIVES};
 ghost use Rattle.abuf_resolve.specs.Sums.{IsSmall};
-ghost use Rattle.abuf_peel.specs.Layers.{NoneLeft, OneStepMore, SomeLeft, StandsForNone, Takes, TakesTimes, layer_sums, size_of, started};
+ghost use Rattle.abuf_peel.specs.Layers.{NoneLeft, StandsForNone, TakesTimes, layer_sums, size_of, started};
 ghost use Rattle.abuf_peel.specs.Members.{HaveLeft};
 
 use crate::offering::{Samples, no_words};
@@ -18,13 +18,13 @@ use std::marker::Model;
 /// region, the pattern and, for each sample, the word from which on primitives are left, and the colour.
 #[derive(Drop)]
 pub struct Layer {
-    region: Region,
-    pattern: Pattern,
+    pub(crate) region: Region,
+    pub(crate) pattern: Pattern,
     /// For each sample 0, or one above the word of the last primitive taken: its depth key times 2^24, plus its number.
-    from: Vec<u64>,
+    pub(crate) from: Vec<u64>,
     /// What a step finds: for each sample the words of its next 16 primitives.
-    best: Vec<[u64; 16]>,
-    colours: Vec<[u16; 3]>,
+    pub(crate) best: Vec<[u64; 16]>,
+    pub(crate) colours: Vec<[u16; 3]>,
 }
 
 impl Model for Layer {
@@ -66,25 +66,6 @@ impl Layer {
         ensures { result ≡ self.now.region }
     {
         self.region
-    }
-
-    /// Every sample takes the lowest primitive above the last one taken that covers it, by its depth key there and then by its
-    /// number, and lays its paint over the colour. A sample without such a primitive stays. True exactly where some sample took
-    /// one. There is a paint for each of at most `MAX_PRIMITIVES` triangles. Takes no memory.
-    pub fn step(&mut self, tris: &[ScreenTri], paints: &[Paint]) -> bool
-        requires few { length tris.now ≤ MAX_PRIMITIVES }
-        requires paints { length paints.now ≡ length tris.now }
-        ensures takes { Takes tris.now paints.now self.old self.new }
-        ensures layers { OneStepMore tris.now paints.now self.old self.new }
-        ensures none { result ≡ false → NoneLeft tris.now self.old }
-        ensures some { result ≡ true → SomeLeft tris.now self.old }
-    {
-        let samples = Samples {
-            region: self.region,
-            pattern: self.pattern,
-        };
-        let drawn = Primitives { tris, paints };
-        samples.take_next(&drawn, &mut self.from, &mut self.best, &mut self.colours)
     }
 
     /// Every sample takes its next 16 primitives, or all that it has left. The members are all primitives that a sample still takes;

@@ -9,15 +9,12 @@
 //! `start`, `sums` and `peel` do.
 #![tactic(auto)]
 
+mod for_users;
 pub mod laws;
 mod layer;
-mod members;
 mod offering;
-mod peeling;
-mod rows;
 mod scene;
 mod sums;
-mod taking;
 
 pub use layer::Layer;
-pub use peeling::peel;
+pub use scene::peeling::peel;

@@ -3,6 +3,10 @@ ghost use Rattle.std.specs.Prelude.{◌≡◌, ◌≤◌, length};
 ghost use Rattle.abuf_num.specs.declared.limits.TheConstants.{MAX_PRIMITIVES};
 ghost use Rattle.abuf_raster.specs.Region.{IsImageSize};
 
+pub(crate) mod members;
+pub(crate) mod peeling;
+pub(crate) mod rows;
+
 use abuf_num::Paint;
 use abuf_raster::{Pattern, ScreenTri};
 

@@ -1,6 +1,6 @@
 -- What a look at a pixel's list leaves in a slice with room for all its words.
-use Rattle.std.proofs.Common.{◌≡◌, ◌≢◌, ℕ, ◌≤◌, List, [], ◌∷◌, ◌++◌, map, take, length, IsPermutation, refl, sym, ap, subst, ◌∙◌, append-nil, length-append, arith}
-use Rattle.std.proofs.lemmas.List.{length-map}
+use Rattle.std.proofs.Common.{◌≡◌, ◌≢◌, ℕ, ◌≤◌, List, [], ◌++◌, map, take, length, IsPermutation, refl, sym, ap, subst, ◌∙◌, append-nil, length-append, arith}
+use Rattle.std.proofs.lemmas.List.{length-map, nil_from_length}
 use Rattle.std.proofs.lemmas.List.Sorted.{length_permutation}
 use Rattle.std.proofs.Math.Seq.{take-append_seam}
 use Rattle.abuf_frame.specs.declared.view.Walk.{Walk}
@@ -12,11 +12,6 @@ use Rattle.abuf_frame.specs.Walks.{payload_at}
 use Rattle.abuf_frame.specs.Look.{Looked}
 use Rattle.abuf_frame.specs.Draws.{pairs, payloads_at}
 use Rattle.abuf_picture.specs.Drawn.{found}
-
--- A list of length 0 is empty.
-none_left : (xs : List ℕ) → length xs ≡ 0 → xs ≡ []
-none_left [] e = refl
-none_left (x ∷ xs) e = absurd (omega (arith, e))
 
 module _ (place : ℕ) (v : View) (old new : List ℕ) (w : Walk) where
   -- the payloads of the nodes passed stand first
@@ -45,5 +40,5 @@ module _ (place : ℕ) (v : View) (old new : List ℕ) (w : Walk) where
       let lengths : length (map payload_at w.passed ++ s.0) ≡ length (payloads_at w.pixel (pairs v.entries)) = sym (length_permutation _ _ s.1) in
       let few : length (payloads_at w.pixel (pairs v.entries)) ≤ length old = subst (λ (p : ℕ). length (payloads_at p (pairs v.entries)) ≤ length old) (sym l.here) room in
       let none : length s.0 ≡ 0 = omega (arith, lengths, few, length-append (map payload_at w.passed) s.0, length-map w.passed payload_at, l.answer.1) in
-      subst (λ (xs : List ℕ). IsPermutation xs (payloads_at place (pairs v.entries))) (sym (front (length old) _ (sym l.answer.1) l.written.2)) (whole_list s.0 (none_left s.0 none) s.1 l.here)
+      subst (λ (xs : List ℕ). IsPermutation xs (payloads_at place (pairs v.entries))) (sym (front (length old) _ (sym l.answer.1) l.written.2)) (whole_list s.0 (nil_from_length s.0 none) s.1 l.here)
   seen (look.Unlinked node) l whole settled linked room = absurd (linked node refl)

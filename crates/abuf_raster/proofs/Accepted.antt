@@ -1,12 +1,12 @@
 -- The samples that one edge accepts, and those that three accept.
-use Rattle.std.proofs.Common.{◌≡◌, ℕ, zero, suc, ◌+◌, ◌-◌, ◌*◌, ◌^◌, ◌<◌, Bool, true, false, not, ◌&&◌, if◌then◌else◌, ℤ, pos, ◌+ℤ◌, ◌≤ℤ◌, List, bit_and, arith, ap, ap₂, refl, ◌∙◌, pow-suc, pow_pos, add-one}
+use Rattle.std.proofs.Common.{◌≡◌, ℕ, zero, suc, ◌+◌, ◌-◌, ◌*◌, ◌^◌, ◌<◌, Bool, true, false, not, ◌&&◌, if◌then◌else◌, ℤ, pos, ◌+ℤ◌, ◌≤ℤ◌, List, bit_and, length, arith, ap, ap₂, refl, ◌∙◌, pow-suc, pow_pos, add-one}
 use Rattle.std.specs.Prelude.{int_lt}
 use Rattle.std.proofs.lemmas.Nat.{and_block, and_le_l}
 use Rattle.abuf_raster.specs.declared.point.Point.{Point}
 use Rattle.abuf_raster.specs.Triangle.{Triangle}
-use Rattle.abuf_raster.specs.Values.{Numbers, sample_change, accepted_below, mask_of_values_below}
+use Rattle.abuf_raster.specs.Values.{Numbers, plus_all, AreUp, IsLeastOf, sample_change, sample_changes, accepted_below, mask_of_values_below}
 use Rattle.abuf_raster.proofs.Masks.{if_lt}
-use Rattle.abuf_raster.proofs.Changes.{not_below}
+use Rattle.abuf_raster.proofs.Changes.{not_below, plus_up}
 
 module _ (a b : Point) (os : List (ℤ × ℤ)) (n : ℤ) where
   -- A mask of k samples is below 2 ^ k.
@@ -55,3 +55,8 @@ three_accept t os n (suc k) =
     ap (λ (m : ℕ). bit_and m (accepted_below t.c t.a os n.ca (suc k))) (both_top k _ _ u v p q)
     ∙ (both_top k _ _ (u && v) w (omega (arith, and_le_l (accepted_below t.a t.b os n.ab k) (accepted_below t.b t.c os n.bc k))) r
     ∙ ap (λ (m : ℕ). m + (if (u && v) && w then 2 ^ k else 0)) (three_accept t os n k))
+
+-- the least values of three edges at the samples, by what is put to their values
+pub least_values : (t u : Triangle) (os : List (ℤ × ℤ)) (n m s : Numbers) → u ≡ t → s ≡ plus_all n m → ((k : ℕ) → k < length os → AreUp m (sample_changes t os k))
+    → IsLeastOf s.ab u.a u.b os n.ab × IsLeastOf s.bc u.b u.c os n.bc × IsLeastOf s.ca u.c u.a os n.ca
+least_values t u os n m s e f up = rw (e, f) (λ k l. (plus_up n m _ (up k l)).ab, λ k l. (plus_up n m _ (up k l)).bc, λ k l. (plus_up n m _ (up k l)).ca)

@@ -1,21 +1,18 @@
 -- A sample that lies beside a triangle isn't covered.
-use Rattle.std.proofs.Common.{◌≡◌, ℕ, ◌+◌, ◌*◌, ◌<◌, ◌≤◌, true, false, ◌&&◌, ℤ, pos, negsuc, neg_ℤ, ◌+ℤ◌, ◌-ℤ◌, ◌*ℤ◌, ◌<ℤ◌, ◌≤ℤ◌, unsigned_abs, length, slice_index_or, arith, ap, refl, ◌∙◌}
+use Rattle.std.proofs.Common.{◌≡◌, ℕ, ◌+◌, ◌*◌, ◌≤◌, false, ℤ, pos, negsuc, neg_ℤ, ◌+ℤ◌, ◌-ℤ◌, ◌*ℤ◌, ◌<ℤ◌, ◌≤ℤ◌, unsigned_abs, arith, ap, refl, ◌∙◌}
 use Rattle.std.proofs.lemmas.Int.{ints}
 use Rattle.std.proofs.lemmas.Nat.{mul-le}
 use Rattle.std.proofs.Math.IntN.{*ℤ_comm}
 use borrow.Author.Differences.{up, down, product_is}
 use Rattle.abuf_raster.specs.declared.point.Point.{Point}
-use Rattle.abuf_raster.specs.declared.pattern.Pattern.{Pattern}
 use Rattle.abuf_raster.specs.Edge.{edge_function}
 use Rattle.abuf_raster.specs.Triangle.{Triangle}
-use Rattle.abuf_raster.specs.Samples.{sample_place, offsets_of, reach_of}
 use Rattle.abuf_raster.specs.BoundingBox.{IsBefore, IsBehind}
-use Rattle.abuf_raster.specs.Coverage.{accepts, all_accept, mask}
+use Rattle.abuf_raster.specs.Coverage.{all_accept}
 use Rattle.abuf_raster.proofs.Ring.{mul_add, add_mul, neg_mul, mul_neg}
 use Rattle.abuf_raster.proofs.Linear.{E_sum}
-use Rattle.abuf_raster.proofs.Means.{both_true, accepts_not_negative}
-use Rattle.abuf_raster.proofs.Changes.{not_true, covers_positive, offset_near, sixteenth}
-use Rattle.abuf_raster.proofs.Blocks.{mask_uncovered}
+use Rattle.abuf_raster.proofs.Means.{weights}
+use Rattle.abuf_raster.proofs.Changes.{not_true}
 
 -- ---- products of three
 
@@ -35,7 +32,7 @@ triple x y z = omega (
 )
 
 -- Three factors, the last two exchanged.
-turned : (x y z : ℤ) → (x *ℤ y) *ℤ z ≡ (x *ℤ z) *ℤ y
+pub turned : (x y z : ℤ) → (x *ℤ y) *ℤ z ≡ (x *ℤ z) *ℤ y
 turned x y z = ap (λ (w : ℤ). w *ℤ z) (*ℤ_comm x y) ∙ (triple y x z ∙ ap (λ (w : ℤ). w *ℤ y) (*ℤ_comm z x))
 
 -- ---- the three edge functions weigh the corners to the sample
@@ -79,8 +76,12 @@ none_down a v b w c z =
     let k = turned a z w in
     omega (arith, ints, p, q, r, i, j, k)
 
--- The edge functions at a sample weigh the corners to it: the x.
-weighs_x : (a b c s : Point) → edge_function b c s *ℤ (a.x -ℤ s.x) +ℤ edge_function c a s *ℤ (b.x -ℤ s.x) +ℤ edge_function a b s *ℤ (c.x -ℤ s.x) ≡ pos 0
+-- The edge functions at a sample weigh a coordinate of the corners to that of the sample.
+abbrev pub Weighs : (Point → ℤ) → Type 0
+Weighs f = (a b c s : Point) → edge_function b c s *ℤ (f a -ℤ f s) +ℤ edge_function c a s *ℤ (f b -ℤ f s) +ℤ edge_function a b s *ℤ (f c -ℤ f s) ≡ pos 0
+
+-- They do so with the x.
+pub weighs_x : Weighs (λ p. p.x)
 weighs_x a b c s =
     let p = E_cross b c s in
     let q = E_cross c a s in
@@ -88,12 +89,18 @@ weighs_x a b c s =
     (λ i. p i *ℤ (a.x -ℤ s.x) +ℤ q i *ℤ (b.x -ℤ s.x) +ℤ r i *ℤ (c.x -ℤ s.x)) ∙ none_across (a.x -ℤ s.x) (a.y -ℤ s.y) (b.x -ℤ s.x) (b.y -ℤ s.y) (c.x -ℤ s.x) (c.y -ℤ s.y)
 
 -- And the y.
-weighs_y : (a b c s : Point) → edge_function b c s *ℤ (a.y -ℤ s.y) +ℤ edge_function c a s *ℤ (b.y -ℤ s.y) +ℤ edge_function a b s *ℤ (c.y -ℤ s.y) ≡ pos 0
+pub weighs_y : Weighs (λ p. p.y)
 weighs_y a b c s =
     let p = E_cross b c s in
     let q = E_cross c a s in
     let r = E_cross a b s in
     (λ i. p i *ℤ (a.y -ℤ s.y) +ℤ q i *ℤ (b.y -ℤ s.y) +ℤ r i *ℤ (c.y -ℤ s.y)) ∙ none_down (a.x -ℤ s.x) (a.y -ℤ s.y) (b.x -ℤ s.x) (b.y -ℤ s.y) (c.x -ℤ s.x) (c.y -ℤ s.y)
+
+-- The same of a coordinate that runs the other way.
+pub weighs_back : (f : Point → ℤ) → Weighs f → Weighs (λ p. neg_ℤ (f p))
+weighs_back f weighs a b c s = omega (arith, ints, weighs a b c s, back (edge_function b c s) (f a) (f s), back (edge_function c a s) (f b) (f s), back (edge_function a b s) (f c) (f s)) where
+  back : (e u v : ℤ) → e *ℤ (neg_ℤ u -ℤ neg_ℤ v) ≡ neg_ℤ (e *ℤ (u -ℤ v))
+  back e u v = simp (mul_add, mul_neg) (omega (arith, ints))
 
 -- ---- so not all three are on one side of it
 
@@ -111,79 +118,18 @@ some_side (pos e) (pos f) (pos g) (pos u) (pos v) (pos w) he hf hg s hu hv hw z 
     let r = mul-le g 1 g w (omega arith) (omega (arith, ints)) in
     omega (arith, ints)
 
--- Nor three numbers below 0.
-other_side : (e f g u v w : ℤ) → pos 0 ≤ℤ e → pos 0 ≤ℤ f → pos 0 ≤ℤ g → pos 0 <ℤ (e +ℤ f +ℤ g) → u <ℤ pos 0 → v <ℤ pos 0 → w <ℤ pos 0 → e *ℤ u +ℤ f *ℤ v +ℤ g *ℤ w ≡ pos 0 → ⊥
-other_side e f g u v w he hf hg s hu hv hw z =
-    some_side e f g (neg_ℤ u) (neg_ℤ v) (neg_ℤ w) he hf hg s (omega (arith, ints)) (omega (arith, ints)) (omega (arith, ints))
-    (let p = mul_neg e u in let q = mul_neg f v in let r = mul_neg g w in omega (arith, ints, p, q, r))
-
-module _ (t : Triangle) (s : Point) (positive : pos 0 <ℤ edge_function t.a t.b t.c) where
-  -- The three edge functions at a sample are the area in sum, which is above 0.
-  sum_positive : pos 0 <ℤ (edge_function t.b t.c s +ℤ edge_function t.c t.a s +ℤ edge_function t.a t.b s)
-  sum_positive = rw (E_sum t.a t.b t.c s) positive
-
-  -- Where the three edges accept, no edge function is below 0.
-  split : all_accept t.a t.b t.c s ≡ true → (pos 0 ≤ℤ edge_function t.b t.c s) × (pos 0 ≤ℤ edge_function t.c t.a s) × (pos 0 ≤ℤ edge_function t.a t.b s)
-  split h =
-      let one = both_true (accepts t.a t.b s && accepts t.b t.c s) (accepts t.c t.a s) h in
-      let two = both_true (accepts t.a t.b s) (accepts t.b t.c s) one.0 in
-      (accepts_not_negative t.b t.c s two.1, accepts_not_negative t.c t.a s one.1, accepts_not_negative t.a t.b s two.0)
-
-  -- A sample to the left of all corners is not accepted.
-  left_of : s.x <ℤ t.a.x → s.x <ℤ t.b.x → s.x <ℤ t.c.x → all_accept t.a t.b t.c s ≡ false
-  left_of ha hb hc = not_true _ (λ h. let e = split h in some_side _ _ _ (t.a.x -ℤ s.x) (t.b.x -ℤ s.x) (t.c.x -ℤ s.x) e.0 e.1 e.2 sum_positive (omega (arith, ints)) (omega (arith, ints)) (omega (arith, ints)) (weighs_x t.a t.b t.c s))
-
-  -- Nor one to their right.
-  right_of : t.a.x <ℤ s.x → t.b.x <ℤ s.x → t.c.x <ℤ s.x → all_accept t.a t.b t.c s ≡ false
-  right_of ha hb hc = not_true _ (λ h. let e = split h in other_side _ _ _ (t.a.x -ℤ s.x) (t.b.x -ℤ s.x) (t.c.x -ℤ s.x) e.0 e.1 e.2 sum_positive (omega (arith, ints)) (omega (arith, ints)) (omega (arith, ints)) (weighs_x t.a t.b t.c s))
-
-  -- Nor one above them.
-  above : s.y <ℤ t.a.y → s.y <ℤ t.b.y → s.y <ℤ t.c.y → all_accept t.a t.b t.c s ≡ false
-  above ha hb hc = not_true _ (λ h. let e = split h in some_side _ _ _ (t.a.y -ℤ s.y) (t.b.y -ℤ s.y) (t.c.y -ℤ s.y) e.0 e.1 e.2 sum_positive (omega (arith, ints)) (omega (arith, ints)) (omega (arith, ints)) (weighs_y t.a t.b t.c s))
-
-  -- Nor one below them.
-  below : t.a.y <ℤ s.y → t.b.y <ℤ s.y → t.c.y <ℤ s.y → all_accept t.a t.b t.c s ≡ false
-  below ha hb hc = not_true _ (λ h. let e = split h in other_side _ _ _ (t.a.y -ℤ s.y) (t.b.y -ℤ s.y) (t.c.y -ℤ s.y) e.0 e.1 e.2 sum_positive (omega (arith, ints)) (omega (arith, ints)) (omega (arith, ints)) (weighs_y t.a t.b t.c s))
+-- Where a sample has less of a coordinate than each corner, the edges don't all accept it.
+pub beside : (f : Point → ℤ) → Weighs f → (t : Triangle) (s : Point) → pos 0 <ℤ edge_function t.a t.b t.c → f s <ℤ f t.a → f s <ℤ f t.b → f s <ℤ f t.c → all_accept t.a t.b t.c s ≡ false
+beside f weighs t s positive ha hb hc = not_true _ (λ h.
+    let e = weights t s h in
+    some_side _ _ _ (f t.a -ℤ f s) (f t.b -ℤ f s) (f t.c -ℤ f s) e.0 e.1 e.2 (rw (E_sum t.a t.b t.c s) positive) (omega (arith, ints)) (omega (arith, ints)) (omega (arith, ints)) (weighs t.a t.b t.c s))
 
 -- ---- pixels beside
 
 -- A sample of a pixel that lies before a coordinate lies before it.
-before_place : (i m : ℕ) (o u : ℤ) → IsBefore i (16 * m) u → unsigned_abs o ≤ 16 * m → (pos (256 * i + 128) +ℤ o) <ℤ u
+pub before_place : (i m : ℕ) (o u : ℤ) → IsBefore i (16 * m) u → unsigned_abs o ≤ 16 * m → (pos (256 * i + 128) +ℤ o) <ℤ u
 before_place i m o u h n = omega (arith, ints)
 
 -- And of one that lies after it, after it.
-behind_place : (i m : ℕ) (o u : ℤ) → IsBehind i (16 * m) u → unsigned_abs o ≤ 16 * m → u <ℤ (pos (256 * i + 128) +ℤ o)
+pub behind_place : (i m : ℕ) (o u : ℤ) → IsBehind i (16 * m) u → unsigned_abs o ≤ 16 * m → u <ℤ (pos (256 * i + 128) +ℤ o)
 behind_place i m o u h n = omega (arith, ints)
-
-module _ (t : Triangle) (p : Pattern) (positive : pos 0 <ℤ edge_function t.a t.b t.c) where
-  -- A pixel none of whose samples is accepted has the mask 0.
-  uncovered : (i j : ℕ) → ((k : ℕ) → k < length (offsets_of p) → all_accept t.a t.b t.c (sample_place (slice_index_or (offsets_of p) k (pos 0, pos 0)) i j) ≡ false) → mask t (offsets_of p) i j ≡ 0
-  uncovered i j h = mask_uncovered t (offsets_of p) i j (length (offsets_of p)) (λ k l. covers_positive t (sample_place (slice_index_or (offsets_of p) k (pos 0, pos 0)) i j) positive ∙ h k l)
-
-  -- A pixel to the left of all corners has the mask 0.
-  pub mask_left : (i j : ℕ) → IsBefore i (16 * reach_of p) t.a.x → IsBefore i (16 * reach_of p) t.b.x → IsBefore i (16 * reach_of p) t.c.x → mask t (offsets_of p) i j ≡ 0
-  mask_left i j ha hb hc = uncovered i j (λ k l.
-      let o : ℤ × ℤ = slice_index_or (offsets_of p) k (pos 0, pos 0) in
-      let n = sixteenth o.0 (reach_of p) (offset_near p k l).0 in
-      left_of t (sample_place o i j) positive (before_place i (reach_of p) (pos 16 *ℤ o.0) t.a.x ha n) (before_place i (reach_of p) (pos 16 *ℤ o.0) t.b.x hb n) (before_place i (reach_of p) (pos 16 *ℤ o.0) t.c.x hc n))
-
-  -- And one to their right.
-  pub mask_right : (i j : ℕ) → IsBehind i (16 * reach_of p) t.a.x → IsBehind i (16 * reach_of p) t.b.x → IsBehind i (16 * reach_of p) t.c.x → mask t (offsets_of p) i j ≡ 0
-  mask_right i j ha hb hc = uncovered i j (λ k l.
-      let o : ℤ × ℤ = slice_index_or (offsets_of p) k (pos 0, pos 0) in
-      let n = sixteenth o.0 (reach_of p) (offset_near p k l).0 in
-      right_of t (sample_place o i j) positive (behind_place i (reach_of p) (pos 16 *ℤ o.0) t.a.x ha n) (behind_place i (reach_of p) (pos 16 *ℤ o.0) t.b.x hb n) (behind_place i (reach_of p) (pos 16 *ℤ o.0) t.c.x hc n))
-
-  -- And one above them.
-  pub mask_above : (i j : ℕ) → IsBefore j (16 * reach_of p) t.a.y → IsBefore j (16 * reach_of p) t.b.y → IsBefore j (16 * reach_of p) t.c.y → mask t (offsets_of p) i j ≡ 0
-  mask_above i j ha hb hc = uncovered i j (λ k l.
-      let o : ℤ × ℤ = slice_index_or (offsets_of p) k (pos 0, pos 0) in
-      let n = sixteenth o.1 (reach_of p) (offset_near p k l).1 in
-      above t (sample_place o i j) positive (before_place j (reach_of p) (pos 16 *ℤ o.1) t.a.y ha n) (before_place j (reach_of p) (pos 16 *ℤ o.1) t.b.y hb n) (before_place j (reach_of p) (pos 16 *ℤ o.1) t.c.y hc n))
-
-  -- And one under them.
-  pub mask_under : (i j : ℕ) → IsBehind j (16 * reach_of p) t.a.y → IsBehind j (16 * reach_of p) t.b.y → IsBehind j (16 * reach_of p) t.c.y → mask t (offsets_of p) i j ≡ 0
-  mask_under i j ha hb hc = uncovered i j (λ k l.
-      let o : ℤ × ℤ = slice_index_or (offsets_of p) k (pos 0, pos 0) in
-      let n = sixteenth o.1 (reach_of p) (offset_near p k l).1 in
-      below t (sample_place o i j) positive (behind_place j (reach_of p) (pos 16 *ℤ o.1) t.a.y ha n) (behind_place j (reach_of p) (pos 16 *ℤ o.1) t.b.y hb n) (behind_place j (reach_of p) (pos 16 *ℤ o.1) t.c.y hc n))

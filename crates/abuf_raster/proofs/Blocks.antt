@@ -11,14 +11,17 @@ use Rattle.abuf_raster.specs.Walk.{hit_of, pixel_hit, row_hits, block_hits, full
 
 -- ---- one more
 
--- A range with one number more ends with it.
-range_suc : (a n : ℕ) → range_with_len a (suc n) ≡ range_with_len a n ++ (a + n) ∷ []
-range_suc a zero = ap (λ (x : ℕ). x ∷ []) (omega arith)
-range_suc a (suc n) = ap (λ (xs : List ℕ). a ∷ xs) (range_suc (a + 1) n ∙ ap (λ (x : ℕ). range_with_len (a + 1) n ++ x ∷ []) (omega arith))
+-- A range is two ranges, one after the other.
+pub range_cut : (a m n : ℕ) → range_with_len a m ++ range_with_len (a + m) n ≡ range_with_len a (m + n)
+range_cut a zero n = let e : a + 0 ≡ a = omega arith in let z : 0 + n ≡ n = omega arith in ap (λ (b : ℕ). range_with_len b n) e ∙ ap (range_with_len a) (sym z)
+range_cut a (suc m) n =
+    let e : a + suc m ≡ a + 1 + m = omega arith in
+    let s : suc m + n ≡ suc (m + n) = omega arith in
+    ap (λ (b : ℕ). a ∷ (range_with_len (a + 1) m ++ range_with_len b n)) e ∙ (ap (λ (xs : List ℕ). a ∷ xs) (range_cut (a + 1) m n) ∙ ap (range_with_len a) (sym s))
 
--- The same, with the number put last.
+-- A range with one number more ends with it.
 pub range_more : (a n : ℕ) → range_with_len a (n + 1) ≡ range_with_len a n ++ (a + n) ∷ []
-range_more a n = let e : n + 1 ≡ suc n = omega arith in ap (range_with_len a) e ∙ range_suc a n
+range_more a n = sym (range_cut a n 1)
 
 -- Of one item there is what is found of it.
 one_found : (f : ℕ → Option Hit) (x : ℕ) → filter_map f (x ∷ []) ≡ found (f x)
@@ -31,11 +34,13 @@ module _ (t : Triangle) (n : ℕ) (os : List (ℤ × ℤ)) where
       ap (filter_map (pixel_hit t n os y)) (range_more x c)
       ∙ (filter_map-append (pixel_hit t n os y) (range_with_len x c) ((x + c) ∷ []) ∙ ap (λ (hs : List Hit). row_hits t n os x c y ++ hs) (one_found (pixel_hit t n os y) (x + c)))
 
+  -- A block is two blocks, one under the other.
+  pub block_cut : (x w y m k : ℕ) → block_hits t n os x w y (m + k) ≡ block_hits t n os x w y m ++ block_hits t n os x w (y + m) k
+  block_cut x w y m k = ap (flat_map (row_hits t n os x w)) (sym (range_cut y m k)) ∙ flat_map-append (row_hits t n os x w) (range_with_len y m) (range_with_len (y + m) k)
+
   -- A block with one row more has the hits of that row last.
   pub block_more : (x w y c : ℕ) → block_hits t n os x w y (c + 1) ≡ block_hits t n os x w y c ++ row_hits t n os x w (y + c)
-  block_more x w y c =
-      ap (flat_map (row_hits t n os x w)) (range_more y c)
-      ∙ (flat_map-append (row_hits t n os x w) (range_with_len y c) ((y + c) ∷ []) ∙ ap (λ (hs : List Hit). block_hits t n os x w y c ++ hs) (append-nil (row_hits t n os x w (y + c))))
+  block_more x w y c = block_cut x w y c 1 ∙ ap (λ (hs : List Hit). block_hits t n os x w y c ++ hs) (append-nil (row_hits t n os x w (y + c)))
 
 -- The same of a row whose pixels all have one mask.
 pub full_row_more : (n m x c y : ℕ) → full_row n m x (c + 1) y ≡ full_row n m x c y ++ (record { x = x + c; y = y; fragment = record { prim = n; mask = m } }) ∷ []

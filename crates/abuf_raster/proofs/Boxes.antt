@@ -1,8 +1,7 @@
 -- The hits in a region are those in a box round the triangle.
 use Rattle.std.proofs.Common.{◌≡◌, ℕ, zero, suc, ◌+◌, ◌-◌, ◌*◌, ◌<◌, ◌≤◌, ℤ, List, [], ◌++◌, arith, ap, ap₂, refl, sym, ◌∙◌, subst, append-nil, ◌⊎◌, inl, inr, mul_comm, min, IsPermutation}
-use Rattle.std.specs.List.{filter_map, flat_map, range_with_len, cons_option}
+use Rattle.std.specs.List.{filter_map, range_with_len, cons_option}
 use Rattle.std.proofs.lemmas.List.Elements.{filter_map-append}
-use Rattle.std.proofs.lemmas.List.Concat.{flat_map-append}
 use Rattle.std.proofs.lemmas.Nat.{div-mul-add, mod-mul-add}
 use Rattle.std.proofs.lemmas.Bool.{cases_lt}
 use Rattle.abuf_raster.specs.declared.region.Hit.{Hit}
@@ -11,8 +10,8 @@ use Rattle.abuf_raster.specs.Triangle.{Triangle}
 use Rattle.abuf_raster.specs.Coverage.{mask}
 use Rattle.abuf_raster.specs.Hits.{hit_at, hits}
 use Rattle.abuf_raster.specs.Walk.{hit_of, pixel_hit, row_hits, block_hits, left_hits, band_hits, bands_hits}
-use Rattle.abuf_raster.proofs.Blocks.{row_none, block_none}
-use Rattle.abuf_raster.proofs.Pieces.{range_cut, row_cut, bands_step, bands_all}
+use Rattle.abuf_raster.proofs.Blocks.{range_cut, block_cut, row_none, block_none}
+use Rattle.abuf_raster.proofs.Pieces.{row_cut, bands_step, bands_all}
 use Rattle.std.proofs.lemmas.List.Sorted.{IsPermutation-refl}
 
 module _ (t : Triangle) (n : ℕ) (os : List (ℤ × ℤ)) (r : Region) (some : 0 < r.w) where
@@ -76,10 +75,6 @@ module _ (t : Triangle) (n : ℕ) (os : List (ℤ × ℤ)) (x w a b : ℕ) (low 
       ap₂ (λ (xs ys : List Hit). xs ++ ys) (row_within y (λ i l g. before i y l g (omega arith) (omega arith)) (λ i l g. behind i y l g (omega arith) (omega arith)))
       (rows_within (y + 1) h (λ i j l g p q. before i j l g (omega arith) (omega arith)) (λ i j l g p q. behind i j l g (omega arith) (omega arith)))
 
-  -- A block is two blocks, one under the other.
-  block_cut : (y m k : ℕ) → block_hits t n os x w y (m + k) ≡ block_hits t n os x w y m ++ block_hits t n os x w (y + m) k
-  block_cut y m k = ap (flat_map (row_hits t n os x w)) (sym (range_cut y m k)) ∙ flat_map-append (row_hits t n os x w) (range_with_len y m) (range_with_len (y + m) k)
-
   -- a block, without what has no hits
   pub block_within : (y h c d : ℕ) → y ≤ c → c ≤ d → d ≤ y + h
       → ((i j : ℕ) → x ≤ i → i < a → y ≤ j → j < y + h → mask t os i j ≡ 0)
@@ -95,10 +90,10 @@ module _ (t : Triangle) (n : ℕ) (os : List (ℤ × ℤ)) (x w a b : ℕ) (low 
       let last = block_none t n os x w d (y + h - d) (λ i j l g m k. under i j l g m (omega arith)) in
       let middle = rows_within c (d - c) (λ i j l g m k. left i j l g (omega arith) (omega arith)) (λ i j l g m k. right i j l g (omega arith) (omega arith)) in
       ap (λ (k : ℕ). block_hits t n os x w y k) e
-      ∙ (block_cut y (c - y) (d - c + (y + h - d))
+      ∙ (block_cut t n os x w y (c - y) (d - c + (y + h - d))
       ∙ (ap₂ (λ (xs ys : List Hit). xs ++ ys) first
       (ap (λ (k : ℕ). block_hits t n os x w k (d - c + (y + h - d))) p
-      ∙ (block_cut c (d - c) (y + h - d) ∙ (ap₂ (λ (xs ys : List Hit). xs ++ ys) middle (ap (λ (k : ℕ). block_hits t n os x w k (y + h - d)) q ∙ last) ∙ append-nil (block_hits t n os a (b - a) c (d - c)))))))
+      ∙ (block_cut t n os x w c (d - c) (y + h - d) ∙ (ap₂ (λ (xs ys : List Hit). xs ++ ys) middle (ap (λ (k : ℕ). block_hits t n os x w k (y + h - d)) q ∙ last) ∙ append-nil (block_hits t n os a (b - a) c (d - c)))))))
 
 -- ---- the tiles of a box
 

@@ -10,14 +10,18 @@ use Rattle.abuf_raster.specs.Edge.{edge_function, is_left_edge, is_top_edge}
 use Rattle.abuf_raster.specs.Triangle.{Triangle, IsWithin, AreWithin}
 use Rattle.abuf_raster.specs.Samples.{sample_place, pixel_centre, offsets_of, reach_of}
 use Rattle.abuf_raster.specs.Coverage.{mask, accepts, all_accept, covers, covers_sample, mask_below}
-use Rattle.abuf_raster.specs.Values.{edge_value, edge_change, rising, falling, edge_rise, edge_fall, Numbers, values_at, changes, rises, falls, plus_all, none_below, AreUp, AreAtMost, IsRoomFor, sample_changes, at_sample, mask_of_values, mask_of_values_below, FitsSamples}
-use Rattle.abuf_raster.specs.Setup.{AreBetween}
+use Rattle.abuf_raster.specs.Values.{edge_value, edge_change, one_way, edge_farthest, Numbers, values_at, changes, farthest, plus_all, none_below, AreUp, AreAtMost, IsRoomFor, sample_changes, at_sample, mask_of_values, mask_of_values_below, FitsSamples}
+use Rattle.abuf_raster.specs.declared.tile.Tile.{Tile}
+use Rattle.abuf_raster.specs.Setup.{AreBetween, highest, lowest}
+use Rattle.abuf_raster.specs.Walk.{IsTile, block_hits, full_hits}
+use Rattle.abuf_raster.proofs.Blocks.{block_none, block_full}
 use Rattle.std.proofs.lemmas.Nat.{mul-le}
 use Rattle.std.proofs.lemmas.Bool.{cases_lt}
 use Rattle.abuf_raster.proofs.Bounds.{abs-add, abs-mul}
 use Rattle.abuf_raster.proofs.Ring.{neg_mul}
 use Rattle.abuf_raster.proofs.Linear.{E_from}
-use Rattle.abuf_raster.proofs.Means.{both_true}
+use Rattle.std.proofs.lemmas.Bool.{and_parts}
+use Rattle.abuf_raster.proofs.Masks.{offsets_some}
 use Rattle.abuf_raster.proofs.Rooms.{value_room, lt_true, lt_false, rising_pos, falling_pos, change_room}
 
 -- ---- from place to place
@@ -38,14 +42,6 @@ value_stepped a b s z x y ex ey =
 -- The same of three edges.
 pub values_stepped : (t : Triangle) (s z : Point) (x y : ℤ) → z.x ≡ s.x +ℤ x → z.y ≡ s.y +ℤ y → plus_all (values_at t s) (changes t x y) ≡ values_at t z
 values_stepped t s z x y ex ey = λ i. record { ab = value_stepped t.a t.b s z x y ex ey i; bc = value_stepped t.b t.c s z x y ex ey i; ca = value_stepped t.c t.a s z x y ex ey i }
-
--- The values at the next pixel to the right.
-pub values_right : (t : Triangle) (x y : ℕ) → plus_all (values_at t (pixel_centre x y)) (changes t (pos 256) (pos 0)) ≡ values_at t (pixel_centre (x + 1) y)
-values_right t x y = values_stepped t (pixel_centre x y) (pixel_centre (x + 1) y) (pos 256) (pos 0) (omega (arith, ints)) (omega (arith, ints))
-
--- And at the next one below.
-pub values_down : (t : Triangle) (x y : ℕ) → plus_all (values_at t (pixel_centre x y)) (changes t (pos 0) (pos 256)) ≡ values_at t (pixel_centre x (y + 1))
-values_down t x y = values_stepped t (pixel_centre x y) (pixel_centre x (y + 1)) (pos 0) (pos 256) (omega (arith, ints)) (omega (arith, ints))
 
 -- The values at a sample of a pixel, from those at its centre.
 pub values_sample : (t : Triangle) (os : List (ℤ × ℤ)) (x y k : ℕ) → at_sample t os (values_at t (pixel_centre x y)) k ≡ values_at t (sample_place (slice_index_or os k (pos 0, pos 0)) x y)
@@ -130,8 +126,8 @@ not_below x y h e = go (int_lt x (pos 0)) (int_lt y (pos 0)) refl refl where
 -- Three tests pass where three stricter ones pass.
 all_three : (u v w x y z : Bool) → (u ≡ true → x ≡ true) → (v ≡ true → y ≡ true) → (w ≡ true → z ≡ true) → (u && v && w) ≡ true → (x && y && z) ≡ true
 all_three u v w x y z f g h e =
-    let a = both_true (u && v) w e in
-    let b = both_true u v a.0 in
+    let a = and_parts (u && v) w e in
+    let b = and_parts u v a.0 in
     rw (f b.0, g b.1, h a.1) refl
 
 -- Where none of the lesser is below 0, none of the greater is.
@@ -185,17 +181,13 @@ module _ (t : Triangle) (os : List (ℤ × ℤ)) (n m : Numbers) where
 
 -- ---- a tile whose first pixel is (x, y), and what its farthest pixels put to the values there
 
--- The values at a pixel of the tile, from those at its first.
-pub values_in_tile : (t : Triangle) (x y i j : ℕ) → plus_all (values_at t (pixel_centre x y)) (changes t (pos (256 * i)) (pos (256 * j))) ≡ values_at t (pixel_centre (x + i) (y + j))
-values_in_tile t x y i j = values_stepped t (pixel_centre x y) (pixel_centre (x + i) (y + j)) (pos (256 * i)) (pos (256 * j)) (omega (arith, ints)) (omega (arith, ints))
-
 -- A way within another rises by no more.
-rises_one : (z : ℤ) (i m : ℕ) → i ≤ m → (z *ℤ pos i) ≤ℤ (rising z *ℤ pos m)
+rises_one : (z : ℤ) (i m : ℕ) → i ≤ m → (z *ℤ pos i) ≤ℤ (one_way false z *ℤ pos m)
 rises_one (pos n) i m h = rw (rising_pos n) (let p = mul-le n i n m (omega arith) h in omega (arith, ints))
 rises_one (negsuc n) i m h = omega (arith, ints)
 
 -- And falls by no more.
-falls_one : (z : ℤ) (i m : ℕ) → i ≤ m → (falling z *ℤ pos m) ≤ℤ (z *ℤ pos i)
+falls_one : (z : ℤ) (i m : ℕ) → i ≤ m → (one_way true z *ℤ pos m) ≤ℤ (z *ℤ pos i)
 falls_one (pos n) i m h = rw (falling_pos n) (omega (arith, ints))
 falls_one (negsuc n) i m h = let p = mul-le (suc n) i (suc n) m (omega arith) h in omega (arith, ints)
 
@@ -205,43 +197,61 @@ sum_up p q u v h k = omega (arith, ints)
 
 module _ (t : Triangle) (w h i j : ℕ) (hi : i ≤ w) (hj : j ≤ h) where
   -- An edge changes within the tile by no more than it rises.
-  up_edge : (a b : Point) → edge_change a b (pos (256 * i)) (pos (256 * j)) ≤ℤ edge_rise a b w h
+  up_edge : (a b : Point) → edge_change a b (pos (256 * i)) (pos (256 * j)) ≤ℤ edge_farthest false a b w h
   up_edge a b = sum_up _ _ _ _ (rises_one (b.x -ℤ a.x) (256 * j) (256 * h) (omega arith)) (rises_one (a.y -ℤ b.y) (256 * i) (256 * w) (omega arith))
 
   -- And by no less than it falls.
-  down_edge : (a b : Point) → edge_fall a b w h ≤ℤ edge_change a b (pos (256 * i)) (pos (256 * j))
+  down_edge : (a b : Point) → edge_farthest true a b w h ≤ℤ edge_change a b (pos (256 * i)) (pos (256 * j))
   down_edge a b = sum_up _ _ _ _ (falls_one (b.x -ℤ a.x) (256 * j) (256 * h) (omega arith)) (falls_one (a.y -ℤ b.y) (256 * i) (256 * w) (omega arith))
 
   -- The same of the three edges: they rise.
-  pub up_rises : AreUp (changes t (pos (256 * i)) (pos (256 * j))) (rises t w h)
+  pub up_rises : AreUp (changes t (pos (256 * i)) (pos (256 * j))) (farthest false t w h)
   up_rises = record { ab = up_edge t.a t.b; bc = up_edge t.b t.c; ca = up_edge t.c t.a }
 
   -- And fall.
-  pub falls_up : AreUp (falls t w h) (changes t (pos (256 * i)) (pos (256 * j)))
+  pub falls_up : AreUp (farthest true t w h) (changes t (pos (256 * i)) (pos (256 * j)))
   falls_up = record { ab = down_edge t.a t.b; bc = down_edge t.b t.c; ca = down_edge t.c t.a }
 
 module _ (t : Triangle) (os : List (ℤ × ℤ)) (x y w h : ℕ) (m : Numbers) (positive : pos 0 <ℤ edge_function t.a t.b t.c) where
   -- The values at a pixel of the tile, by its own place.
   to_pixel : (i j : ℕ) → x ≤ i → y ≤ j → plus_all (values_at t (pixel_centre x y)) (changes t (pos (256 * (i - x))) (pos (256 * (j - y)))) ≡ values_at t (pixel_centre i j)
-  to_pixel i j xi yj = values_in_tile t x y (i - x) (j - y) ∙ ap₂ (λ (k l : ℕ). values_at t (pixel_centre k l)) (omega arith) (omega arith)
+  to_pixel i j xi yj = values_stepped t (pixel_centre x y) (pixel_centre i j) (pos (256 * (i - x))) (pos (256 * (j - y))) (omega (arith, ints)) (omega (arith, ints))
 
   -- no pixel of the tile, where an edge accepts nothing in it
-  pub tile_outside : ((k : ℕ) → k < length os → AreUp (sample_changes t os k) m) → none_below (plus_all (plus_all (values_at t (pixel_centre x y)) (rises t w h)) m) ≡ false
+  pub tile_outside : ((k : ℕ) → k < length os → AreUp (sample_changes t os k) m) → none_below (plus_all (plus_all (values_at t (pixel_centre x y)) (farthest false t w h)) m) ≡ false
       → (i j : ℕ) → x ≤ i → i ≤ x + w → y ≤ j → j ≤ y + h → mask t os i j ≡ 0
   tile_outside up e i j xi ix yj jy =
       let first = values_at t (pixel_centre x y) in
       let here = values_at t (pixel_centre i j) in
-      let u : AreUp here (plus_all first (rises t w h)) = subst (λ (n : Numbers). AreUp n (plus_all first (rises t w h))) (to_pixel i j xi yj) (plus_up first _ (rises t w h) (up_rises t w h (i - x) (j - y) (omega arith) (omega arith))) in
-      sym (mask_values t os i j positive (length os)) ∙ mask_outside t os here m up (below_down (plus_all here m) (plus_all (plus_all first (rises t w h)) m) (up_plus m here (plus_all first (rises t w h)) u) e)
+      let u : AreUp here (plus_all first (farthest false t w h)) = subst (λ (n : Numbers). AreUp n (plus_all first (farthest false t w h))) (to_pixel i j xi yj) (plus_up first _ (farthest false t w h) (up_rises t w h (i - x) (j - y) (omega arith) (omega arith))) in
+      sym (mask_values t os i j positive (length os)) ∙ mask_outside t os here m up (below_down (plus_all here m) (plus_all (plus_all first (farthest false t w h)) m) (up_plus m here (plus_all first (farthest false t w h)) u) e)
 
   -- all of it, where the three edges accept everything in it
-  pub tile_inside : ((k : ℕ) → k < length os → AreUp m (sample_changes t os k)) → none_below (plus_all (plus_all (values_at t (pixel_centre x y)) (falls t w h)) m) ≡ true
+  pub tile_inside : ((k : ℕ) → k < length os → AreUp m (sample_changes t os k)) → none_below (plus_all (plus_all (values_at t (pixel_centre x y)) (farthest true t w h)) m) ≡ true
       → (i j : ℕ) → x ≤ i → i ≤ x + w → y ≤ j → j ≤ y + h → mask t os i j ≡ 2 ^ length os - 1
   tile_inside up e i j xi ix yj jy =
       let first = values_at t (pixel_centre x y) in
       let here = values_at t (pixel_centre i j) in
-      let u : AreUp (plus_all first (falls t w h)) here = subst (λ (n : Numbers). AreUp (plus_all first (falls t w h)) n) (to_pixel i j xi yj) (plus_up first (falls t w h) _ (falls_up t w h (i - x) (j - y) (omega arith) (omega arith))) in
-      sym (mask_values t os i j positive (length os)) ∙ mask_inside t os here m up (up_none_below (plus_all (plus_all first (falls t w h)) m) (plus_all here m) (up_plus m (plus_all first (falls t w h)) here u) e)
+      let u : AreUp (plus_all first (farthest true t w h)) here = subst (λ (n : Numbers). AreUp (plus_all first (farthest true t w h)) n) (to_pixel i j xi yj) (plus_up first (farthest true t w h) _ (falls_up t w h (i - x) (j - y) (omega arith) (omega arith))) in
+      sym (mask_values t os i j positive (length os)) ∙ mask_inside t os here m up (up_none_below (plus_all (plus_all first (farthest true t w h)) m) (plus_all here m) (up_plus m (plus_all first (farthest true t w h)) here u) e)
+
+-- What is not so is false.
+of_not : (v : Bool) → not v ≡ true → v ≡ false
+of_not true e = sym e
+of_not false e = refl
+
+module _ (t : Triangle) (n : ℕ) (os : List (ℤ × ℤ)) (b : Tile) (start m : Numbers) (positive : pos 0 <ℤ edge_function t.a t.b t.c) (is : IsTile b) (e : start ≡ values_at t (pixel_centre b.x b.y)) where
+  -- A tile that is rejected has no hits.
+  pub rejected : ((k : ℕ) → k < length os → AreUp (sample_changes t os k) m) → not (none_below (highest t start b m)) ≡ true → block_hits t n os b.x b.w b.y b.h ≡ []
+  rejected up never =
+      let none = subst (λ (v : Numbers). none_below (highest t v b m) ≡ false) e (of_not _ never) in
+      block_none t n os b.x b.w b.y b.h (λ i j xl xg yl yg. tile_outside t os b.x b.y (b.w - 1) (b.h - 1) m positive up none i j xl (omega (arith, is.w_some)) yl (omega (arith, is.h_some)))
+
+  -- One that is accepted has those of its pixels, all of one mask.
+  pub fully_accepted : ((k : ℕ) → k < length os → AreUp m (sample_changes t os k)) → none_below (lowest t start b m) ≡ true → 0 < 2 ^ length os - 1 → full_hits n (2 ^ length os - 1) b.x b.w b.y b.h ≡ block_hits t n os b.x b.w b.y b.h
+  fully_accepted up ever some =
+      let all = subst (λ (v : Numbers). none_below (lowest t v b m) ≡ true) e ever in
+      block_full t n os b.x b.w (2 ^ length os - 1) some b.y b.h (λ i j xl xg yl yg. tile_inside t os b.x b.y (b.w - 1) (b.h - 1) m positive up all i j xl (omega (arith, is.w_some)) yl (omega (arith, is.h_some)))
 
 -- ---- room for the values of the samples of a pixel
 
@@ -260,6 +270,24 @@ values_small r t s wide near h = (value_room r t.a t.b s wide near.0 near.1 h, v
 -- The centre of a pixel is within reach.
 pub centre_near : (r x y : ℕ) → 2 ^ 22 ≤ r → x ≤ 4200 → y ≤ 4200 → IsWithin r (pixel_centre x y)
 centre_near r x y wide hx hy = (omega (arith, ints), omega (arith, ints))
+
+-- the values at the next pixel
+module _ (r : ℕ) (t : Triangle) (x y i : ℕ) (n d : Numbers) where
+  -- A step to the right, in a row of pixels from (x, y) on.
+  pub step_right : n ≡ values_at t (pixel_centre (x + i) y) → d ≡ changes t (pos 256) (pos 0) → plus_all n d ≡ values_at t (pixel_centre (x + (i + 1)) y)
+  step_right e f = ap₂ plus_all e f ∙ values_stepped t (pixel_centre (x + i) y) (pixel_centre (x + (i + 1)) y) (pos 256) (pos 0) (omega (arith, ints)) (omega (arith, ints))
+
+  -- A width has room for it.
+  pub room_right : n ≡ values_at t (pixel_centre (x + i) y) → d ≡ changes t (pos 256) (pos 0) → 2 ^ 22 ≤ r → AreWithin r t → x + i < 4200 → y ≤ 4200 → IsRoomFor r (plus_all n d)
+  room_right e f wide near hx hy = subst (IsRoomFor r) (sym (step_right e f)) (values_room r t (pixel_centre (x + (i + 1)) y) wide near (centre_near r (x + (i + 1)) y wide (omega arith) hy))
+
+  -- And one down, in a column.
+  pub step_down : n ≡ values_at t (pixel_centre x (y + i)) → d ≡ changes t (pos 0) (pos 256) → plus_all n d ≡ values_at t (pixel_centre x (y + (i + 1)))
+  step_down e f = ap₂ plus_all e f ∙ values_stepped t (pixel_centre x (y + i)) (pixel_centre x (y + (i + 1))) (pos 0) (pos 256) (omega (arith, ints)) (omega (arith, ints))
+
+  -- A width has room for it.
+  pub room_down : n ≡ values_at t (pixel_centre x (y + i)) → d ≡ changes t (pos 0) (pos 256) → 2 ^ 22 ≤ r → AreWithin r t → x ≤ 4200 → y + i < 4200 → IsRoomFor r (plus_all n d)
+  room_down e f wide near hx hy = subst (IsRoomFor r) (sym (step_down e f)) (values_room r t (pixel_centre x (y + (i + 1))) wide near (centre_near r x (y + (i + 1)) wide hx (omega arith)))
 
 -- So is a place within half a pixel of it.
 place_near : (r x : ℕ) (z : ℤ) → 2 ^ 22 ≤ r → x ≤ 4200 → unsigned_abs z ≤ 128 → unsigned_abs (pos (256 * x + 128) +ℤ z) < r
@@ -296,16 +324,18 @@ sample_room r t p k wide near l =
     let y : unsigned_abs (pos 16 *ℤ o.1) ≤ 2 ^ 20 = omega (arith, m, sixteenth o.1 (reach_of p) n.1) in
     (change_room r t.a t.b _ _ wide near.0 near.1 x y, change_room r t.b t.c _ _ wide near.1 near.2 x y, change_room r t.c t.a _ _ wide near.2 near.0 x y)
 
-module _ (r : ℕ) (t : Triangle) (os : List (ℤ × ℤ)) where
-  -- of one sample
-  pub one_between : (c : Numbers) → c ≡ sample_changes t os 0 → AreAtMost (r * r) c → AreBetween r t os 1 c c
-  one_between c e small = record {
-    low = λ j l. let z : j ≡ 0 = omega arith in subst (λ (k : ℕ). AreUp c (sample_changes t os k)) (sym z) (up_same c (sample_changes t os 0) e);
-    high = λ j l. let z : j ≡ 0 = omega arith in subst (λ (k : ℕ). AreUp (sample_changes t os k) c) (sym z) (up_same (sample_changes t os 0) c (sym e));
-    least_small = small;
-    greatest_small = small;
-  }
+-- of the first sample
+pub one_between : (r : ℕ) (t : Triangle) (p : Pattern) (c : Numbers) → 2 ^ 22 ≤ r → AreWithin r t → c ≡ sample_changes t (offsets_of p) 0 → AreBetween r t (offsets_of p) 1 c c
+one_between r t p c wide near e = record {
+  low = λ j l. let z : j ≡ 0 = omega arith in subst (λ (k : ℕ). AreUp c (sample_changes t (offsets_of p) k)) (sym z) (up_same c (sample_changes t (offsets_of p) 0) e);
+  high = λ j l. let z : j ≡ 0 = omega arith in subst (λ (k : ℕ). AreUp (sample_changes t (offsets_of p) k) c) (sym z) (up_same (sample_changes t (offsets_of p) 0) c (sym e));
+  least_small = small;
+  greatest_small = small;
+} where
+  small : AreAtMost (r * r) c
+  small = subst (AreAtMost (r * r)) (sym e) (sample_room r t p 0 wide near (offsets_some p))
 
+module _ (r : ℕ) (t : Triangle) (os : List (ℤ × ℤ)) where
   -- of one sample more
   pub more_between : (k : ℕ) (m n c u v : Numbers) → AreBetween r t os k m n → c ≡ sample_changes t os k → AreUp u m → AreUp u c → AreUp n v → AreUp c v → AreAtMost (r * r) u → AreAtMost (r * r) v → AreBetween r t os (k + 1) u v
   more_between k m n c u v is e um uc nv cv us vs = record {

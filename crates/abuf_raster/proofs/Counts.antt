@@ -9,6 +9,7 @@ use Rattle.abuf_raster.specs.Coverage.{mask}
 use Rattle.abuf_raster.specs.Hits.{hits, hit_at}
 use Rattle.abuf_raster.specs.Walk.{hit_of, found, pixel_hit, row_hits, block_hits}
 use Rattle.abuf_raster.proofs.Blocks.{row_more, block_more}
+use Rattle.abuf_raster.proofs.Hits.{hits_few}
 
 -- ---- hits
 
@@ -29,21 +30,12 @@ module _ (t : Triangle) (n : ℕ) (os : List (ℤ × ℤ)) where
   pub block_count : (x w y c m k : ℕ) → length (block_hits t n os x w y c) ≤ m → length (row_hits t n os x w (y + c)) ≤ k → length (block_hits t n os x w y (c + 1)) ≤ m + k
   block_count x w y c m k h i = rw (block_more t n os x w y c) (omega (arith, length-append (block_hits t n os x w y c) (row_hits t n os x w (y + c)), h, i))
 
-  -- no more hits than pixels
-  row_few : (x c y : ℕ) → length (row_hits t n os x c y) ≤ c
-  row_few x zero y = omega arith
-  row_few x (suc c) y =
-      let e : suc c ≡ c + 1 = omega arith in
-      let m : length (row_hits t n os x (c + 1) y) ≤ c + 1 =
-      rw (row_more t n os x c y) (omega (arith, length-append (row_hits t n os x c y) (found (pixel_hit t n os y (x + c))), found_few (pixel_hit t n os y (x + c)), row_few x c y)) in
-      omega (arith, m, ap (λ (k : ℕ). length (row_hits t n os x k y)) e)
-
-  -- The same of a block.
+  -- No more hits than pixels.
   pub block_few : (x w y h : ℕ) → length (block_hits t n os x w y h) ≤ w * h
   block_few x w y zero = omega arith
   block_few x w y (suc h) =
       let e : suc h ≡ h + 1 = omega arith in
-      let m = block_count x w y h (w * h) w (block_few x w y h) (row_few x w (y + h)) in
+      let m = block_count x w y h (w * h) w (block_few x w y h) (hits_few (pixel_hit t n os (y + h)) w x) in
       omega (arith, m, ap (λ (k : ℕ). length (block_hits t n os x w y k)) e)
 
 -- as many hits whatever the number of the triangle

@@ -10,14 +10,13 @@ use Rattle.abuf_raster.specs.Hits.{hit_at, IsHitIn}
 use Rattle.abuf_raster.specs.Region.{Region, IsRegion}
 use Rattle.abuf_raster.proofs.Masks.{mask_small}
 
-module _ (t : Triangle) (n : ℕ) (os : List (ℤ × ℤ)) (r : Region) where
-  -- There are no more hits than places.
-  pub hits_few : (count p : ℕ) → length (filter_map (hit_at t n os r) (range_with_len p count)) ≤ count
-  hits_few zero p = omega arith
-  hits_few (suc count) p = go (hits_few count (p + 1)) (hit_at t n os r p) refl where
-    go : length (filter_map (hit_at t n os r) (range_with_len (p + 1) count)) ≤ count → (o : Option Hit) → o ≡ hit_at t n os r p → length (cons_option (hit_at t n os r p) (filter_map (hit_at t n os r) (range_with_len (p + 1) count))) ≤ suc count
-    go k None e = rw (← e) (omega arith)
-    go k (Some g) e = rw (← e) (omega arith)
+-- There are no more hits than places.
+pub hits_few : (f : ℕ → Option Hit) (count p : ℕ) → length (filter_map f (range_with_len p count)) ≤ count
+hits_few f zero p = omega arith
+hits_few f (suc count) p = elim (f p) as (λ (o : Option Hit). length (cons_option o (filter_map f (range_with_len (p + 1) count))) ≤ suc count) [
+  | None ↦ omega (arith, hits_few f count (p + 1))
+  | Some h ↦ omega (arith, hits_few f count (p + 1))
+]
 
 module _ (t : Triangle) (n : ℕ) (os : List (ℤ × ℤ)) (r : Region) (n_small : n < 2 ^ 24) (few : length os ≤ 16) (is : IsRegion r) where
   -- the hit at a place of the region is in it

@@ -1,22 +1,19 @@
 -- Depth keys and their bounds from a plane's coefficients.
-use Rattle.std.proofs.Common.{◌≡◌, ℕ, ◌+◌, ◌-◌, ◌*◌, ◌/◌, ◌^◌, ◌<◌, ◌≤◌, min, ℤ, pos, negsuc, ◌+ℤ◌, ◌-ℤ◌, ◌*ℤ◌, ◌<ℤ◌, ◌≤ℤ◌, unsigned_abs, true, length, slice_index_or, Option, Some, IfSome, w64, arith, ap, ap₂, refl, sym, subst, ◌∙◌}
+use Rattle.std.proofs.Common.{◌≡◌, ℕ, ◌+◌, ◌-◌, ◌*◌, ◌/◌, ◌^◌, ◌<◌, ◌≤◌, min, ℤ, pos, negsuc, ◌+ℤ◌, ◌-ℤ◌, ◌*ℤ◌, ◌<ℤ◌, ◌≤ℤ◌, unsigned_abs, true, Option, Some, IfSome, w64, arith, ap, ap₂, refl, sym, subst, ◌∙◌}
 use Rattle.std.specs.Int.{int_wrap}
 use Rattle.std.proofs.lemmas.Int.{ints, int_wrap-add_left, int_wrap_fits, fits_signed_from_abs}
 use Rattle.abuf_num.specs.Division.{floor_div}
 use Rattle.abuf_raster.specs.declared.point.Point.{Point}
-use Rattle.abuf_raster.specs.declared.pattern.Pattern.{Pattern}
 use Rattle.abuf_raster.specs.declared.plane.Coefficients.{Coefficients}
 use Rattle.abuf_raster.specs.Edge.{edge_function}
 use Rattle.abuf_raster.specs.Triangle.{Triangle, positive_order}
-use Rattle.abuf_raster.specs.Samples.{offsets_of, reach_of, sample_place, pixel_centre}
 use Rattle.abuf_raster.specs.Coverage.{all_accept}
-use Rattle.abuf_raster.specs.Depth.{weighted_depth, depth_of, greatest_depth}
+use Rattle.abuf_raster.specs.Depth.{weighted_depth, depth_of, least_depth, greatest_depth}
 use Rattle.abuf_raster.specs.Slopes.{slope_across, slope_down}
 use Rattle.abuf_raster.specs.Plane.{IsPlane, sum_at}
 use Rattle.abuf_raster.proofs.Bounds.{abs-add, abs-mul}
 use Rattle.abuf_raster.proofs.Linear.{E_sum}
-use Rattle.abuf_raster.proofs.Means.{weights, mean_high, key_between}
-use Rattle.abuf_raster.proofs.Changes.{offset_near, sixteenth}
+use Rattle.abuf_raster.proofs.Means.{weights, mean_high, key_between, abs_at_most}
 use Rattle.abuf_raster.proofs.Spread.{div_keeps}
 use Rattle.abuf_raster.proofs.Planes.{depth_from}
 
@@ -69,14 +66,11 @@ key_of u p s h covered =
       depth = n.is;
       room = let few = n.few in let all = h.depths in omega arith;
       key = k;
-      small = subst (λ (j : ℕ). j ≤ 16777215) k (below (depth_of u s) (greatest_depth u) b.1 h.nearest (ap₂ floor_div n.is h.area));
+      small = subst (λ (j : ℕ). j ≤ 16777215) k (omega (arith, abs_at_most (depth_of u s) (least_depth u) (greatest_depth u) b.0 b.1, h.nearest));
     }
   where
     above : (j : ℕ) → 0 < j → pos 0 <ℤ pos j
     above j l = omega (arith, ints)
-
-    below : (z : ℤ) (m : ℕ) {j : ℕ} → z ≤ℤ pos m → m ≤ 16777215 → z ≡ pos j → unsigned_abs z ≤ 16777215
-    below z m i l e = omega (arith, ints)
 
 -- a sum that is small enough, as it is after wrapping
 unwrapped : (n : ℕ) → n < 2 ^ 63 → int_wrap w64 (pos n) ≡ pos n
@@ -104,16 +98,11 @@ near_centre u c s reach hx hy =
     apart : (v w z : ℤ) (n : ℕ) → v ≡ w +ℤ z → unsigned_abs z ≤ n → unsigned_abs (v -ℤ w) ≤ n
     apart v w z n e h = omega (arith, ints)
 
--- bounds that are told where the sum at the centre is near a key's
-pub record IsBetween (lo hi d spread n : ℕ) : Type 0 where
-  pub low : lo ≤ n / d
-  pub high : n / d ≤ hi
-
--- They are bounds of the key.
+-- Bounds that are told where the sum at the centre is near a key's are bounds of the key.
 pub between_bounds : (u : Triangle) (p : Coefficients) (c s : Point) (lo hi spread : ℕ) → IsPlane u p → (k : IsKeyOf u p s) → spread ≤ 2 ^ 60
     → unsigned_abs (weighted_depth u s -ℤ weighted_depth u c) ≤ spread
     → ((top : ℕ) → top < 2 ^ 63 → int_wrap w64 (sum_at p c +ℤ pos spread) ≡ pos top → (lo ≡ min ((top - 2 * spread) / p.area.divisor) 16777215) × (hi ≡ min (top / p.area.divisor) 16777215))
-    → IsBetween lo hi p.area.divisor spread k.number
+    → (lo ≤ k.number / p.area.divisor) × (k.number / p.area.divisor ≤ hi)
 between_bounds u p c s lo hi spread h k few near told =
     let w : ℤ = weighted_depth u c in
     let top : ℕ = unsigned_abs (w +ℤ pos spread) in
@@ -128,7 +117,7 @@ between_bounds u p c s lo hi spread h k few near told =
     let l = div_keeps (top - 2 * spread) k.number p.area.divisor p.area.some b in
     let g = div_keeps k.number top p.area.divisor p.area.some a in
     let small = k.small in
-    record { low = omega (arith, t.0, l); high = omega (arith, t.1, g, small) }
+    (omega (arith, t.0, l), omega (arith, t.1, g, small))
   where
     natural : (v w : ℤ) (n m : ℕ) → v ≡ pos n → unsigned_abs (v -ℤ w) ≤ m → (w +ℤ pos m) ≡ pos (unsigned_abs (w +ℤ pos m))
     natural v w n m e l = omega (arith, ints)
@@ -138,14 +127,3 @@ between_bounds u p c s lo hi spread h k few near told =
 
     over : (v w : ℤ) (n m : ℕ) → v ≡ pos n → unsigned_abs (v -ℤ w) ≤ m → unsigned_abs (w +ℤ pos m) - 2 * m ≤ n
     over v w n m e l = omega (arith, ints)
-
--- a sample is within the pattern's reach of the centre
-pub sample_reach : (p : Pattern) (k x y : ℕ) → k < length (offsets_of p) → (let s : Point = sample_place (slice_index_or (offsets_of p) k (pos 0, pos 0)) x y in let c : Point = pixel_centre x y in
-    (unsigned_abs (s.x -ℤ c.x) ≤ 16 * reach_of p) × (unsigned_abs (s.y -ℤ c.y) ≤ 16 * reach_of p))
-sample_reach p k x y l =
-    let o : ℤ × ℤ = slice_index_or (offsets_of p) k (pos 0, pos 0) in
-    let n = offset_near p k l in
-    (off (256 * x + 128) (pos 16 *ℤ o.0) (16 * reach_of p) (sixteenth o.0 (reach_of p) n.0), off (256 * y + 128) (pos 16 *ℤ o.1) (16 * reach_of p) (sixteenth o.1 (reach_of p) n.1))
-  where
-    off : (c : ℕ) (z : ℤ) (m : ℕ) → unsigned_abs z ≤ m → unsigned_abs ((pos c +ℤ z) -ℤ pos c) ≤ m
-    off c z m h = omega (arith, ints)

@@ -17,6 +17,7 @@ pub mod Boxes
 pub mod Turned
 pub mod Outside
 pub mod Counts
+pub mod Full
 pub mod Ends
 pub mod Spread
 pub mod Planes

@@ -1,8 +1,9 @@
 -- The law of the key: what three edges that accept a sample say of the weighted depth there.
-use Rattle.std.proofs.Common.{◌≡◌, ℕ, ◌+◌, ◌*◌, ◌/◌, ◌<◌, ◌≤◌, Bool, true, false, ◌&&◌, ◌||◌, ℤ, pos, negsuc, ◌+ℤ◌, ◌*ℤ◌, ◌<ℤ◌, ◌≤ℤ◌, unsigned_abs, get_or, arith, sym, refl, true≢false}
+use Rattle.std.proofs.Common.{◌≡◌, ℕ, ◌+◌, ◌*◌, ◌/◌, ◌<◌, ◌≤◌, Bool, true, ◌&&◌, ◌||◌, ℤ, pos, negsuc, ◌+ℤ◌, ◌*ℤ◌, ◌<ℤ◌, ◌≤ℤ◌, unsigned_abs, get_or, arith, sym, refl, true≢false}
 use Rattle.std.specs.Prelude.{int_lt}
 use Rattle.std.specs.Ordering.{int_eq}
 use Rattle.std.proofs.lemmas.Int.{ints}
+use Rattle.std.proofs.lemmas.Bool.{and_parts}
 use Rattle.std.proofs.lemmas.Nat.{le-div, div_below, mul-le}
 use Rattle.abuf_num.specs.Division.{floor_div}
 use Rattle.abuf_raster.specs.declared.point.Point.{Point}
@@ -11,7 +12,7 @@ use Rattle.abuf_raster.specs.Triangle.{Triangle, has_area, positive_order}
 use Rattle.abuf_raster.specs.Coverage.{accepts, all_accept, covers_sample}
 use Rattle.abuf_raster.specs.Depth.{depth_of, depth_value, least_depth, greatest_depth, HasNoKeyAbove}
 use Rattle.abuf_raster.specs.Samples.{sample_place}
-use Rattle.abuf_raster.proofs.Acceptance.{positive_area}
+use Rattle.abuf_raster.proofs.Acceptance.{in_order, positive_area}
 use Rattle.abuf_raster.proofs.Linear.{E_sum}
 
 -- A number that passes the test of the top-left rule is not below 0.
@@ -22,11 +23,6 @@ not_below_zero (negsuc n) p h = absurd (true≢false (sym h))
 -- Where an edge accepts, its edge function is not below 0.
 pub accepts_not_negative : (a b s : Point) → accepts a b s ≡ true → pos 0 ≤ℤ edge_function a b s
 accepts_not_negative a b s h = not_below_zero (edge_function a b s) (is_left_edge a b || is_top_edge a b) h
-
--- Where two tests pass together, each passes.
-pub both_true : (x y : Bool) → (x && y) ≡ true → (x ≡ true) × (y ≡ true)
-both_true true y h = (refl, h)
-both_true false y h = absurd (true≢false (sym h))
 
 -- a natural mean lies between bounds of what it is of
 mean_low : (e f g p q r m : ℕ) → m ≤ p → m ≤ q → m ≤ r → m * (e + f + g) ≤ e * p + f * q + g * r
@@ -56,48 +52,40 @@ between (pos e) (pos f) (pos g) d p q r m n he hf hg s some lp lq lr hp hq hr =
     let high : (e * p + f * q + g * r) / (e + f + g) < n + 1 = div_below (e * p + f * q + g * r) (e + f + g) (n + 1) k (mean_high e f g p q r n hp hq hr k) in
     rw (← s) (omega (arith, ints), omega (arith, ints))
 
+-- the weights of the three corners at a sample that the triangle covers
+pub weights : (t : Triangle) (s : Point) → all_accept t.a t.b t.c s ≡ true → (pos 0 ≤ℤ edge_function t.b t.c s) × (pos 0 ≤ℤ edge_function t.c t.a s) × (pos 0 ≤ℤ edge_function t.a t.b s)
+weights t s h =
+    let one = and_parts (accepts t.a t.b s && accepts t.b t.c s) (accepts t.c t.a s) h in
+    let two = and_parts (accepts t.a t.b s) (accepts t.b t.c s) one.0 in
+    (accepts_not_negative t.b t.c s two.1, accepts_not_negative t.c t.a s one.1, accepts_not_negative t.a t.b s two.0)
+
 -- the law for a triangle in positive order
 pub key_between : (t : Triangle) (s : Point) → pos 0 <ℤ edge_function t.a t.b t.c → all_accept t.a t.b t.c s ≡ true
     → (pos (least_depth t) ≤ℤ depth_of t s) × (depth_of t s ≤ℤ pos (greatest_depth t))
 key_between t s some h =
-    let one = both_true (accepts t.a t.b s && accepts t.b t.c s) (accepts t.c t.a s) h in
-    let two = both_true (accepts t.a t.b s) (accepts t.b t.c s) one.0 in
+    let w = weights t s h in
     between (edge_function t.b t.c s) (edge_function t.c t.a s) (edge_function t.a t.b s) (edge_function t.a t.b t.c) t.qa t.qb t.qc (least_depth t) (greatest_depth t)
-    (accepts_not_negative t.b t.c s two.1) (accepts_not_negative t.c t.a s one.1) (accepts_not_negative t.a t.b s two.0)
-    (E_sum t.a t.b t.c s) some
+    w.0 w.1 w.2 (E_sum t.a t.b t.c s) some
     (omega arith) (omega arith) (omega arith) (omega arith) (omega arith) (omega arith)
 
 -- Positive order keeps the least depth value.
 least_turned : (t : Triangle) → least_depth (positive_order t) ≡ least_depth t
-least_turned t = go (int_lt (edge_function t.a t.b t.c) (pos 0)) refl where
-  go : (b : Bool) → b ≡ int_lt (edge_function t.a t.b t.c) (pos 0) → least_depth (positive_order t) ≡ least_depth t
-  go true e = rw (← e) (omega arith)
-  go false e = rw (← e) refl
+least_turned t = in_order (λ u. least_depth u ≡ least_depth t) t (omega arith) refl
 
 -- And the greatest.
 greatest_turned : (t : Triangle) → greatest_depth (positive_order t) ≡ greatest_depth t
-greatest_turned t = go (int_lt (edge_function t.a t.b t.c) (pos 0)) refl where
-  go : (b : Bool) → b ≡ int_lt (edge_function t.a t.b t.c) (pos 0) → greatest_depth (positive_order t) ≡ greatest_depth t
-  go true e = rw (← e) (omega arith)
-  go false e = rw (← e) refl
+greatest_turned t = in_order (λ u. greatest_depth u ≡ greatest_depth t) t (omega arith) refl
 
 -- The law for any triangle.
 pub key_law_holds : (t : Triangle) (s : Point) → covers_sample t s ≡ true
     → (pos (least_depth t) ≤ℤ depth_value t s) × (depth_value t s ≤ℤ pos (greatest_depth t))
 key_law_holds t s h =
-    let split = both_true (has_area t) (all_accept (positive_order t).a (positive_order t).b (positive_order t).c s) h in
+    let split = and_parts (has_area t) (all_accept (positive_order t).a (positive_order t).b (positive_order t).c s) h in
     let k = key_between (positive_order t) s (positive_area t split.0) split.1 in
     (rw least_turned at k.0, rw greatest_turned at k.1)
 
--- the weights of the three corners at a sample that the triangle covers
-pub weights : (t : Triangle) (s : Point) → all_accept t.a t.b t.c s ≡ true → (pos 0 ≤ℤ edge_function t.b t.c s) × (pos 0 ≤ℤ edge_function t.c t.a s) × (pos 0 ≤ℤ edge_function t.a t.b s)
-weights t s h =
-    let one = both_true (accepts t.a t.b s && accepts t.b t.c s) (accepts t.c t.a s) h in
-    let two = both_true (accepts t.a t.b s) (accepts t.b t.c s) one.0 in
-    (accepts_not_negative t.b t.c s two.1, accepts_not_negative t.c t.a s one.1, accepts_not_negative t.a t.b s two.0)
-
 -- A whole number between two natural numbers is at most the greater.
-abs_at_most : (v : ℤ) (low high : ℕ) → pos low ≤ℤ v → v ≤ℤ pos high → unsigned_abs v ≤ high
+pub abs_at_most : (v : ℤ) (low high : ℕ) → pos low ≤ℤ v → v ≤ℤ pos high → unsigned_abs v ≤ high
 abs_at_most (pos n) low high l h = omega (arith, ints)
 abs_at_most (negsuc n) low high l h = absurd l.le
 

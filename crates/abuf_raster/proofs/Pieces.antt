@@ -2,18 +2,14 @@
 use Rattle.std.proofs.Common.{◌≡◌, ℕ, zero, suc, ◌+◌, ◌-◌, ◌*◌, ◌<◌, ◌≤◌, min, ℤ, List, [], ◌∷◌, ◌++◌, arith, ap, ap₂, refl, sym, ◌∙◌, subst, append-nil, append_assoc, IsPermutation, inl, inr}
 use Rattle.std.proofs.lemmas.Bool.{cases_lt}
 use Rattle.std.specs.List.{filter_map, flat_map, range_with_len}
-use Rattle.std.proofs.lemmas.List.Concat.{flat_map-append}
 use Rattle.std.proofs.lemmas.List.Elements.{filter_map-append}
 use Rattle.std.proofs.lemmas.List.Sorted.{IsPermutation-refl, IsPermutation-append, IsPermutation-append_comm, IsPermutation-append_left, IsPermutation-append_right, IsPermutation-trans}
 use Rattle.abuf_raster.specs.declared.region.Hit.{Hit}
 use Rattle.abuf_raster.specs.Triangle.{Triangle}
+use Rattle.abuf_raster.proofs.Blocks.{range_cut, block_cut}
 use Rattle.abuf_raster.specs.Walk.{pixel_hit, row_hits, block_hits, pieces, pieces_in, band_hits, bands_hits, left_hits}
 
 -- ---- the number of pieces
-
--- No length has no pieces.
-pieces_in_none : pieces_in 0 ≡ 0
-pieces_in_none = omega arith
 
 -- A length has one piece more than what is 8 shorter.
 pieces_in_more : (n : ℕ) → 0 < n → pieces_in n ≡ suc (pieces_in (n - 8))
@@ -94,14 +90,6 @@ pieces_all f none cut (suc count) p n h = go (pieces_all f none cut count (p + 8
       IsPermutation-trans _ (f p (min 8 n) ++ f (p + 8) (n - 8)) _ (IsPermutation-append_right (f p (min 8 n)) _ _ k)
       (subst (λ (xs : List Hit). IsPermutation (f p (min 8 n) ++ xs) (f p n)) (rest (min 8 n) refl) (subst (λ (m : ℕ). IsPermutation (f p (min 8 n) ++ f (p + min 8 n) (n - 8)) (f p m)) s (cut p (min 8 n) (n - 8))))
 
--- A range is two ranges, one after the other.
-pub range_cut : (a m n : ℕ) → range_with_len a m ++ range_with_len (a + m) n ≡ range_with_len a (m + n)
-range_cut a zero n = let e : a + 0 ≡ a = omega arith in let z : 0 + n ≡ n = omega arith in ap (λ (b : ℕ). range_with_len b n) e ∙ ap (range_with_len a) (sym z)
-range_cut a (suc m) n =
-    let e : a + suc m ≡ a + 1 + m = omega arith in
-    let s : suc m + n ≡ suc (m + n) = omega arith in
-    ap (λ (b : ℕ). a ∷ (range_with_len (a + 1) m ++ range_with_len b n)) e ∙ (ap (λ (xs : List ℕ). a ∷ xs) (range_cut (a + 1) m n) ∙ ap (range_with_len a) (sym s))
-
 -- two lists for each of some things, one after the other
 both_for_each : (f g : ℕ → List Hit) (ys : List ℕ) → IsPermutation (flat_map f ys ++ flat_map g ys) (flat_map (λ y. f y ++ g y) ys)
 both_for_each f g [] = IsPermutation-refl []
@@ -138,11 +126,8 @@ module _ (t : Triangle) (n : ℕ) (os : List (ℤ × ℤ)) where
   bands_all x w y h =
       IsPermutation-trans _ _ _ (each (pieces_in h) y h)
       (pieces_all (λ p m. block_hits t n os x w p m) (λ p. refl)
-      (λ p m k. subst (λ (xs : List Hit). IsPermutation xs (block_hits t n os x w p (m + k))) (sym (block_cut p m k)) (IsPermutation-refl _))
+      (λ p m k. subst (λ (xs : List Hit). IsPermutation xs (block_hits t n os x w p (m + k))) (block_cut t n os x w p m k) (IsPermutation-refl _))
       (pieces_in h) y h (omega arith)) where
         each : (count p m : ℕ) → IsPermutation (pieces (λ p m. band_hits t n os x w p m) count p m) (pieces (λ p m. block_hits t n os x w p m) count p m)
         each zero p m = IsPermutation-refl []
         each (suc count) p m = IsPermutation-append _ _ _ _ (band_all x w p (min 8 m)) (each count (p + 8) (m - 8))
-
-        block_cut : (p m k : ℕ) → block_hits t n os x w p m ++ block_hits t n os x w (p + m) k ≡ block_hits t n os x w p (m + k)
-        block_cut p m k = sym (flat_map-append (row_hits t n os x w) (range_with_len p m) (range_with_len (p + m) k)) ∙ ap (flat_map (row_hits t n os x w)) (range_cut p m k)

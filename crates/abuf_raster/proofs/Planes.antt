@@ -2,7 +2,6 @@
 use Rattle.std.proofs.Common.{◌≡◌, ℕ, ◌^◌, ◌<◌, max, ℤ, pos, neg_ℤ, ◌+ℤ◌, ◌-ℤ◌, ◌*ℤ◌, unsigned_abs, to_z, of_z, w64, arith, ap, subst, ◌∙◌}
 use Rattle.std.specs.Int.{int_wrap}
 use Rattle.std.proofs.lemmas.Int.{ints, int_wrap-add_left, int_wrap-add_same}
-use Rattle.std.proofs.Math.IntN.{*ℤ_comm}
 use Rattle.abuf_raster.specs.declared.point.Point.{Point}
 use Rattle.abuf_raster.specs.Edge.{edge_function}
 use Rattle.abuf_raster.specs.Triangle.{Triangle}
@@ -13,11 +12,7 @@ use Rattle.abuf_raster.specs.Plane.{IsPlane}
 use Rattle.abuf_raster.proofs.Ring.{mul_add, add_mul, neg_mul, E_end, E_back}
 use Rattle.abuf_raster.proofs.Linear.{E_from, E_sum}
 use Rattle.abuf_raster.proofs.Bounds.{back64}
-use Rattle.abuf_raster.proofs.Beside.{triple}
-
--- Three factors, the last two exchanged.
-last_two : (p d q : ℤ) → (p *ℤ d) *ℤ q ≡ (p *ℤ q) *ℤ d
-last_two p d q = ap (λ (z : ℤ). z *ℤ q) (*ℤ_comm p d) ∙ (triple d p q ∙ ap (λ (z : ℤ). z *ℤ d) (*ℤ_comm q p))
+use Rattle.abuf_raster.proofs.Beside.{turned as exchanged}
 
 -- an edge value that changed, weighted
 one_changed : (e p r dx dy q : ℤ) → (e +ℤ (p *ℤ dy -ℤ r *ℤ dx)) *ℤ q ≡ e *ℤ q +ℤ ((p *ℤ q) *ℤ dy -ℤ (r *ℤ q) *ℤ dx)
@@ -25,7 +20,7 @@ one_changed e p r dx dy q =
     let u = add_mul e (p *ℤ dy -ℤ r *ℤ dx) q in
     let v = add_mul (p *ℤ dy) (neg_ℤ (r *ℤ dx)) q in
     let w = neg_mul (r *ℤ dx) q in
-    omega (arith, ints, u, v, w, last_two p dy q, last_two r dx q)
+    omega (arith, ints, u, v, w, exchanged p dy q, exchanged r dx q)
 
 -- three of them
 sum_of_three : (u v w d : ℤ) → (u +ℤ v +ℤ w) *ℤ d ≡ u *ℤ d +ℤ v *ℤ d +ℤ w *ℤ d

@@ -1,5 +1,5 @@
 -- What fits a width: the values of edges at places within its reach, their changes, rises and falls.
-use Rattle.std.proofs.Common.{◌≡◌, refl, sym, ◌<ℤ◌, ◌≤ℤ◌, ◌∙◌, ap, ap₂, to_z, of_z, w64, ℕ, ◌+◌, ◌*◌, ◌^◌, ◌<◌, ◌≤◌, ℤ, pos, negsuc, ◌+ℤ◌, ◌-ℤ◌, ◌*ℤ◌, unsigned_abs, arith, Bool, true, false, if◌then◌else◌, ◌||◌}
+use Rattle.std.proofs.Common.{◌≡◌, refl, sym, subst, ◌-◌, ◌<ℤ◌, ◌≤ℤ◌, ◌∙◌, ap, ap₂, to_z, of_z, w64, ℕ, ◌+◌, ◌*◌, ◌^◌, ◌<◌, ◌≤◌, ℤ, pos, negsuc, ◌+ℤ◌, ◌-ℤ◌, ◌*ℤ◌, unsigned_abs, arith, Bool, true, false, if◌then◌else◌, ◌||◌}
 use Rattle.std.specs.Prelude.{int_lt}
 use borrow.Author.Differences.{true_is_lt, false_is_lt}
 use Rattle.std.proofs.lemmas.Int.{ints}
@@ -7,7 +7,9 @@ use Rattle.std.proofs.lemmas.Nat.{mul-le}
 use Rattle.abuf_raster.specs.declared.point.Point.{Point}
 use Rattle.abuf_raster.specs.Edge.{edge_function, is_left_edge, is_top_edge}
 use Rattle.abuf_raster.specs.Triangle.{Triangle, IsWithin, AreWithin}
-use Rattle.abuf_raster.specs.Values.{Numbers, edge_value, edge_change, rising, falling, rises, falls, plus_all, AreAtMost, IsRoomFor}
+use Rattle.abuf_raster.specs.Values.{Numbers, edge_value, edge_change, one_way, farthest, plus_all, AreAtMost, IsRoomFor}
+use Rattle.abuf_raster.specs.declared.tile.Tile.{Tile}
+use Rattle.abuf_raster.specs.Walk.{IsTile}
 use Rattle.abuf_raster.proofs.Bounds.{abs-add, abs-sub, abs-mul, back64}
 
 -- a reach times itself is large
@@ -50,16 +52,11 @@ change_room r a b x y wide ha hb hx hy =
     let q = abs-mul (a.y -ℤ b.y) x (r + r) 1048576 (abs-sub a.y b.y r r (omega (arith, ha.1)) (omega (arith, hb.1))) hx in
     omega (arith, w, abs-add ((b.x -ℤ a.x) *ℤ y) ((a.y -ℤ b.y) *ℤ x) ((r + r) * 1048576) ((r + r) * 1048576) p q)
 
--- a difference of two coordinates, as an i64
-pub clean_difference : (d x y : ℤ) → unsigned_abs x < 2 ^ 45 → unsigned_abs y < 2 ^ 45 → d ≡ to_z w64 (of_z w64 x) -ℤ to_z w64 (of_z w64 y) → d ≡ x -ℤ y
-clean_difference d x y hx hy e = omega (arith, ints)
-
--- its product with a distance
+-- the product of a difference of two coordinates with a distance, as an i64
 pub clean_product : (n d x y z : ℤ) → unsigned_abs x < 2 ^ 45 → unsigned_abs y < 2 ^ 45 → unsigned_abs z ≤ 2 ^ 20 → d ≡ to_z w64 (of_z w64 x) -ℤ to_z w64 (of_z w64 y)
     → n ≡ to_z w64 (of_z w64 d) *ℤ to_z w64 (of_z w64 z) → n ≡ (x -ℤ y) *ℤ z
 clean_product n d x y z hx hy hz e f =
-    let c = clean_difference d x y hx hy e in
-    let b : to_z w64 (of_z w64 d) ≡ x -ℤ y = omega (arith, ints, c) in
+    let b : to_z w64 (of_z w64 d) ≡ x -ℤ y = omega (arith, ints, e) in
     f ∙ ap₂ (λ (u v : ℤ). u *ℤ v) b (back64 z (omega arith))
 
 -- an order, as the code tests it
@@ -71,41 +68,38 @@ pub lt_false : (a b : ℤ) → b ≤ℤ a → int_lt a b ≡ false
 lt_false a b h = sym (false_is_lt a b (omega (arith, ints)))
 
 -- the parts of slopes
-pub rising_pos : (n : ℕ) → rising (pos n) ≡ pos n
+pub rising_pos : (n : ℕ) → one_way false (pos n) ≡ pos n
 rising_pos n = rw (lt_false (pos n) (pos 0) (omega (arith, ints))) refl
 
 -- A slope that rises does not fall.
-pub falling_pos : (n : ℕ) → falling (pos n) ≡ pos 0
+pub falling_pos : (n : ℕ) → one_way true (pos n) ≡ pos 0
 falling_pos n = rw (lt_false (pos n) (pos 0) (omega (arith, ints))) refl
 
 -- they are no steeper than the slope
-pub rising_small : (z : ℤ) → unsigned_abs (rising z) ≤ unsigned_abs z
-rising_small (pos n) = rw (rising_pos n) (omega arith)
-rising_small (negsuc n) = omega arith
-
--- And so is the part that falls.
-pub falling_small : (z : ℤ) → unsigned_abs (falling z) ≤ unsigned_abs z
-falling_small (pos n) = rw (falling_pos n) (omega arith)
-falling_small (negsuc n) = omega arith
+pub one_way_small : (falls : Bool) (z : ℤ) → unsigned_abs (one_way falls z) ≤ unsigned_abs z
+one_way_small true (pos n) = rw (falling_pos n) (omega arith)
+one_way_small false (pos n) = rw (rising_pos n) (omega arith)
+one_way_small true (negsuc n) = omega arith
+one_way_small false (negsuc n) = omega arith
 
 -- what the parts of both slopes make of a way within a tile
-module _ (part : ℤ → ℤ) (small : (z : ℤ) → unsigned_abs (part z) ≤ unsigned_abs z) where
+module _ (falls : Bool) where
   -- It is at most a square of the reach.
-  pub part_room : (r : ℕ) (a b : Point) (w h : ℕ) → 2 ^ 22 ≤ r → IsWithin r a → IsWithin r b → w ≤ 8 → h ≤ 8 → unsigned_abs (part (b.x -ℤ a.x) *ℤ pos (256 * h) +ℤ part (a.y -ℤ b.y) *ℤ pos (256 * w)) ≤ r * r
+  pub part_room : (r : ℕ) (a b : Point) (w h : ℕ) → 2 ^ 22 ≤ r → IsWithin r a → IsWithin r b → w ≤ 8 → h ≤ 8 → unsigned_abs (one_way falls (b.x -ℤ a.x) *ℤ pos (256 * h) +ℤ one_way falls (a.y -ℤ b.y) *ℤ pos (256 * w)) ≤ r * r
   part_room r a b w h wide ha hb hw hh =
       let s = wide_square r wide in
-      let p = abs-mul (part (b.x -ℤ a.x)) (pos (256 * h)) (r + r) 2048 (omega (arith, small (b.x -ℤ a.x), abs-sub b.x a.x r r (omega (arith, hb.0)) (omega (arith, ha.0)))) (omega arith) in
-      let q = abs-mul (part (a.y -ℤ b.y)) (pos (256 * w)) (r + r) 2048 (omega (arith, small (a.y -ℤ b.y), abs-sub a.y b.y r r (omega (arith, ha.1)) (omega (arith, hb.1)))) (omega arith) in
-      omega (arith, s, abs-add (part (b.x -ℤ a.x) *ℤ pos (256 * h)) (part (a.y -ℤ b.y) *ℤ pos (256 * w)) ((r + r) * 2048) ((r + r) * 2048) p q)
+      let p = abs-mul (one_way falls (b.x -ℤ a.x)) (pos (256 * h)) (r + r) 2048 (omega (arith, one_way_small falls (b.x -ℤ a.x), abs-sub b.x a.x r r (omega (arith, hb.0)) (omega (arith, ha.0)))) (omega arith) in
+      let q = abs-mul (one_way falls (a.y -ℤ b.y)) (pos (256 * w)) (r + r) 2048 (omega (arith, one_way_small falls (a.y -ℤ b.y), abs-sub a.y b.y r r (omega (arith, ha.1)) (omega (arith, hb.1)))) (omega arith) in
+      omega (arith, s, abs-add (one_way falls (b.x -ℤ a.x) *ℤ pos (256 * h)) (one_way falls (a.y -ℤ b.y) *ℤ pos (256 * w)) ((r + r) * 2048) ((r + r) * 2048) p q)
 
   -- as an i64
-  pub clean_part : (n f x y : ℤ) (k : ℕ) → unsigned_abs x < 2 ^ 45 → unsigned_abs y < 2 ^ 45 → k ≤ 2048 → f ≡ part (to_z w64 (of_z w64 x) -ℤ to_z w64 (of_z w64 y))
-      → n ≡ to_z w64 (of_z w64 f) *ℤ to_z w64 k → n ≡ part (x -ℤ y) *ℤ pos k
+  pub clean_part : (n f x y : ℤ) (k : ℕ) → unsigned_abs x < 2 ^ 45 → unsigned_abs y < 2 ^ 45 → k ≤ 2048 → f ≡ one_way falls (to_z w64 (of_z w64 x) -ℤ to_z w64 (of_z w64 y))
+      → n ≡ to_z w64 (of_z w64 f) *ℤ to_z w64 k → n ≡ one_way falls (x -ℤ y) *ℤ pos k
   clean_part n f x y k hx hy hk g h =
       let c : to_z w64 (of_z w64 x) -ℤ to_z w64 (of_z w64 y) ≡ x -ℤ y = omega (arith, ints) in
-      let i : f ≡ part (x -ℤ y) = g ∙ ap part c in
+      let i : f ≡ one_way falls (x -ℤ y) = g ∙ ap (one_way falls) c in
       let near = abs-sub x y (2 ^ 45) (2 ^ 45) (omega arith) (omega arith) in
-      let j : to_z w64 (of_z w64 f) ≡ part (x -ℤ y) = ap (λ (z : ℤ). to_z w64 (of_z w64 z)) i ∙ back64 (part (x -ℤ y)) (omega (arith, small (x -ℤ y), near)) in
+      let j : to_z w64 (of_z w64 f) ≡ one_way falls (x -ℤ y) = ap (λ (z : ℤ). to_z w64 (of_z w64 z)) i ∙ back64 (one_way falls (x -ℤ y)) (omega (arith, one_way_small falls (x -ℤ y), near)) in
       let w : to_z w64 k ≡ pos k = omega (arith, ints) in
       h ∙ ap₂ (λ (x y : ℤ). x *ℤ y) j w
 
@@ -120,14 +114,18 @@ most_fits r n m k h i j = (both n.ab m.ab k.ab h.0 i.0 j.0, both n.bc m.bc k.bc 
   both : (x y z : ℤ) → unsigned_abs x ≤ 9 * (r * r) → unsigned_abs y ≤ r * r → unsigned_abs z ≤ r * r → unsigned_abs ((x +ℤ y) +ℤ z) ≤ 14 * (r * r)
   both x y z p q s = omega (arith, abs-add (x +ℤ y) z _ _ (abs-add x y _ _ p q) s)
 
--- The rises within a tile are at most a square of the reach.
-pub rises_room : (r : ℕ) (t : Triangle) (w h : ℕ) → 2 ^ 22 ≤ r → AreWithin r t → w ≤ 8 → h ≤ 8 → AreAtMost (r * r) (rises t w h)
-rises_room r t w h wide near hw hh =
-    let f = part_room rising rising_small r in
-    (f t.a t.b w h wide near.0 near.1 hw hh, f t.b t.c w h wide near.1 near.2 hw hh, f t.c t.a w h wide near.2 near.0 hw hh)
+-- what is put to the values at the first pixel of a tile, for the farthest pixel and then for its samples
+module _ (r : ℕ) (t : Triangle) (b : Tile) (falls : Bool) (n m : Numbers) (wide : 2 ^ 22 ≤ r) (near : AreWithin r t) (is : IsTile b) (start : AreAtMost (9 * (r * r)) n) (e : m ≡ farthest falls t (b.w - 1) (b.h - 1)) where
+  -- It is at most a square of the reach.
+  small : AreAtMost (r * r) m
+  small =
+      let room = λ (p q : Point) (hp : IsWithin r p) (hq : IsWithin r q). part_room falls r p q (b.w - 1) (b.h - 1) wide hp hq (omega (arith, is.w_small)) (omega (arith, is.h_small)) in
+      subst (AreAtMost (r * r)) (sym e) (room t.a t.b near.0 near.1, room t.b t.c near.1 near.2, room t.c t.a near.2 near.0)
 
--- And so are the falls.
-pub falls_room : (r : ℕ) (t : Triangle) (w h : ℕ) → 2 ^ 22 ≤ r → AreWithin r t → w ≤ 8 → h ≤ 8 → AreAtMost (r * r) (falls t w h)
-falls_room r t w h wide near hw hh =
-    let f = part_room falling falling_small r in
-    (f t.a t.b w h wide near.0 near.1 hw hh, f t.b t.c w h wide near.1 near.2 hw hh, f t.c t.a w h wide near.2 near.0 hw hh)
+  -- A width has room for the first sum.
+  pub tile_fits : IsRoomFor r (plus_all n m)
+  tile_fits = more_fits r n m start small
+
+  -- And for the second.
+  pub tile_samples_fit : (o k : Numbers) → o ≡ plus_all n m → AreAtMost (r * r) k → IsRoomFor r (plus_all o k)
+  tile_samples_fit o k f j = subst (λ (o : Numbers). IsRoomFor r (plus_all o k)) (sym f) (most_fits r n m k start small j)

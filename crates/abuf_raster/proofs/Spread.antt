@@ -1,5 +1,5 @@
 -- How far the depth value changes within a pixel.
-use Rattle.std.proofs.Common.{◌≡◌, ℕ, ◌+◌, ◌*◌, ◌/◌, ◌<◌, ◌≤◌, true, length, ℤ, pos, negsuc, ◌+ℤ◌, ◌-ℤ◌, ◌*ℤ◌, ◌<ℤ◌, ◌≤ℤ◌, unsigned_abs, get_or, arith, ◌∙◌, subst}
+use Rattle.std.proofs.Common.{◌≡◌, ℕ, ◌+◌, ◌*◌, ◌/◌, ◌<◌, ◌≤◌, true, length, ℤ, pos, negsuc, ◌+ℤ◌, ◌-ℤ◌, ◌*ℤ◌, ◌<ℤ◌, ◌≤ℤ◌, unsigned_abs, get_or, slice_index_or, arith, ◌∙◌, subst}
 use Rattle.std.proofs.lemmas.Int.{ints}
 use Rattle.std.proofs.lemmas.Bool.{and_parts}
 use Rattle.std.proofs.lemmas.Nat.{le-div}
@@ -9,19 +9,26 @@ use Rattle.abuf_raster.specs.declared.point.Point.{Point}
 use Rattle.abuf_raster.specs.declared.pattern.Pattern.{Pattern}
 use Rattle.abuf_raster.specs.Edge.{edge_function}
 use Rattle.abuf_raster.specs.Triangle.{Triangle, has_area, positive_order}
-use Rattle.abuf_raster.specs.Samples.{offsets_of, sample_place, pixel_centre}
+use Rattle.abuf_raster.specs.Samples.{offsets_of, reach_of, sample_place, pixel_centre}
 use Rattle.abuf_raster.specs.Depth.{weighted_depth, depth_of, spread, least_depth, greatest_depth}
 use Rattle.abuf_raster.specs.Coverage.{covers_sample, all_accept}
 use Rattle.abuf_raster.proofs.Acceptance.{positive_area}
 use Rattle.abuf_raster.proofs.Bounds.{abs-add, abs-mul}
 use Rattle.abuf_raster.proofs.Ring.{mul_add, add_mul, neg_mul, mul_neg}
 use Rattle.abuf_raster.proofs.Linear.{E_sum}
-use Rattle.abuf_raster.proofs.Means.{key_between}
-use Rattle.abuf_raster.proofs.Changes.{offset_near, reach_small}
+use Rattle.abuf_raster.proofs.Means.{key_between, abs_at_most}
+use Rattle.abuf_raster.proofs.Changes.{offset_near, reach_small, sixteenth}
 
--- The offsets of a pattern are within half a pixel.
-pub offset_small : (p : Pattern) (k : ℕ) → k < length (offsets_of p) → (unsigned_abs (get_or (offsets_of p) k (pos 0, pos 0)).0 ≤ 8) × (unsigned_abs (get_or (offsets_of p) k (pos 0, pos 0)).1 ≤ 8)
-offset_small p k l = let n = offset_near p k l in (omega (arith, n.0, reach_small p), omega (arith, n.1, reach_small p))
+-- a sample is within the pattern's reach of the centre
+pub sample_reach : (p : Pattern) (k x y : ℕ) → k < length (offsets_of p) → (let s : Point = sample_place (slice_index_or (offsets_of p) k (pos 0, pos 0)) x y in let c : Point = pixel_centre x y in
+    (unsigned_abs (s.x -ℤ c.x) ≤ 16 * reach_of p) × (unsigned_abs (s.y -ℤ c.y) ≤ 16 * reach_of p))
+sample_reach p k x y l =
+    let o : ℤ × ℤ = slice_index_or (offsets_of p) k (pos 0, pos 0) in
+    let n = offset_near p k l in
+    (off (256 * x + 128) (pos 16 *ℤ o.0) (16 * reach_of p) (sixteenth o.0 (reach_of p) n.0), off (256 * y + 128) (pos 16 *ℤ o.1) (16 * reach_of p) (sixteenth o.1 (reach_of p) n.1))
+  where
+    off : (c : ℕ) (z : ℤ) (m : ℕ) → unsigned_abs z ≤ m → unsigned_abs ((pos c +ℤ z) -ℤ pos c) ≤ m
+    off c z m h = omega (arith, ints)
 
 -- ---- how an edge function changes
 -- The terms of an edge function at one place and at another.
@@ -84,13 +91,6 @@ floor_keeps (pos x) (negsuc y) m h l = absurd (omega (arith, ints))
 floor_keeps (negsuc x) (pos y) m h l = omega (arith, ints)
 floor_keeps (negsuc x) (negsuc y) m h l = let d = div_keeps y x (unsigned_abs m) (omega (arith, ints)) (omega (arith, ints)) in omega (arith, ints)
 
--- samples lie within half a pixel of the centre
-pub sample_near : (o : ℤ × ℤ) (x y : ℕ) → unsigned_abs o.0 ≤ 8 → unsigned_abs o.1 ≤ 8
-    → (unsigned_abs ((sample_place o x y).x -ℤ (pixel_centre x y).x) ≤ 128) × (unsigned_abs ((sample_place o x y).y -ℤ (pixel_centre x y).y) ≤ 128)
-sample_near o x y h k = (one o.0 (256 * x + 128) h, one o.1 (256 * y + 128) k) where
-  one : (z : ℤ) (c : ℕ) → unsigned_abs z ≤ 8 → unsigned_abs ((pos c +ℤ pos 16 *ℤ z) -ℤ pos c) ≤ 128
-  one z c l = let m = abs-mul (pos 16) z 16 8 (omega arith) l in omega (arith, ints)
-
 -- what is known of the key at a covered sample
 pub record KeyAt (u : Triangle) (s m : Point) : Type 0 where
   pub positive : pos 0 <ℤ edge_function u.a u.b u.c
@@ -107,20 +107,16 @@ key_at t p k x y l g h =
     let s : Point = sample_place (get_or (offsets_of p) k (pos 0, pos 0)) x y in
     let split = and_parts (has_area t) (all_accept u.a u.b u.c s) h in
     let b = key_between u s (positive_area t split.0) split.1 in
-    let o = offset_small p k l in
-    let n = sample_near (get_or (offsets_of p) k (pos 0, pos 0)) x y o.0 o.1 in
+    let n = sample_reach p k x y l in
     record {
-      positive = positive_area t (and_parts (has_area t) (all_accept u.a u.b u.c s) h).0;
+      positive = positive_area t split.0;
       value = natural (depth_of u s) (least_depth u) b.0;
-      small = below (depth_of u s) (least_depth u) (greatest_depth u) b.0 b.1 g;
-      near = depth_change u s (pixel_centre x y) n.0 n.1;
+      small = omega (arith, abs_at_most (depth_of u s) (least_depth u) (greatest_depth u) b.0 b.1, g);
+      near = depth_change u s (pixel_centre x y) (omega (arith, n.0, reach_small p)) (omega (arith, n.1, reach_small p));
     }
   where
     natural : (z : ℤ) (n : ℕ) → pos n ≤ℤ z → z ≡ pos (unsigned_abs z)
     natural z n q = omega (arith, ints)
-
-    below : (z : ℤ) (n m : ℕ) → pos n ≤ℤ z → z ≤ℤ pos m → m ≤ 16777215 → unsigned_abs z ≤ 16777215
-    below z n m q r i = omega (arith, ints)
 
 -- quotients of what differs by at most the spread
 pub low_key : (key : ℕ) (a b m sum w area : ℤ) (r : ℕ) → a ≡ w → b ≡ pos r → m ≡ area → pos 0 <ℤ area → unsigned_abs (sum -ℤ w) ≤ r → floor_div sum area ≡ pos key → floor_div (a -ℤ b) m ≤ℤ pos key

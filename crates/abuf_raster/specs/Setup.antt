@@ -1,12 +1,12 @@
 -- What a setup keeps of a triangle in positive order.
-use Rattle.std.specs.Prelude.{◌≡◌, ℕ, ◌-◌, ◌*◌, ◌^◌, ◌<◌, List, length, ℤ}
+use Rattle.std.specs.Prelude.{◌≡◌, true, false, ℕ, ◌-◌, ◌*◌, ◌^◌, ◌<◌, List, length, ℤ}
 use Rattle.abuf_raster.specs.declared.setup.Extremes.{Extremes}
 use Rattle.abuf_raster.specs.declared.setup.Setup.{Setup}
 use Rattle.abuf_raster.specs.Triangle.{Triangle, IsWithin}
 use Rattle.abuf_raster.specs.declared.tile.Edge.{Edge}
 use Rattle.abuf_raster.specs.declared.tile.Tile.{Tile}
 use Rattle.abuf_raster.specs.Samples.{pixel_centre}
-use Rattle.abuf_raster.specs.Values.{Numbers, values_at, rises, falls, plus_all, sample_changes, AreUp, AreAtMost, EdgeFits}
+use Rattle.abuf_raster.specs.Values.{Numbers, values_at, farthest, plus_all, sample_changes, AreUp, AreAtMost, EdgeFits}
 use Rattle.abuf_raster.specs.TrioNumbers.{numbers_of}
 
 -- The changes to the samples below a number lie between two bounds, which fit a width of this reach.
@@ -34,7 +34,7 @@ pub record IsEdge {V : Type 0} (number : V → ℤ) (reach : ℕ) (offsets : Lis
 
 -- The greatest and the least numbers in a tile, from those at its first pixel and the extremes in a pixel.
 abbrev pub highest : Triangle → Numbers → Tile → Numbers → Numbers
-highest t n tile greatest = plus_all (plus_all n (rises t (tile.w - 1) (tile.h - 1))) greatest
+highest t n tile greatest = plus_all (plus_all n (farthest false t (tile.w - 1) (tile.h - 1))) greatest
 
 abbrev pub lowest : Triangle → Numbers → Tile → Numbers → Numbers
-lowest t n tile least = plus_all (plus_all n (falls t (tile.w - 1) (tile.h - 1))) least
+lowest t n tile least = plus_all (plus_all n (farthest true t (tile.w - 1) (tile.h - 1))) least

@@ -1,6 +1,6 @@
 -- The numbers that a walk steps: edge functions from which the top-left rule is taken off, so that an edge accepts a sample
 -- exactly where its number is not below 0.
-use Rattle.std.specs.Prelude.{ℕ, zero, suc, ◌+◌, ◌*◌, ◌^◌, Bool, ◌&&◌, ◌||◌, not, if◌then◌else◌, ℤ, pos, ◌+ℤ◌, ◌-ℤ◌, ◌*ℤ◌, int_lt, unsigned_abs, List, length, slice_index_or, ◌≤◌, ◌<◌, ◌≤ℤ◌}
+use Rattle.std.specs.Prelude.{ℕ, zero, suc, ◌+◌, ◌*◌, ◌^◌, Bool, true, false, ◌&&◌, ◌||◌, not, if◌then◌else◌, ℤ, pos, ◌+ℤ◌, ◌-ℤ◌, ◌*ℤ◌, int_lt, unsigned_abs, List, length, slice_index_or, ◌≤◌, ◌<◌, ◌≤ℤ◌}
 use Rattle.abuf_raster.specs.declared.point.Point.{Point}
 use Rattle.abuf_raster.specs.Edge.{edge_function, is_left_edge, is_top_edge}
 use Rattle.abuf_raster.specs.Triangle.{Triangle}
@@ -13,19 +13,14 @@ edge_value a b s = edge_function a b s -ℤ (if is_left_edge a b || is_top_edge 
 abbrev pub edge_change : Point → Point → ℤ → ℤ → ℤ
 edge_change a b x y = (b.x -ℤ a.x) *ℤ y +ℤ (a.y -ℤ b.y) *ℤ x
 
--- A slope where it rises, and where it falls; else 0.
-abbrev pub rising : ℤ → ℤ
-rising z = if int_lt z (pos 0) then pos 0 else z
+-- A slope where it falls, or else where it rises; otherwise 0.
+abbrev pub one_way : Bool → ℤ → ℤ
+one_way true z = if int_lt z (pos 0) then z else pos 0
+one_way false z = if int_lt z (pos 0) then pos 0 else z
 
-abbrev pub falling : ℤ → ℤ
-falling z = if int_lt z (pos 0) then z else pos 0
-
--- How much it rises at most, and falls at most, over a way of at most w pixels to the right and h downwards.
-abbrev pub edge_rise : Point → Point → ℕ → ℕ → ℤ
-edge_rise a b w h = rising (b.x -ℤ a.x) *ℤ pos (256 * h) +ℤ rising (a.y -ℤ b.y) *ℤ pos (256 * w)
-
-abbrev pub edge_fall : Point → Point → ℕ → ℕ → ℤ
-edge_fall a b w h = falling (b.x -ℤ a.x) *ℤ pos (256 * h) +ℤ falling (a.y -ℤ b.y) *ℤ pos (256 * w)
+-- How much it falls at most, or else rises at most, over a way of at most w pixels to the right and h downwards.
+abbrev pub edge_farthest : Bool → Point → Point → ℕ → ℕ → ℤ
+edge_farthest falls a b w h = one_way falls (b.x -ℤ a.x) *ℤ pos (256 * h) +ℤ one_way falls (a.y -ℤ b.y) *ℤ pos (256 * w)
 
 -- The numbers of the three edges.
 pub record Numbers : Type 0 where
@@ -33,18 +28,15 @@ pub record Numbers : Type 0 where
   pub bc : ℤ
   pub ca : ℤ
 
--- The three numbers at a place, their changes, and how far they rise and fall.
+-- The three numbers at a place, their changes, and how far they fall or rise.
 abbrev pub values_at : Triangle → Point → Numbers
 values_at t s = record { ab = edge_value t.a t.b s; bc = edge_value t.b t.c s; ca = edge_value t.c t.a s }
 
 abbrev pub changes : Triangle → ℤ → ℤ → Numbers
 changes t x y = record { ab = edge_change t.a t.b x y; bc = edge_change t.b t.c x y; ca = edge_change t.c t.a x y }
 
-abbrev pub rises : Triangle → ℕ → ℕ → Numbers
-rises t w h = record { ab = edge_rise t.a t.b w h; bc = edge_rise t.b t.c w h; ca = edge_rise t.c t.a w h }
-
-abbrev pub falls : Triangle → ℕ → ℕ → Numbers
-falls t w h = record { ab = edge_fall t.a t.b w h; bc = edge_fall t.b t.c w h; ca = edge_fall t.c t.a w h }
+abbrev pub farthest : Bool → Triangle → ℕ → ℕ → Numbers
+farthest falls t w h = record { ab = edge_farthest falls t.a t.b w h; bc = edge_farthest falls t.b t.c w h; ca = edge_farthest falls t.c t.a w h }
 
 abbrev pub plus_all : Numbers → Numbers → Numbers
 plus_all m n = record { ab = m.ab +ℤ n.ab; bc = m.bc +ℤ n.bc; ca = m.ca +ℤ n.ca }

@@ -141,52 +141,16 @@ impl BoundingBox {
     }
 }
 
-/// All pixels up to the one before `end` lie before this coordinate.
-#[inline(always)]
-fn all_before(end: u32, z: i64) -> bool
-    requires { end ≤ MAX_SIDE }
-    ensures { IsTrue result → (p : ℕ) → p < end → pos (256 * p + 256) ≤ℤ z }
-{
-    256 * end as i64 <= z
-}
-
-/// All pixels from `start` on lie behind this coordinate.
-#[inline(always)]
-fn all_behind(start: u32, z: i64) -> bool
-    requires { start < MAX_SIDE }
-    ensures { IsTrue result → (p : ℕ) → start ≤ p → z <ℤ pos (256 * p + 256) }
-{
-    z < 256 * (start + 1) as i64
-}
-
-/// All rows of the region lie before the triangle.
-#[inline(always)]
-fn rows_before(t: &ScreenTri, region: Region, margin: u32) -> bool
-    requires { margin ≤ 128 }
-    ensures { IsTrue result → (p : ℕ) → p < region.y0 + region.h →
-        IsBefore p margin t.now.a.y × IsBefore p margin t.now.b.y × IsBefore p margin t.now.c.y }
-{
-    let top = lowered(least(t.a.y, t.b.y, t.c.y), margin);
-    all_before(region.y0() + region.h(), top)
-}
-
-/// All rows of the region lie behind the triangle.
-#[inline(always)]
-fn rows_behind(t: &ScreenTri, region: Region, margin: u32) -> bool
-    requires { margin ≤ 128 }
-    ensures { IsTrue result → (p : ℕ) → region.y0 ≤ p → IsBehind p margin t.now.a.y × IsBehind p margin t.now.b.y × IsBehind p margin t.now.c.y }
-{
-    let bottom = raised(greatest(t.a.y, t.b.y, t.c.y), margin);
-    all_behind(region.y0(), bottom)
-}
-
 /// All rows of the region lie before the triangle, or behind it.
 #[inline(always)]
 fn rows_miss(t: &ScreenTri, region: Region, pattern: Pattern) -> bool
     ensures { IsTrue result → CoversNone t.now (offsets_of pattern) region }
 {
     let margin = 16 * pattern.reach();
-    rows_before(t, region, margin) || rows_behind(t, region, margin)
+    let top = lowered(least(t.a.y, t.b.y, t.c.y), margin);
+    let bottom = raised(greatest(t.a.y, t.b.y, t.c.y), margin);
+    let end = region.y0() + region.h();
+    256 * end as i64 <= top || bottom < 256 * (region.y0() + 1) as i64
 }
 
 /// Whether the box around the triangle has a pixel of the region.

@@ -13,10 +13,10 @@
 #![tactic(auto)]
 
 mod bounding_box;
-mod coverage;
-mod depth;
 mod edge;
+mod for_users;
 mod fragment;
+mod hit_counts;
 pub mod laws;
 mod pattern;
 mod plane;
@@ -28,19 +28,16 @@ mod tile;
 mod tile_hits;
 mod tiles;
 mod triangle;
-mod upper_bound;
-mod walk;
 mod width;
 
 pub use bounding_box::{first_row, meets};
-pub use coverage::mask_at;
-pub use depth::{depth_at, depth_bounds};
+pub use for_users::{TileWalk, mask_at};
 pub use fragment::{Fragment, pack, unpack};
+pub use hit_counts::{count_hits, most_hits};
 pub use pattern::Pattern;
 pub use plane::DepthPlane;
 pub use point::Point;
 pub use region::{Hit, NO_HIT, Region, region_law};
 pub use tile_hits::TileHits;
 pub use triangle::ScreenTri;
-pub use upper_bound::most_hits;
-pub use walk::TileWalk;
+pub use triangle::depth::{depth_at, depth_bounds};

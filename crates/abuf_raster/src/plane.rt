@@ -9,11 +9,10 @@ ghost use Rattle.abuf_raster.specs.Coverage.{covers};
 ghost use Rattle.abuf_raster.specs.Depth.{depth_key, IsLeastKey, IsGreatestKey};
 ghost use Rattle.abuf_raster.specs.Slopes.{slope, slope_across, slope_down};
 
-use crate::coverage::sample_place;
-use crate::depth::{depth_at, depth_bounds};
-use crate::pattern::Pattern;
+use crate::pattern::{Pattern, sample_place};
 use crate::point::Point;
 use crate::triangle::ScreenTri;
+use crate::triangle::depth::{depth_at, depth_bounds};
 use crate::width::Width;
 use abuf_num::limits::MAX_DEPTH;
 use abuf_num::{Reciprocal, difference};
@@ -35,19 +34,12 @@ fn weighted(difference: i64, q: u32) -> i64
 
 /// The sum of three such differences.
 fn slope(a: i64, b: i64, c: i64, qa: u32, qb: u32, qc: u32) -> i64
-    requires a_small { unsigned_abs a < 2 ^ 29 }
-    requires b_small { unsigned_abs b < 2 ^ 29 }
-    requires c_small { unsigned_abs c < 2 ^ 29 }
-    requires qa_small { qa ≤ MAX_DEPTH }
-    requires qb_small { qb ≤ MAX_DEPTH }
-    requires qc_small { qc ≤ MAX_DEPTH }
+    requires small { (unsigned_abs a < 2 ^ 29) × (unsigned_abs b < 2 ^ 29) × (unsigned_abs c < 2 ^ 29) }
+    requires depths { (qa ≤ MAX_DEPTH) × (qb ≤ MAX_DEPTH) × (qc ≤ MAX_DEPTH) }
     ensures value { result ≡ slope a b c qa qb qc }
     ensures bound { unsigned_abs result ≤ 2 ^ 56 }
 {
-    let at_a = weighted(difference(b, c), qa);
-    let at_b = weighted(difference(c, a), qb);
-    let at_c = weighted(difference(a, b), qc);
-    at_a + at_b + at_c
+    weighted(difference(b, c), qa) + weighted(difference(c, a), qb) + weighted(difference(a, b), qc)
 }
 
 /// A sum with one more product, modulo 2^64.

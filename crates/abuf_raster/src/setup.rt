@@ -8,10 +8,9 @@ ghost use Rattle.abuf_raster.specs.TrioNumbers.{numbers_of};
 ghost use Rattle.abuf_raster.specs.Setup.{AreExtremes, IsSetup, highest, lowest};
 ghost use Rattle.abuf_raster.specs.Walk.{IsTile};
 
-use crate::coverage::sample_place;
-use crate::pattern::Pattern;
+use crate::pattern::{Pattern, sample_place};
 use crate::point::Point;
-use crate::stepping::{Trio, change_of_edge, changes, falls, rises, values_at};
+use crate::stepping::{Trio, change_of_edge, changes, farthest, values_at};
 use crate::tile::Tile;
 use crate::triangle::ScreenTri;
 use crate::width::Width;
@@ -147,7 +146,8 @@ impl<V: Width> Setup<V> {
         requires start { numbers_of V.number self.now.start ≡ values_at t.now (pixel_centre 0 0) }
         requires x_small { x < MAX_SIDE }
         requires y_small { y < MAX_SIDE }
-        ensures { numbers_of V.number result ≡ values_at t.now (pixel_centre x y) }
+        ensures value { numbers_of V.number result ≡ values_at t.now (pixel_centre x y) }
+        ensures small { AreAtMost (9 * (V.reach * V.reach)) (numbers_of V.number result) }
     {
         self.start
             .plus(changes::<V>(t, (256 * x) as i64, (256 * y) as i64))
@@ -163,7 +163,7 @@ impl<V: Width> Setup<V> {
         requires tile { IsTile tile }
         ensures { result ≡ not (none_below (highest t.now (numbers_of V.number start) tile (numbers_of V.number self.now.samples.greatest))) }
     {
-        let highest = start.plus(rises(t, tile.w - 1, tile.h - 1));
+        let highest = start.plus(farthest(t, tile.w - 1, tile.h - 1, false));
         !highest.plus(self.samples.greatest).none_below()
     }
 
@@ -177,7 +177,7 @@ impl<V: Width> Setup<V> {
         requires tile { IsTile tile }
         ensures { result ≡ none_below (lowest t.now (numbers_of V.number start) tile (numbers_of V.number self.now.samples.least)) }
     {
-        let lowest = start.plus(falls(t, tile.w - 1, tile.h - 1));
+        let lowest = start.plus(farthest(t, tile.w - 1, tile.h - 1, true));
         lowest.plus(self.samples.least).none_below()
     }
 }

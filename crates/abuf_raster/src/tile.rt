@@ -51,6 +51,16 @@ struct Primitive<V> {
     samples: Extremes<V>,
 }
 
+impl<V: Width> Primitive<V> {
+    /// The primitive, sampled in this pattern.
+    #[inline(always)]
+    fn by(self, pattern: Pattern) -> Primitive<V>
+        ensures { result ≡ record { number = self.number; pattern = pattern; samples = self.samples } }
+    {
+        Primitive { pattern, ..self }
+    }
+}
+
 /// Bit k, where it is set.
 #[inline(always)]
 fn bit(set: bool, k: u32) -> u16
@@ -278,64 +288,23 @@ pub(crate) fn tile_by<V: Width>(
     if setup.accepts(t, start, tile) {
         return full_tile(prim, pattern.full_mask(), tile, hits);
     }
-    let samples = setup.samples;
-    let number = prim;
+    let primitive = Primitive {
+        number: prim,
+        pattern,
+        samples: setup.samples,
+    };
     // A body for each pattern, so that its offsets are constants there. A sample at the centre has no extremes.
     match pattern {
-        Pattern::One => tested_tile(
-            t,
-            Primitive {
-                number,
-                pattern: Pattern::One,
+        Pattern::One => {
+            let primitive = Primitive {
                 samples: all_extremes(t, Pattern::One),
-            },
-            tile,
-            start,
-            hits,
-        ),
-        Pattern::Two => tested_tile(
-            t,
-            Primitive {
-                number,
-                pattern: Pattern::Two,
-                samples,
-            },
-            tile,
-            start,
-            hits,
-        ),
-        Pattern::Four => tested_tile(
-            t,
-            Primitive {
-                number,
-                pattern: Pattern::Four,
-                samples,
-            },
-            tile,
-            start,
-            hits,
-        ),
-        Pattern::Eight => tested_tile(
-            t,
-            Primitive {
-                number,
-                pattern: Pattern::Eight,
-                samples,
-            },
-            tile,
-            start,
-            hits,
-        ),
-        Pattern::Sixteen => tested_tile(
-            t,
-            Primitive {
-                number,
-                pattern: Pattern::Sixteen,
-                samples,
-            },
-            tile,
-            start,
-            hits,
-        ),
+                ..primitive
+            };
+            tested_tile(t, primitive.by(Pattern::One), tile, start, hits)
+        }
+        Pattern::Two => tested_tile(t, primitive.by(Pattern::Two), tile, start, hits),
+        Pattern::Four => tested_tile(t, primitive.by(Pattern::Four), tile, start, hits),
+        Pattern::Eight => tested_tile(t, primitive.by(Pattern::Eight), tile, start, hits),
+        Pattern::Sixteen => tested_tile(t, primitive.by(Pattern::Sixteen), tile, start, hits),
     }
 }

@@ -13,7 +13,7 @@ use std::marker::Model;
 /// 8 by 8 pixels. The order is not promised.
 #[derive(Drop)]
 pub struct TileHits {
-    tiles: Tiles,
+    pub(crate) tiles: Tiles,
 }
 
 impl Model for TileHits {

@@ -1,11 +1,10 @@
 -- Folds of paints, and what an opaque paint hides.
-use Rattle.std.proofs.Common.{◌≡◌, ℕ, ◌+◌, ◌-◌, ◌*◌, ◌<◌, true, List, [], ◌∷◌, refl, ap, ◌∙◌, sym, take, drop, get_or, length, zero, suc, arith}
+use Rattle.std.proofs.Common.{◌≡◌, ℕ, ◌<◌, true, List, [], ◌∷◌, refl, ap, ◌∙◌, sym, take, drop, get_or, length, zero, suc, arith}
 use Rattle.std.specs.List.{fold}
 use Rattle.std.proofs.lemmas.List.Folds.{fold-map}
 use Rattle.std.proofs.lemmas.List.Sums.{fold-append}
 use Rattle.std.proofs.Common.{take-append-drop, drop-cons, slice_index}
 use Rattle.std.proofs.lemmas.Bool.{eqb-true}
-use Rattle.abuf_num.specs.Division.{nearest}
 use Rattle.abuf_num.specs.declared.plain.Paint.{Paint}
 use Rattle.abuf_resolve.specs.Over.{over, laid_over}
 use Rattle.abuf_resolve.specs.Words.{folded, paint_of, hides}
@@ -20,10 +19,7 @@ folded_steps background paints words = fold-map laid_over (paint_of paints) back
 
 -- an opaque paint lets nothing through
 opaque_over : (u v colour alpha : ℕ) → alpha ≡ 65535 → over u colour alpha ≡ over v colour alpha
-opaque_over u v colour alpha e =
-    let none : 65535 - alpha ≡ 0 = omega arith in
-    let same : (65535 - alpha) * u ≡ (65535 - alpha) * v = ap (λ (d : ℕ). d * u) none ∙ (omega arith ∙ sym (ap (λ (d : ℕ). d * v) none)) in
-    ap (λ (m : ℕ). nearest (alpha * colour) 65535 + nearest m 65535) same
+opaque_over u v colour alpha e = rw e (omega arith)
 
 -- An opaque paint gives the same colour over any two colours.
 opaque_hides : (u v : List ℕ) (paint : Paint) → paint.alpha ≡ 65535 → laid_over u paint ≡ laid_over v paint

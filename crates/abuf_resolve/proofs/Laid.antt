@@ -61,15 +61,6 @@ module _ (os : List (ℤ × ℤ)) (tris : List Triangle) (few : length tris ≤ 
 pub alone_fits : (P : ℕ → Type 0) (k : ℕ) (list : List ℕ) (w : ℕ) → filter (has_sample k) list ≡ w ∷ [] → All P list → P w
 alone_fits P k list w e all = All-head P w [] (subst (All P) e (All-filter (has_sample k) P list all))
 
--- At most one word stands in order.
-pub few_ascend : (os : List (ℤ × ℤ)) (tris : List Triangle) (x y k : ℕ) (words : List ℕ) → length words ≤ 1 → IsNonDecreasing (sample_words os tris x y k words)
-few_ascend os tris x y k [] l = IsNonDecreasingBy-short (λ x. x) [] (omega arith)
-few_ascend os tris x y k (w ∷ []) l = go (has_sample k w) where
-  go : (b : Bool) → IsNonDecreasing (map (sample_word os tris x y k) (if b then w ∷ [] else []))
-  go true = IsNonDecreasingBy-short (λ x. x) (sample_word os tris x y k w ∷ []) (omega arith)
-  go false = IsNonDecreasingBy-short (λ x. x) [] (omega arith)
-few_ascend os tris x y k (v ∷ w ∷ words) l = absurd (omega arith)
-
 -- Where a sample has at most one fragment, its words stand in order.
 pub apart_ascend : (os : List (ℤ × ℤ)) (tris : List Triangle) (x y k : ℕ) (words : List ℕ) → length (filter (has_sample k) words) ≤ 1 → IsNonDecreasing (sample_words os tris x y k words)
 apart_ascend os tris x y k words l =

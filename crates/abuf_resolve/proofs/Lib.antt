@@ -4,9 +4,9 @@ pub mod Words
 pub mod Hits
 pub mod Lists
 pub mod Places
-pub mod Greatest
 pub mod Parts
 pub mod Totals
+pub mod Stacked
 pub mod Fits
 pub mod Present
 pub mod Covered

@@ -4,7 +4,7 @@ use Rattle.std.specs.List.{range_with_len}
 use Rattle.std.proofs.lemmas.List.{get_or-map, length-map}
 use Rattle.std.proofs.lemmas.List.FromFn.{fill_by_all}
 use Rattle.std.proofs.lemmas.Nat.{div-mul-add, mod-mul-add}
-use Rattle.abuf_raster.proofs.Pieces.{range_cut}
+use Rattle.abuf_raster.proofs.Blocks.{range_cut}
 use Rattle.abuf_resolve.specs.Lengths.{lengths_at}
 
 -- The pixels of a run follow those of the runs before it.

@@ -1,22 +1,25 @@
 -- The words of a sample that may be seen, gathered one after another.
-use Rattle.std.proofs.Common.{◌≡◌, ℕ, ◌<◌, ◌≤◌, ◌⊎◌, inl, inr, true, false, List, [], ◌∷◌, ◌++◌, map, ℤ, refl, ap, ◌∙◌, sym, arith}
+use Rattle.std.proofs.Common.{◌≡◌, ℕ, ◌<◌, ◌≤◌, ◌⊎◌, inl, inr, true, false, All, List, [], ◌∷◌, ◌++◌, map, ℤ, refl, ap, ◌∙◌, sym, arith}
 use Rattle.std.specs.List.{filter}
 use Rattle.std.proofs.lemmas.Bool.{lt-ltb, le-ltb, cases_lt}
-use Rattle.std.proofs.lemmas.List.Elements.{filter-append, Contains-append_left}
+use Rattle.std.proofs.lemmas.List.Elements.{filter-append, All-head, All-tail, Contains-append_left}
 use Rattle.abuf_num.specs.declared.plain.Paint.{Paint}
 use Rattle.std.proofs.lemmas.List.{map-append, append-nil}
 use Rattle.abuf_raster.specs.Triangle.{Triangle}
 use Rattle.abuf_resolve.specs.Words.{has_sample, hides, reaches, sample_word, sample_words, AreSeen, StillSeen}
 
+-- What reaches a number that none of a list is below is the list.
+pub reaches_all : (h : ℕ) (xs : List ℕ) → All (λ x. h ≤ x) xs → filter (reaches h) xs ≡ xs
+reaches_all h [] all = refl
+reaches_all h (x ∷ xs) all = rw (le-ltb x h (All-head (λ y. h ≤ y) x xs all)) (ap (λ (ys : List ℕ). x ∷ ys) (reaches_all h xs (All-tail (λ y. h ≤ y) x xs all)))
+
 -- To keep what reaches one number and then what reaches a greater one is to keep what reaches the greater.
 pub reaches_greater : (m n : ℕ) (xs : List ℕ) → m ≤ n → filter (reaches n) (filter (reaches m) xs) ≡ filter (reaches n) xs
 reaches_greater m n [] l = refl
-reaches_greater m n (x ∷ xs) l = go (cases_lt x m) (cases_lt x n) (reaches_greater m n xs l) where
-  go : (x < m) ⊎ (m ≤ x) → (x < n) ⊎ (n ≤ x) → filter (reaches n) (filter (reaches m) xs) ≡ filter (reaches n) xs → filter (reaches n) (filter (reaches m) (x ∷ xs)) ≡ filter (reaches n) (x ∷ xs)
-  go (inl a) (inl b) rest = rw (lt-ltb x m a, lt-ltb x n b) rest
-  go (inl a) (inr b) rest = absurd (omega arith)
-  go (inr a) (inl b) rest = rw (le-ltb x m a) (rw (lt-ltb x n b) rest)
-  go (inr a) (inr b) rest = rw (le-ltb x m a) (rw (le-ltb x n b) (ap (λ (ys : List ℕ). x ∷ ys) rest))
+reaches_greater m n (x ∷ xs) l = go (cases_lt x m) (reaches_greater m n xs l) where
+  go : (x < m) ⊎ (m ≤ x) → filter (reaches n) (filter (reaches m) xs) ≡ filter (reaches n) xs → filter (reaches n) (filter (reaches m) (x ∷ xs)) ≡ filter (reaches n) (x ∷ xs)
+  go (inl a) rest = rw (lt-ltb x m a, lt-ltb x n (omega arith)) rest
+  go (inr a) rest = rw (le-ltb x m a, rest) refl
 
 -- A word that hides what lies under it is the least that is seen from then on.
 pub raised : (paints : List Paint) (all seen : List ℕ) (least word : ℕ) → least ≤ word → hides paints word ≡ true → AreSeen paints all seen least

@@ -1,9 +1,10 @@
 -- Sets of samples as masks, and totals over them.
-use Rattle.std.proofs.Common.{◌≡◌, ℕ, zero, suc, ◌+◌, ◌-◌, ◌*◌, ◌%◌, ◌^◌, ◌<◌, ◌≤◌, Bool, true, false, not, ◌&&◌, if◌then◌else◌, min, List, [], ◌∷◌, slice_index, bit_and, w32, ◌⊎◌, inl, inr, true≢false, refl, ap, ap₂, ◌∙◌, sym, arith, ◌==◌}
+use Rattle.std.proofs.Common.{◌≡◌, ℕ, zero, suc, ◌+◌, ◌-◌, ◌*◌, ◌%◌, ◌^◌, ◌<◌, ◌≤◌, Bool, true, false, not, ◌&&◌, if◌then◌else◌, min, List, [], ◌∷◌, slice_index, bit_and, w32, ◌≢◌, true≢false, refl, ap, ap₂, ◌∙◌, sym, arith, ◌==◌}
 use Rattle.std.specs.Int.{bit_at, bit_not, trailing_zeros}
 use Rattle.std.specs.Int.RustNames.{count_ones}
 use Rattle.std.proofs.Math.Nat.{mod-eq_of_lt}
-use Rattle.std.proofs.lemmas.Bool.{cases_lt, eq-eqb, eqb-true}
+use Rattle.std.proofs.lemmas.Bool.{and_parts, eq-eqb, eqb-true, false_from_ne_true, not-true}
+use Rattle.std.proofs.lemmas.Bool.Decides.{nat_tests}
 use Rattle.std.proofs.lemmas.Nat.{and_le_l, mod-pow-add, mod_below, ones_cat, pow_below, pow_pos}
 use Rattle.std.proofs.lemmas.Nat.Bits.{bit_at-lt, bit_at-zero, bit_at_and, bit_at_above, bit_at_not, bit_at_ones, bit_at-trailing_zeros, same_from_bits_below}
 use Rattle.abuf_num.specs.declared.plain.PixelSum.{PixelSum}
@@ -12,9 +13,7 @@ use Rattle.abuf_resolve.specs.Tally.{in_set, sums_where, total}
 
 -- A bit as a truth value.
 bit_of : (b : ℕ) → b < 2 → (if b == 1 then 1 else 0) ≡ b
-bit_of zero l = refl
-bit_of (suc zero) l = refl
-bit_of (suc (suc n)) l = absurd (omega arith)
+bit_of b l = grind (arith, nat_tests)
 
 -- A bit has as many ones.
 one_bit : (b : ℕ) → b < 2 → count_ones b ≡ b
@@ -42,11 +41,7 @@ ones_are set n l = let e : set % 2 ^ n ≡ set = mod-eq_of_lt l in ap count_ones
 
 -- Two bits are 1 where the lower of them is.
 both_and : (a b : ℕ) → a < 2 → b < 2 → (min a b == 1) ≡ ((a == 1) && (b == 1))
-both_and zero b l m = let e : min 0 b ≡ 0 = omega arith in ap (λ (c : ℕ). c == 1) e
-both_and (suc zero) zero l m = refl
-both_and (suc zero) (suc zero) l m = refl
-both_and (suc zero) (suc (suc b)) l m = absurd (omega arith)
-both_and (suc (suc a)) b l m = absurd (omega arith)
+both_and a b l m = grind (arith, nat_tests)
 
 -- Both sets have a sample where what they share has it.
 pub in_both : (a b k : ℕ) → in_set (bit_and a b) k ≡ (in_set a k && in_set b k)
@@ -54,9 +49,7 @@ in_both a b k = ap (λ (m : ℕ). m == 1) (bit_at_and a b k) ∙ both_and (bit_a
 
 -- A bit is 1 where the other one isn't.
 other : (b : ℕ) → b < 2 → ((1 - b) == 1) ≡ not (b == 1)
-other zero l = refl
-other (suc zero) l = refl
-other (suc (suc b)) l = absurd (omega arith)
+other b l = grind (arith, nat_tests)
 
 -- A set without another has a sample where the first has it and the other hasn't.
 pub in_rest : (a b k : ℕ) → b < 2 ^ 32 → k < 32 → in_set (bit_and a (bit_not w32 b)) k ≡ (in_set a k && not (in_set b k))
@@ -76,20 +69,12 @@ total_none p v (suc n) h = rw (h n (omega arith)) (omega (arith, total_none p v 
 -- How many pass is no more than n.
 pub total_le : (p : ℕ → Bool) (n : ℕ) → total p (λ _. 1) n ≤ n
 total_le p zero = omega arith
-total_le p (suc n) = go (total_le p n) (p n) where
-  go : total p (λ _. 1) n ≤ n → (b : Bool) → total p (λ _. 1) n + (if b then 1 else 0) ≤ suc n
-  go l true = omega arith
-  go l false = omega arith
+total_le p (suc n) = grind (arith, total_le p n)
 
 -- Those that are left, in two parts.
 pub parted : (r s : ℕ → Bool) (n : ℕ) → total r (λ _. 1) n ≡ total (λ k. r k && not (s k)) (λ _. 1) n + total (λ k. r k && s k) (λ _. 1) n
 parted r s zero = refl
-parted r s (suc n) = go (parted r s n) (r n) (s n) where
-  go : total r (λ _. 1) n ≡ total (λ k. r k && not (s k)) (λ _. 1) n + total (λ k. r k && s k) (λ _. 1) n → (a b : Bool)
-      → total r (λ _. 1) n + (if a then 1 else 0) ≡ total (λ k. r k && not (s k)) (λ _. 1) n + (if a && not b then 1 else 0) + (total (λ k. r k && s k) (λ _. 1) n + (if a && b then 1 else 0))
-  go e true true = omega (arith, e)
-  go e true false = omega (arith, e)
-  go e false b = omega (arith, e)
+parted r s (suc n) = grind (arith, parted r s n)
 
 -- Where those of a set that are left have one value, it is added so many times.
 pub grown : (r s : ℕ → Bool) (v : ℕ → ℕ) (c n : ℕ) → ((k : ℕ) → k < n → r k ≡ true → s k ≡ true → v k ≡ c)
@@ -166,20 +151,9 @@ none_yet colours n = λ i. record { channels = none (λ k. slice_index (colours 
   none v = total_none (λ k. not (in_set (2 ^ n - 1) k)) v n (λ k l. ap (λ (b : ℕ). not (b == 1)) (bit_at_ones n k l))
 
 -- ---- members
--- Both of two truths.
-both_of : (a b : Bool) → (a && b) ≡ true → (a ≡ true) × (b ≡ true)
-both_of true true e = (refl, refl)
-both_of true false e = (refl, e)
-both_of false b e = (e, absurd (true≢false (sym e)))
-
--- What isn't true is false.
-not_true : (a : Bool) → not a ≡ true → a ≡ false
-not_true true e = sym e
-not_true false e = refl
-
 -- A sample that two sets share is one of each.
 pub of_both : (a b k : ℕ) → in_set (bit_and a b) k ≡ true → (in_set a k ≡ true) × (in_set b k ≡ true)
-of_both a b k e = both_of (in_set a k) (in_set b k) (sym (in_both a b k) ∙ e)
+of_both a b k e = and_parts (in_set a k) (in_set b k) (sym (in_both a b k) ∙ e)
 
 -- One of each is shared.
 pub to_both : (a b k : ℕ) → in_set a k ≡ true → in_set b k ≡ true → in_set (bit_and a b) k ≡ true
@@ -188,8 +162,8 @@ to_both a b k e f = in_both a b k ∙ ap₂ (λ (v w : Bool). v && w) e f
 -- A sample that is left is one of the set, and none of the other.
 pub of_left : (a b k : ℕ) → b < 2 ^ 32 → k < 32 → in_set (bit_and a (bit_not w32 b)) k ≡ true → (in_set a k ≡ true) × (in_set b k ≡ false)
 of_left a b k l m e =
-    let both = both_of (in_set a k) (not (in_set b k)) (sym (in_rest a b k l m) ∙ e) in
-    (both.0, not_true (in_set b k) both.1)
+    let both = and_parts (in_set a k) (not (in_set b k)) (sym (in_rest a b k l m) ∙ e) in
+    (both.0, not-true (in_set b k) both.1)
 
 -- One of the set that isn't of the other is left.
 pub to_left : (a b k : ℕ) → b < 2 ^ 32 → k < 32 → in_set a k ≡ true → in_set b k ≡ false → in_set (bit_and a (bit_not w32 b)) k ≡ true
@@ -197,27 +171,20 @@ to_left a b k l m e f = in_rest a b k l m ∙ ap₂ (λ (v w : Bool). v && not w
 
 -- A sample of a set of few is one of these.
 pub member_below : (set n k : ℕ) → set < 2 ^ n → in_set set k ≡ true → k < n
-member_below set n k l e = go (cases_lt k n) where
-  go : (k < n) ⊎ (n ≤ k) → k < n
-  go (inl m) = m
-  go (inr m) = absurd (omega (arith, eqb-true (bit_at set k) 1 e, bit_at_above set n k l m))
+member_below set n k l e =
+    let none : n ≤ k → bit_at set k ≡ 0 = bit_at_above set n k l in
+    let one : bit_at set k ≡ 1 = eqb-true (bit_at set k) 1 e in
+    grind (arith, none, one)
 
 -- Fewer are left where one is taken.
 pub fewer_left : (a b k : ℕ) → b < 2 ^ 32 → k < 32 → in_set a k ≡ true → in_set b k ≡ true → bit_and a (bit_not w32 b) < a
-fewer_left a b k l m e f = go (cases_lt (bit_and a (bit_not w32 b)) a) where
-  go : (bit_and a (bit_not w32 b) < a) ⊎ (a ≤ bit_and a (bit_not w32 b)) → bit_and a (bit_not w32 b) < a
-  go (inl s) = s
-  go (inr s) =
-      let same : a ≡ bit_and a (bit_not w32 b) = omega (arith, s, and_le_l a (bit_not w32 b)) in
-      let both = of_left a b k l m (ap (λ (c : ℕ). in_set c k) (sym same) ∙ e) in
-      absurd (true≢false (sym f ∙ both.1))
+fewer_left a b k l m e f =
+    let differs : a ≢ bit_and a (bit_not w32 b) = λ same. true≢false (sym f ∙ (of_left a b k l m (ap (λ (c : ℕ). in_set c k) (sym same) ∙ e)).1) in
+    omega (arith, and_le_l a (bit_not w32 b))
 
 -- One of the second that they don't share is none of the first.
 pub apart_from : (a b k : ℕ) → in_set (bit_and a b) k ≡ false → in_set b k ≡ true → in_set a k ≡ false
-apart_from a b k e f = go (in_set a k) refl where
-  go : (v : Bool) → v ≡ in_set a k → in_set a k ≡ false
-  go true g = absurd (true≢false (sym (to_both a b k (sym g) f) ∙ e))
-  go false g = sym g
+apart_from a b k e f = false_from_ne_true (in_set a k) (λ g. true≢false (sym (to_both a b k g f) ∙ e))
 
 -- The first sample of a set.
 pub lowest : (rest n : ℕ) → 0 < rest → rest < 2 ^ n → n ≤ 16 → (trailing_zeros w32 rest < n) × (in_set rest (trailing_zeros w32 rest) ≡ true)

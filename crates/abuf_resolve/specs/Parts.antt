@@ -3,8 +3,8 @@ use Rattle.std.specs.Prelude.{◌≡◌, ℕ, ◌-◌, ◌*◌, ◌/◌, ◌%◌
 use Rattle.std.specs.List.{range_with_len, All}
 use Rattle.abuf_raster.specs.Region.{Region}
 use Rattle.abuf_raster.specs.Samples.{offsets_of}
-use Rattle.abuf_resolve.specs.declared.runs.Offset.{Offset}
-use Rattle.abuf_resolve.specs.declared.runs.Resolved.{Resolved}
+use Rattle.abuf_resolve.specs.declared.scene.runs.Offset.{Offset}
+use Rattle.abuf_resolve.specs.declared.scene.runs.Resolved.{Resolved}
 use Rattle.abuf_resolve.specs.declared.scene.Scene.{Scene}
 use Rattle.abuf_resolve.specs.Scene.{sum_in}
 use Rattle.abuf_resolve.specs.Lengths.{greatest, lengths_at}

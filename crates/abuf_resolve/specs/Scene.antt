@@ -5,7 +5,7 @@ use Rattle.std.specs.List.Sorted.{IsNonDecreasing}
 use Rattle.abuf_num.specs.declared.plain.PixelSum.{PixelSum}
 use Rattle.abuf_raster.specs.Region.{Region}
 use Rattle.abuf_raster.specs.Samples.{offsets_of}
-use Rattle.abuf_resolve.specs.declared.bounded.Bounded.{Bounded}
+use Rattle.abuf_resolve.specs.declared.scene.bounded.Bounded.{Bounded}
 use Rattle.abuf_resolve.specs.declared.scene.Pixel.{Pixel}
 use Rattle.abuf_resolve.specs.declared.scene.Scene.{Scene}
 use Rattle.abuf_resolve.specs.Bounded.{IsBounded}

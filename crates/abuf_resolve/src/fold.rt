@@ -1,12 +1,11 @@
 // Paints laid over one another.
-ghost use Rattle.std.specs.Prelude.{◌≡◌, ℕ, ◌*◌, ◌<◌, ◌≤◌, true, false, length, slice_index};
+ghost use Rattle.std.specs.Prelude.{◌≡◌, ◌*◌, ◌≤◌, length};
 ghost use Rattle.std.specs.List.{All};
-ghost use Rattle.std.specs.List.Sorted.{IsNonDecreasing};
 ghost use Rattle.abuf_num.specs.Division.{nearest};
 ghost use Rattle.abuf_resolve.specs.Over.{over, laid_over};
 ghost use Rattle.abuf_resolve.specs.Words.{folded, paint_of, hides, IsDepthWord};
 
-use crate::fragments::SampleWord;
+use crate::fragment_words::SampleWord;
 use abuf_num::Paint;
 
 /// The greatest colour, and the greatest alpha.
@@ -42,17 +41,6 @@ pub fn laid_over(under: [u16; 3], paint: Paint) -> [u16; 3]
     ]
 }
 
-/// The colour of a sample: from the background on, the paint of every word is laid over, in order. A word is a depth key
-/// times 2^24 plus the number of a primitive that has a paint; the words ascend.
-pub fn sample_colour(sorted: &[u64], paints: &[Paint], background: [u16; 3]) -> [u16; 3]
-    requires words { All (IsDepthWord (length paints.now)) sorted.now }
-    requires ascending { IsNonDecreasing sorted.now }
-    ensures { result ≡ folded background paints.now sorted.now }
-{
-    let first = first_seen(sorted, paints);
-    lay_all(background, &sorted[first..], paints)
-}
-
 /// The paints of all words, laid over the colour in order.
 pub(crate) fn lay_all(under: [u16; 3], words: &[u64], paints: &[Paint]) -> [u16; 3]
     requires words { All (IsDepthWord (length paints.now)) words.now }
@@ -64,21 +52,6 @@ pub(crate) fn lay_all(under: [u16; 3], words: &[u64], paints: &[Paint]) -> [u16;
         colour = above;
     }
     colour
-}
-
-/// The place of the last word whose paint hides what lies under it, or 0: nothing below it is seen.
-fn first_seen(words: &[u64], paints: &[Paint]) -> usize
-    requires words { All (IsDepthWord (length paints.now)) words.now }
-    ensures within { result ≤ length words.now }
-    ensures hidden { 0 < result → (result < length words.now) × (hides paints.now (slice_index words.now result) ≡ true) }
-    ensures last { (k : ℕ) → result < k → k < length words.now → hides paints.now (slice_index words.now k) ≡ false }
-{
-    for i in (0..words.len()).rev() {
-        if hides(words[i], paints) {
-            return i;
-        }
-    }
-    0
 }
 
 /// The paint of the word's primitive.

@@ -4,7 +4,7 @@ ghost use Rattle.std.specs.List.{filter};
 ghost use Rattle.abuf_resolve.specs.Having.{Has, with_one};
 ghost use Rattle.abuf_resolve.specs.Words.{has_sample};
 
-use crate::fragments::FragmentWord;
+use crate::fragment_words::FragmentWord;
 
 /// None of the words has the sample, this one alone, or more than one.
 #[derive(Clone, Copy)]

@@ -13,22 +13,21 @@
 //! Only resolving and the planes take memory.
 #![tactic(auto)]
 
-mod bounded;
 mod fold;
-mod fragments;
+mod for_users;
+mod fragment_words;
 mod having;
 pub mod laws;
 mod order;
-mod pixels;
 mod planes;
-mod runs;
 mod scene;
 mod tally;
-mod threads;
 
-pub use fold::{laid_over, over, sample_colour};
-pub use pixels::plus;
+pub use fold::{laid_over, over};
+pub use for_users::{resolve, sample_colour};
+pub use fragment_words::{FragmentWord, SampleWord};
 pub use planes::Planes;
-pub use runs::Resolved;
+pub use scene::pixels::plus;
+pub use scene::runs::Resolved;
+pub use scene::threads::resolve_counted;
 pub use scene::{Pixel, Scene};
-pub use threads::{resolve, resolve_counted};

@@ -1,5 +1,7 @@
 // The triangles, and what their depth keys take.
-ghost use Rattle.std.specs.Prelude.{◌≡◌, ◌<◌, ◌≤◌, true, length, IfOk};
+ghost use Rattle.std.specs.Prelude.{◌≡◌, ◌<◌, ◌≤◌, true, nat_lt, length, IfOk};
+ghost use Rattle.std.specs.List.{All};
+ghost use Rattle.std.specs.List.Sorted.{IsNonDecreasing};
 ghost use Rattle.abuf_num.specs.declared.limits.TheConstants.{MAX_DEPTH, MAX_PRIMITIVES};
 ghost use Rattle.abuf_raster.specs.Samples.{offsets_of};
 ghost use Rattle.abuf_raster.specs.Coverage.{covers};
@@ -7,8 +9,11 @@ ghost use Rattle.abuf_raster.specs.Depth.{depth_key, HasNoKeyAbove};
 ghost use Rattle.abuf_resolve.specs.Colour.{triangle_at};
 ghost use Rattle.abuf_resolve.specs.Keys.{NoKeyBelow, NoKeyAbove, NoWordAbove};
 ghost use Rattle.abuf_resolve.specs.Made.{IsOf};
+ghost use Rattle.abuf_resolve.specs.Order.{in_order};
+ghost use Rattle.abuf_resolve.specs.Words.{sample_word, sample_words, has_sample, IsDepthWord, IsFragmentAt};
 
-use crate::fragments::SampleWord;
+use crate::fragment_words::{FragmentWord, SampleWord};
+use crate::order::put_in_order;
 use crate::scene::Pixel;
 use abuf_num::NoMemory;
 use abuf_raster::{DepthPlane, Pattern, ScreenTri};
@@ -37,6 +42,8 @@ impl<'a> Model for Planes<'a> {
     ghost use Rattle.std.specs.Prelude.{List, IfSome};
     ghost use Rattle.abuf_raster.specs.Triangle.{Triangle};
     ghost use Rattle.abuf_resolve.specs.Made.{IsOf};
+    ghost use Rattle.abuf_resolve.specs.Order.{in_order};
+    ghost use Rattle.abuf_resolve.specs.Words.{sample_word, sample_words, has_sample, IsDepthWord, IsFragmentAt};
 
     ghost Value = { List Triangle };
 
@@ -154,5 +161,49 @@ impl<'a> Planes<'a> {
             None => DepthPlane::new(t).bounds(t, at.x, at.y, pattern),
         };
         Bounds { low, high }
+    }
+
+    /// The fragment of this word in sample k, which it has, as a word: its depth key there times 2^24, plus its primitive number.
+    #[inline(always)]
+    pub(crate) fn sample_word(&self, word: u64, at: Pixel, pattern: Pattern, k: u32) -> u64
+        requires few { length self.now ≤ MAX_PRIMITIVES }
+        requires sample { k < length (offsets_of pattern) }
+        requires word { IsFragmentAt (offsets_of pattern) self.now at.x at.y word }
+        requires has { has_sample k word ≡ true }
+        ensures value { result ≡ sample_word (offsets_of pattern) self.now at.x at.y k word }
+        ensures fits { IsDepthWord (length self.now) result }
+    {
+        let prim = FragmentWord(word).primitive();
+        let depth = self.key(prim as u32, at, pattern, k);
+        SampleWord::new(depth, prim).0
+    }
+
+    /// The fragments of a pixel that have sample k, from the farthest to the nearest. Each is a word: its depth key there times
+    /// 2^24, plus its primitive number; the greater key is nearer, and of equal keys the lower number lies beneath. The list has
+    /// the words of the pixel's fragments in any order, with samples alone that their triangles cover. An error means that
+    /// memory for the buffer ran out.
+    pub fn sample_words(
+        &self,
+        keys: &mut Vec<u64>,
+        list: &[u64],
+        at: Pixel,
+        pattern: Pattern,
+        k: u32,
+    ) -> Result<(), NoMemory>
+        requires few { length self.now ≤ MAX_PRIMITIVES }
+        requires sample { k < length (offsets_of pattern) }
+        requires words { All (IsFragmentAt (offsets_of pattern) self.now at.x at.y) list.now }
+        ensures value { IfOk result (λ _. keys.new.items ≡ in_order nat_lt (sample_words (offsets_of pattern) self.now at.x at.y k list.now)) }
+        ensures fits { IfOk result (λ _. All (IsDepthWord (length self.now)) keys.new.items) }
+        ensures ascending { IfOk result (λ _. IsNonDecreasing keys.new.items) }
+    {
+        keys.clear();
+        for word in list {
+            if FragmentWord(*word).covers(k) {
+                keys.push(self.sample_word(*word, at, pattern, k))?;
+            }
+        }
+        put_in_order(keys);
+        Ok(())
     }
 }

@@ -2,6 +2,12 @@
 ghost use Rattle.std.specs.Prelude.{◌≡◌, ◌<◌, ◌≤◌, length};
 ghost use Rattle.abuf_num.specs.declared.limits.TheConstants.{MAX_PRIMITIVES, MAX_SIDE};
 
+pub(crate) mod bounded;
+pub(crate) mod pixels;
+pub(crate) mod runs;
+pub(crate) mod seen;
+pub(crate) mod threads;
+
 use crate::planes::Planes;
 use abuf_num::Paint;
 use abuf_raster::Pattern;

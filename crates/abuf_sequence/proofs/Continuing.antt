@@ -1,5 +1,5 @@
 -- Images that were drawn at once, written one after another after those before them.
-use Rattle.std.proofs.Common.{◌≡◌, ◌≤◌, ◌<◌, ◌+◌, ◌-◌, ℕ, List, [], length, take, drop, slice_index_or, Option, Result, Ok, Err, sym, subst, ◌∙◌, arith}
+use Rattle.std.proofs.Common.{◌≡◌, ◌≤◌, ◌<◌, ◌+◌, ◌-◌, ℕ, List, [], length, take, drop, slice_index_or, Option, Result, Ok, Err, sym, ap, subst, ◌∙◌, arith}
 use Rattle.std.specs.Io.KnownBytes.{Appends}
 use Rattle.std.proofs.lemmas.List.{get_or-take, get_or-drop}
 use Rattle.std.proofs.Math.ListN.{length-take, length-drop}
@@ -14,7 +14,7 @@ use Rattle.abuf_io.specs.Sinks.{Taken}
 use Rattle.abuf_sequence.specs.Sequences.{image_of, IsSequenceAnswer}
 use Rattle.abuf_sequence.specs.Single.{AreBytes, IsDrawAnswer, IsWriteAnswer, IsWritten, WritesDrawn, fault_after}
 use Rattle.abuf_sequence.specs.Batches.{AreDrawn, AreDrawnFrom, HaveWritten}
-use Rattle.abuf_sequence.proofs.Joining.{fails, one_more, written_more}
+use Rattle.abuf_sequence.proofs.Joining.{ends, one_more, written_more}
 
 -- What the drawing of an image and then its writing answer is what both together do.
 pub answers : (plan : Plan) (scene : List Triangle) (shot : Shot) (out : Taken) (T : Type 0) (drawn : Result (List ℕ) ImageFault) (result : Result T ImageFault)
@@ -86,5 +86,6 @@ module _ (plan : Plan) (scene : List Triangle) (shots : List Shot) where
           → WritesDrawn (record { old = mid; new = new; faults_old = faults_mid; faults_new = faults_new }) {T = T} one.image (Err why)
           → IsSequenceAnswer plan scene shots (record { old = old; new = new; faults_old = faults_old; faults_new = faults_new }) {T = T} (Err told)
       ended why told n so count wrote =
-          fails plan scene shots (before + j) has.sound nowhere inside T old mid new faults_old faults_mid faults_new has.written has.later why told n so count
-          (answers plan scene shot _ T one.image (Err why) drew wrote)
+          subst (λ (e : SequenceFault). IsSequenceAnswer plan scene shots (record { old = old; new = new; faults_old = faults_old; faults_new = faults_new }) {T = T} (Err e))
+          (sym (so ∙ ap (λ (m : ℕ). fault_after m why) count))
+          (ends plan scene shots (before + j) has.sound nowhere inside T old mid new faults_old faults_mid faults_new has.written has.later why (answers plan scene shot _ T one.image (Err why) drew wrote))

@@ -12,7 +12,6 @@ use Rattle.std.proofs.Math.Seq.{take_all, take-append_seam, take-take}
 use Rattle.abuf_scene.specs.declared.triangles.Triangle.{Triangle}
 use Rattle.abuf_sequence.specs.declared.fault.ImageFault.{ImageFault}
 use Rattle.abuf_sequence.specs.declared.fault.ImageFault.TheVariants as fault
-use Rattle.abuf_sequence.specs.declared.fault.SequenceFault.{SequenceFault}
 use Rattle.abuf_sequence.specs.declared.path.Shot.{Shot}
 use Rattle.abuf_sequence.specs.declared.plan.Plan.{Plan}
 use Rattle.abuf_sequence.specs.Sequences.{first_full, image_of, images, sound_count, sound_images, total_of, totals, IsSequenceAnswer, AreWritten}
@@ -112,7 +111,7 @@ module _ (plan : Plan) (scene : List Triangle) (shots : List Shot) (k : ℕ) (so
         ap (take (length part)) cut ∙ take-append_seam part (drop count image ++ later)
 
     -- What the writing of one image answers after the others is what that of the sequence answers.
-    ends : (T : Type 0) (old mid new : Option (List ℕ)) (faults_old faults_mid faults_new : ℕ) → Appends old mid (concat (take k all)) → faults_old ≤ faults_mid → (why : ImageFault)
+    pub ends : (T : Type 0) (old mid new : Option (List ℕ)) (faults_old faults_mid faults_new : ℕ) → Appends old mid (concat (take k all)) → faults_old ≤ faults_mid → (why : ImageFault)
         → IsWriteAnswer plan scene here (record { old = mid; new = new; faults_old = faults_mid; faults_new = faults_new }) {T = T} (Err why)
         → IsSequenceAnswer plan scene shots (record { old = old; new = new; faults_old = faults_old; faults_new = faults_new }) {T = T} (Err (fault_after k why))
     ends T old mid new faults_old faults_mid faults_new before later (fault.Full fragments nodes) answer =
@@ -141,11 +140,3 @@ module _ (plan : Plan) (scene : List Triangle) (shots : List Shot) (k : ℕ) (so
       left = below;
       whole = subst (Appends old new) (ap concat (sym front)) (Appends-kept old mid new _ before answer);
     }
-
-    pub fails : (T : Type 0) (old mid new : Option (List ℕ)) (faults_old faults_mid faults_new : ℕ) → Appends old mid (concat (take k all)) → faults_old ≤ faults_mid
-        → (why : ImageFault) (told : SequenceFault) (n : ℕ) → told ≡ fault_after n why → n ≡ k
-        → IsWriteAnswer plan scene here (record { old = mid; new = new; faults_old = faults_mid; faults_new = faults_new }) {T = T} (Err why)
-        → IsSequenceAnswer plan scene shots (record { old = old; new = new; faults_old = faults_old; faults_new = faults_new }) {T = T} (Err told)
-    fails T old mid new faults_old faults_mid faults_new before later why told n is count answer =
-        subst (λ (e : SequenceFault). IsSequenceAnswer plan scene shots (record { old = old; new = new; faults_old = faults_old; faults_new = faults_new }) {T = T} (Err e))
-        (sym (is ∙ ap (λ (j : ℕ). fault_after j why) count)) (ends T old mid new faults_old faults_mid faults_new before later why answer)

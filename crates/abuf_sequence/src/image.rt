@@ -1,5 +1,5 @@
 // One image of a sequence.
-ghost use Rattle.std.specs.Prelude.{◌≡◌, ◌≤◌, MatchOption};
+ghost use Rattle.std.specs.Prelude.{◌≡◌, ◌≤◌};
 ghost use Rattle.std.specs.List.{All};
 ghost use Rattle.abuf_num.specs.declared.limits.TheConstants.{MAX_NODES, MAX_THREADS};
 ghost use Rattle.abuf_raster.specs.Region.{whole_image};
@@ -19,7 +19,7 @@ use abuf_pam::image_bytes;
 use abuf_picture::{Primitives, Target, redraw, resolve_drawn};
 use abuf_raster::Region;
 use abuf_scene::Scene;
-use abuf_view::{Camera, project};
+use abuf_view::{Camera, Lens, project};
 use std::alloc::Global;
 use std::thread::Threads;
 
@@ -29,17 +29,11 @@ fn camera_of(plan: &Plan, shot: Shot) -> Camera
     requires shot { IsShot shot }
     ensures { result ≡ camera_of plan.now shot }
 {
-    match Camera::new(
-        plan.width,
-        plan.height,
-        shot.turn,
-        shot.shift,
-        plan.focal,
-        plan.near,
-    ) {
-        Some(camera) => camera,
-        None => unreachable!(),
-    }
+    let lens = Lens {
+        focal: plan.focal,
+        near: plan.near,
+    };
+    Camera::of_parts(plan.width, plan.height, shot.turn, shot.shift, lens)
 }
 
 /// What an image of a plan is drawn into, with so many nodes, by so many threads.

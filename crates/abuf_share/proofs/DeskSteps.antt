@@ -1,15 +1,15 @@
 -- Each step of the desk keeps its rule.
-use Rattle.std.proofs.Common.{◌≡◌, ◌≢◌, ℕ, zero, suc, ◌+◌, ◌-◌, ◌%◌, ◌^◌, ◌<◌, ◌≤◌, Bool, cond, List, [], ◌∷◌, ◌++◌, length, set, get_or, sym, refl, ap, ◌∙◌, subst, arith, ⊎_elim, length-append, length-set, get_or-set_same, slice_index, eq-eqb, All}
+use Rattle.std.proofs.Common.{◌≡◌, ℕ, zero, suc, ◌+◌, ◌-◌, ◌%◌, ◌^◌, ◌<◌, ◌≤◌, Bool, cond, List, [], ◌∷◌, ◌++◌, length, set, get_or, sym, refl, ap, ◌∙◌, subst, arith, length-append, length-set, get_or-set_same, slice_index, eq-eqb, All}
 use mathlib.Core.Option.{some, some-ne-none}
 use lib.ListN.{get_elem?}
 use lib.Seq.{set-get_or}
-use Rattle.std.proofs.lemmas.Bool.{cases_eq}
+use Rattle.std.proofs.lemmas.List.{nil_from_length}
 use Rattle.std.proofs.lemmas.List.Elements.{All-nil, All-cons}
 use Rattle.std.proofs.lemmas.List.Sums.{sum_by-append}
 use Rattle.atomic_table.specs.Table.{State, Me, keeps, stepped, Allows, Splits, Joins, opening}
 use Rattle.atomic_table.proofs.Lists.{set_again}
 use Rattle.abuf_num.specs.Counting.{below, times}
-use Rattle.abuf_num.proofs.Counting.{sum_set, sum_le, sum_both, sum_only, times-append, below_more, below_from}
+use Rattle.abuf_num.proofs.Counting.{sum_set, sum_le, sum_both, sum_only, times-append, below_more, below_no, below_from}
 use Rattle.abuf_share.specs.declared.rule.Hand.{Hand}
 use Rattle.abuf_share.specs.Desk.{Lawful, EachOnceIfWhole, Shown, whole_hand, drawing, endowment, holding}
 
@@ -19,15 +19,7 @@ St = State (Unit {0}) Hand
 
 -- The state that a desk starts in is lawful.
 pub starts : Lawful (opening (0 ∷ []) [] whole_hand)
-starts = record { wide = refl; once = λ n. none n; counted = refl; endowed = refl }
-  where
-    none : (n : ℕ) → 0 ≡ below n 0
-    none n = let b = below_from n 0 in ⊎_elim (λ (e : below n 0 ≡ 0). sym e) (λ (e : below n 0 ≢ 0). let l = b (omega arith) in absurd (omega arith)) (cases_eq (below n 0) 0)
-
--- A list without items has no number.
-times_le : (n : ℕ) (ns : List ℕ) → length ns ≡ 0 → times n ns ≡ 0
-times_le n [] e = refl
-times_le n (m ∷ ms) e = absurd (omega arith)
+starts = record { wide = refl; once = λ n. sym (below_no n 0 (omega arith)); counted = refl; endowed = refl }
 
 -- Numbers of which each that stands in the list is below a bound are all below it.
 under_from : (c : ℕ) (ns : List ℕ) → ((n : ℕ) → 0 < times n ns → n < c) → All (λ n. n < c) ns
@@ -37,7 +29,7 @@ under_from c (n ∷ ns) h = All-cons (λ n. n < c) n ns (h n (let t = ap (λ (b 
 module _ (s : St) (r : Lawful s) (id : ℕ) (v : Hand) (at : get_elem? s.views id ≡ some v) where
   -- The turn that has the whole endowment has each number below the count once.
   whole : EachOnceIfWhole v
-  whole e n = let a = sum_only (λ (u : Hand). times n u.drawn) endowment (λ u z. times_le n u.drawn (omega arith)) s.views id v at (r.endowed ∙ sym e) in
+  whole e n = let a = sum_only (λ (u : Hand). times n u.drawn) endowment (λ u z. ap (times n) (nil_from_length u.drawn (omega arith))) s.views id v at (r.endowed ∙ sym e) in
       let b = sum_only (λ (u : Hand). length u.drawn) endowment (λ u z. omega arith) s.views id v at (r.endowed ∙ sym e) in sym a ∙ (r.once n ∙ ap (below n) (sym (r.counted) ∙ b))
 
   -- The numbers of a turn are below the word.

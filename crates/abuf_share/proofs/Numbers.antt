@@ -1,46 +1,18 @@
 -- The numbers that turns have drawn, and the results for them.
-use Rattle.std.proofs.Common.{◌≡◌, ◌≢◌, ℕ, zero, suc, ◌+◌, ◌<◌, ◌≤◌, Bool, true, false, cond, eqb, nat_lt, List, [], ◌∷◌, ◌++◌, length, map, filter, slice_index_or, sym, refl, ap, ◌∙◌, subst, arith, eq-eqb, ne_eqb, ⊎_elim, append-nil, IsPermutation, All, Result, Ok, sum_by, if◌then◌else◌, ◌==◌}
+use Rattle.std.proofs.Common.{◌≡◌, ℕ, zero, suc, ◌+◌, ◌<◌, ◌≤◌, Bool, cond, eqb, nat_lt, List, [], ◌∷◌, ◌++◌, length, map, filter, slice_index_or, sym, refl, ap, ◌∙◌, subst, arith, eq-eqb, ne_eqb, ⊎_elim, append-nil, IsPermutation, All, Result, Ok}
 use denote.Param.Members.{Shared}
 use Rattle.std.specs.Fn.{FnReturns}
 use Rattle.std.specs.List.Sorted.{IsNonDecreasingBy}
-use Rattle.std.proofs.lemmas.Bool.{cases_eq, cases_lt, le-ltb, lt-ltb}
+use Rattle.std.proofs.lemmas.Bool.{cases_lt, le-ltb, lt-ltb}
+use Rattle.std.proofs.lemmas.Bool.Decides.{nat_tests}
 use Rattle.std.proofs.lemmas.List.{length-map, map-append}
 use Rattle.std.proofs.lemmas.List.Elements.{All-head, All-tail, All-append, filter-append}
-use Rattle.std.proofs.lemmas.List.Sums.{sum_by-cons}
-use Rattle.std.proofs.lemmas.List.Sorted.{All-permutation, IsPermutation-map, sum_by-IsPermutation}
+use Rattle.std.proofs.lemmas.List.Sorted.{All-permutation, IsPermutation-map}
 use Rattle.abuf_num.specs.Counting.{below, times}
 use Rattle.abuf_num.specs.declared.list.NoMemory.{NoMemory}
-use Rattle.abuf_num.proofs.Counting.{times-append, below_yes, below_no, below_le, below_from, below_more}
+use Rattle.abuf_num.proofs.Counting.{times-append, times_kept, times_permuted, below_yes, below_no, below_from, below_more}
 use Rattle.abuf_share.specs.declared.numbered.Entry.{Entry}
 use Rattle.abuf_share.specs.Numbered.{AreOf, GivesEachOk, HasPassed, IsGiven, number_of, value_of}
-
--- how often a number stands in a list is a sum over the list
-times_sum : (n : ℕ) (xs : List ℕ) → times n xs ≡ sum_by (λ x. if x == n then 1 else 0) xs
-times_sum n [] = refl
-times_sum n (x ∷ xs) = ap (λ (k : ℕ). (if x == n then 1 else 0) + k) (times_sum n xs) ∙ sym (sum_by-cons (λ x. if x == n then 1 else 0) x xs)
-
--- Whatever the order of a list, each number stands in it as often.
-pub times_permuted : (n : ℕ) (xs ys : List ℕ) → IsPermutation xs ys → times n xs ≡ times n ys
-times_permuted n xs ys p = times_sum n xs ∙ (sym (sum_by-IsPermutation (λ x. if x == n then 1 else 0) xs ys p) ∙ sym (times_sum n ys))
-
--- A number stands among those that pass a test as often as before where it passes, and else never.
-times_kept : (p : ℕ → Bool) (n : ℕ) (xs : List ℕ) → times n (filter p xs) ≡ cond (p n) (times n xs) 0
-times_kept p n [] = go (p n) where
-  go : (b : Bool) → times n [] ≡ cond b (times n []) 0
-  go true = refl
-  go false = refl
-times_kept p n (x ∷ xs) = ⊎_elim (λ (e : x ≡ n). subst (λ (y : ℕ). times n (filter p (y ∷ xs)) ≡ cond (p n) (times n (y ∷ xs)) 0) (sym e) (same (p n) (times_kept p n xs)))
-    (λ (e : x ≢ n). other (p x) (ap (λ (b : Bool). cond {A = ℕ} b 1 0) (ne_eqb x n e)) (p n) (times_kept p n xs)) (cases_eq x n)
-  where
-    same : (b : Bool) → times n (filter p xs) ≡ cond b (times n xs) 0 → times n (cond b (n ∷ filter p xs) (filter p xs)) ≡ cond b (times n (n ∷ xs)) 0
-    same true r = omega (arith, r)
-    same false r = r
-
-    other : (b : Bool) → cond {A = ℕ} (eqb x n) 1 0 ≡ 0 → (c : Bool) → times n (filter p xs) ≡ cond c (times n xs) 0 → times n (cond b (x ∷ filter p xs) (filter p xs)) ≡ cond c (times n (x ∷ xs)) 0
-    other true z true r = omega (arith, r, z)
-    other true z false r = omega (arith, r, z)
-    other false z true r = omega (arith, r, z)
-    other false z false r = r
 
 module _ {A : Type 0} (k : A → ℕ) where
   -- What is below all numbers stands nowhere among them.
@@ -50,15 +22,8 @@ module _ {A : Type 0} (k : A → ℕ) where
 
   -- The first of ascending numbers from a on, each of which stands there once, is a.
   first_is : (e : A) (es : List A) (a count : ℕ) → IsNonDecreasingBy k (e ∷ es) → ((n : ℕ) → times n (map k (e ∷ es)) + below n a ≡ below n (a + count)) → k e ≡ a
-  first_is e es a count up once =
-      let t = ap (λ (b : Bool). cond {A = ℕ} b 1 0) (eq-eqb (k e) (k e) refl) in let at = once (k e) in
-      let within : k e < a + count = below_from (k e) (a + count) (omega arith) in
-      ⊎_elim (λ (l : k e < a). let y = below_yes (k e) a l in let b = below_le (k e) (a + count) in absurd (omega arith))
-      (λ (l : a ≤ k e). ⊎_elim
-      (λ (m : a < k e). let z = none_below a (e ∷ es) (λ i d w. let u = up 0 i d (omega arith) w in omega arith) in let o = once a in
-      let no = below_no a a (omega arith) in let y = below_yes a (a + count) (omega arith) in absurd (omega arith))
-      (λ (m : k e ≤ a). omega arith) (cases_lt a (k e)))
-      (cases_lt (k e) a)
+  first_is e es a count up once = let at = once (k e) in let o = once a in
+      ⊎_elim (λ (m : a < k e). let z = none_below a (e ∷ es) (λ i d w. let u = up 0 i d (omega arith) w in omega arith) in grind (arith, nat_tests)) (λ (m : k e ≤ a). grind (arith, nat_tests)) (cases_lt a (k e))
 
 -- One of the numbers of two lists is beyond the parts where one of the second is.
 pub passed_both : (parts : ℕ) (ns ms : List ℕ) → HasPassed parts ms → HasPassed parts (ns ++ ms)

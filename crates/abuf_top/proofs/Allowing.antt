@@ -68,7 +68,4 @@ else-allowed words (Some l) h = h
 -- And so is what a run found that stops before it does a task.
 pub found-allowed : (texts : List (List ℕ)) (scene : Option (List ℕ)) (shelf : Option Holdings) (s : Stop) → IsAllowed (words.job texts) (found_by (task texts scene shelf) s)
 found-allowed texts scene shelf (stop.Refused r) = tt
-found-allowed texts scene shelf (stop.PoolFull pool) = else-allowed (words.job texts) (task texts scene shelf) (told-allowed texts scene shelf)
-found-allowed texts scene shelf stop.ReadFault = else-allowed (words.job texts) (task texts scene shelf) (told-allowed texts scene shelf)
-found-allowed texts scene shelf stop.WriteFault = else-allowed (words.job texts) (task texts scene shelf) (told-allowed texts scene shelf)
-found-allowed texts scene shelf stop.Memory = else-allowed (words.job texts) (task texts scene shelf) (told-allowed texts scene shelf)
+found-allowed texts scene shelf _ = else-allowed (words.job texts) (task texts scene shelf) (told-allowed texts scene shelf)

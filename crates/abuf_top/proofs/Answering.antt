@@ -48,20 +48,13 @@ took-all-of out v by e all =
 
 -- More causes may be named.
 pub weaker : (v : Verdict) (rose : Type 0) (out : Taken) (r : Result (Unit {0}) Stop) → Ends v ⊥ out r → Ends v rose out r
-weaker v rose out (Ok _) h = h
-weaker v rose out (Err (stop.Refused r)) h = h
-weaker v rose out (Err (stop.PoolFull pool)) h = h
 weaker v rose out (Err stop.ReadFault) h = absurd h.0
-weaker v rose out (Err stop.WriteFault) h = h
-weaker v rose out (Err stop.Memory) h = h
+weaker v rose out _ h = h
 
 -- What a run found that stops before it does a task: the refusal of its stop, or else what is told.
 abbrev pub found_by : Option (Result Task Refusal) → Stop → Result Task Refusal
 found_by line (stop.Refused r) = Err r
-found_by line (stop.PoolFull pool) = unwrap_or line (Err refusal.Words)
-found_by line stop.ReadFault = unwrap_or line (Err refusal.Words)
-found_by line stop.WriteFault = unwrap_or line (Err refusal.Words)
-found_by line stop.Memory = unwrap_or line (Err refusal.Words)
+found_by line _ = unwrap_or line (Err refusal.Words)
 
 -- It is what is told.
 pub found-told : (line : Option (Result Task Refusal)) (rose : Type 0) (s : Stop) → IfSome line (λ l. StopsAt l rose s) → IfSome line (λ l. l ≡ found_by line s)

@@ -38,14 +38,9 @@ none_of number a b c (inr (inr e)) = c e
 -- What a frame has to be, under each status.
 abbrev Fits : Status → Bool → Option Ended → Type 0
 Fits ended.Written one closed = HasFrame one closed
-Fits ended.Words one closed = Unit {0}
-Fits ended.Scene one closed = Unit {0}
-Fits ended.Library one closed = Unit {0}
 Fits ended.PoolFull one closed = HasFrame one closed
-Fits ended.ReadFault one closed = Unit {0}
 Fits ended.WriteFault one closed = HasFrame one closed
-Fits ended.Memory one closed = Unit {0}
-Fits ended.Path one closed = Unit {0}
+Fits _ one closed = Unit {0}
 
 -- With which statuses a fitting frame is handed back.
 under : (s : Status) (one : Bool) (closed : Option Ended) → Fits s one closed → IsSome (handed_back s closed) ↔ (GoesWithFrame (status_number s) × one ≡ true)
@@ -100,14 +95,9 @@ hands one r closed ran err c has =
 -- What holds of a frame holds of it where it is handed back.
 still : (s : Status) (closed : Option Ended) (P : Ended → Type 0) → IfSome closed P → IfSome (handed_back s closed) P
 still ended.Written closed P h = h
-still ended.Words closed P h = tt
-still ended.Scene closed P h = tt
-still ended.Library closed P h = tt
 still ended.PoolFull closed P h = h
-still ended.ReadFault closed P h = tt
 still ended.WriteFault closed P h = h
-still ended.Memory closed P h = tt
-still ended.Path closed P h = tt
+still _ closed P h = tt
 
 -- What holds of the frame holds of the one that is handed back.
 pub frame : (r : Result (Unit {0}) Stop) (closed : Option Ended) (ran : Ran) (err : Taken) (P : Ended → Type 0)
@@ -120,8 +110,5 @@ pub unwritten : (r : Result (Unit {0}) Stop) (closed : Option Ended) (ran : Ran)
 unwritten r closed ran out err c last neither = go r c.tells last where
   go : (r : Result (Unit {0}) Stop) → Tells r c.is err → WritesLast out r → Keeps out.old out.new
   go (Ok _) said h = absurd (neither (inl (c.has_number ∙ ap status_number said.0)))
-  go (Err (stop.Refused r)) said h = h
-  go (Err (stop.PoolFull pool)) said h = h
-  go (Err stop.ReadFault) said h = h
   go (Err stop.WriteFault) said h = absurd (neither (inr (c.has_number ∙ ap status_number said.0)))
-  go (Err stop.Memory) said h = h
+  go _ said h = h

@@ -5,7 +5,7 @@ use Rattle.std.specs.Io.KnownBytes.{Appends}
 use Rattle.abuf_io.specs.Sinks.{Taken}
 use Rattle.abuf_frame.specs.Closing.{Ended}
 use Rattle.abuf_num.specs.declared.plain.PixelSum.{PixelSum}
-use Rattle.abuf_resolve.specs.declared.runs.Resolved.{Resolved}
+use Rattle.abuf_resolve.specs.declared.scene.runs.Resolved.{Resolved}
 use Rattle.abuf_cli.specs.declared.job.Storage.TheVariants.{OneFrame}
 use Rattle.abuf_cli.specs.declared.job.What.{What}
 use Rattle.abuf_cli.specs.declared.job.What.TheVariants as what
@@ -171,11 +171,8 @@ module _ (way : Way) (d : Drawing) where
       )
 
   stopped : (out : Taken) (closed : Option Ended) (s : Stop) → ProducesBy way d (Err s) → WritesFrom way d out (Err s) closed
-  stopped out closed (stop.Refused r) p = tt
-  stopped out closed (stop.PoolFull pool) p = tt
-  stopped out closed stop.ReadFault p = tt
   stopped out closed stop.WriteFault p = absurd p
-  stopped out closed stop.Memory p = tt
+  stopped out closed _ p = tt
 
   -- and where a drawing stopped before.
   pub wrote-none : (sink : Taken) (out : Result (List ℕ) Stop) (closed : Option Ended) (s : Stop) (r : Result (Unit {0}) Stop)

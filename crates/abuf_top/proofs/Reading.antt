@@ -31,12 +31,7 @@ after_words (refusal.Value option) h = absurd h
 after_words refusal.PathMissing h = absurd h
 after_words refusal.PathTooLong h = absurd h
 after_words (refusal.PathLine line why) h = absurd h
-after_words refusal.SceneTooLong h = tt
-after_words (refusal.SceneLine line why) h = tt
-after_words (refusal.UnknownMaterial line) h = tt
-after_words (refusal.LibraryMissing k) h = tt
-after_words (refusal.LibraryTooLong k) h = tt
-after_words (refusal.LibraryLine k line why) h = tt
+after_words _ h = tt
 
 -- and is none of the path.
 of_scene : (r : Refusal) → IsOfScene r → IsOfPath r → ⊥
@@ -45,28 +40,18 @@ of_scene (refusal.Value option) h p = absurd h
 of_scene refusal.PathMissing h p = absurd h
 of_scene refusal.PathTooLong h p = absurd h
 of_scene (refusal.PathLine line why) h p = absurd h
-of_scene refusal.SceneTooLong h p = absurd p
-of_scene (refusal.SceneLine line why) h p = absurd p
-of_scene (refusal.UnknownMaterial line) h p = absurd p
-of_scene (refusal.LibraryMissing k) h p = absurd p
-of_scene (refusal.LibraryTooLong k) h p = absurd p
-of_scene (refusal.LibraryLine k line why) h p = absurd p
+of_scene _ h p = absurd p
 
 -- A scene and its libraries don't stop a run by a path.
 not_by_path : (rose : Type 0) (s : Stop) → HasReadCause rose s → StopsByPath s → ⊥
 not_by_path rose (stop.Refused r) h p = of_scene r h p
-not_by_path rose (stop.PoolFull pool) h p = absurd p
-not_by_path rose stop.ReadFault h p = absurd p
-not_by_path rose stop.WriteFault h p = absurd p
-not_by_path rose stop.Memory h p = absurd p
+not_by_path rose _ h p = absurd p
 
 -- More causes may be named.
 cause_weaker : (job : Job) (few more : Type 0) (s : Stop) → (few → more) → HasReadCause few s → HasCause (Ok job) more s
 cause_weaker job few more (stop.Refused r) f h = after_words r h
-cause_weaker job few more (stop.PoolFull pool) f h = h
 cause_weaker job few more stop.ReadFault f h = (f h, refl)
-cause_weaker job few more stop.WriteFault f h = h
-cause_weaker job few more stop.Memory f h = h
+cause_weaker job few more _ f h = h
 
 gives_weaker : (line : Result Task Refusal) (few more : Type 0) (r : Result Task Stop) → (few → more) → Gives line few r → Gives line more r
 gives_weaker line few more (Ok t) f h = h
@@ -105,11 +90,8 @@ module _ (f : Result (List Triangle) Refusal → Result Task Refusal) where
 module _ (job : Job) where
   -- A cause that isn't of the source is one of both.
   weaker : (few more : Type 0) (s : Stop) → (few → more) → HasCause (Ok job) few s → HasCause (Ok job) more s
-  weaker few more (stop.Refused r) f h = h
-  weaker few more (stop.PoolFull pool) f h = h
   weaker few more stop.ReadFault f h = (f h.0, h.1)
-  weaker few more stop.WriteFault f h = h
-  weaker few more stop.Memory f h = h
+  weaker few more _ f h = h
 
   weaker_of : (few more : Type 0) (r : Result Task Stop) → (few → more) → IfErr r (HasCause (Ok job) few) → IfErr r (HasCause (Ok job) more)
   weaker_of few more (Ok t) f h = tt

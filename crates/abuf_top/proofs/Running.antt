@@ -72,17 +72,10 @@ drew_by_no_path (Err stop.Memory) closed ran err stops c nine = absurd (omega (a
 
 -- The status of a path is that of its refusals alone,
 of_path : (r : Refusal) → status_number (refusal_status r) ≡ 9 → IsOfPath r
-of_path refusal.Words nine = absurd (omega (arith, nine))
-of_path (refusal.Value option) nine = absurd (omega (arith, nine))
 of_path refusal.PathMissing nine = tt
 of_path refusal.PathTooLong nine = tt
 of_path (refusal.PathLine line why) nine = tt
-of_path refusal.SceneTooLong nine = absurd (omega (arith, nine))
-of_path (refusal.SceneLine line why) nine = absurd (omega (arith, nine))
-of_path (refusal.UnknownMaterial line) nine = absurd (omega (arith, nine))
-of_path (refusal.LibraryMissing k) nine = absurd (omega (arith, nine))
-of_path (refusal.LibraryTooLong k) nine = absurd (omega (arith, nine))
-of_path (refusal.LibraryLine k line why) nine = absurd (omega (arith, nine))
+of_path _ nine = absurd (omega (arith, nine))
 
 -- so that a run ends with it only where they stop it.
 by_path : (words : Result Job WordFault) (rose : Type 0) (s : Stop) (closed : Option Ended) (ran : Ran) (err : Taken)
@@ -104,29 +97,13 @@ sequence_decides (Err why) number more other = absurd more
 after_words : (r : Refusal) → IsAfterWords r → status_number (refusal_status r) ≡ 2 → ⊥
 after_words refusal.Words h two = absurd h
 after_words (refusal.Value option) h two = absurd h
-after_words refusal.PathMissing h two = absurd (omega (arith, two))
-after_words refusal.PathTooLong h two = absurd (omega (arith, two))
-after_words (refusal.PathLine line why) h two = absurd (omega (arith, two))
-after_words refusal.SceneTooLong h two = absurd (omega (arith, two))
-after_words (refusal.SceneLine line why) h two = absurd (omega (arith, two))
-after_words (refusal.UnknownMaterial line) h two = absurd (omega (arith, two))
-after_words (refusal.LibraryMissing k) h two = absurd (omega (arith, two))
-after_words (refusal.LibraryTooLong k) h two = absurd (omega (arith, two))
-after_words (refusal.LibraryLine k line why) h two = absurd (omega (arith, two))
+after_words _ h two = absurd (omega (arith, two))
 
 -- And that of a refusal of the words.
 of_words : (r : Refusal) → IsOfWords r → status_number (refusal_status r) ≡ 2
 of_words refusal.Words h = refl
 of_words (refusal.Value option) h = refl
-of_words refusal.PathMissing h = absurd h
-of_words refusal.PathTooLong h = absurd h
-of_words (refusal.PathLine line why) h = absurd h
-of_words refusal.SceneTooLong h = absurd h
-of_words (refusal.SceneLine line why) h = absurd h
-of_words (refusal.UnknownMaterial line) h = absurd h
-of_words (refusal.LibraryMissing k) h = absurd h
-of_words (refusal.LibraryTooLong k) h = absurd h
-of_words (refusal.LibraryLine k line why) h = absurd h
+of_words _ h = absurd h
 
 -- Where memory runs out, the status isn't that of the words.
 memory_decides : (words : Result Job WordFault) (number : ℕ) → number ≡ 8 → WordsDecide words number
@@ -227,11 +204,9 @@ module _ (words : List (List ℕ)) (o : Outside) where
 
   -- and leaves the output as it was.
   unwritten-none : (s : Stop) → Keeps o.out.old o.out.new → HasCause (job words) (ReadFailed o.source o.shelf) s → WritesLast o.out (Err s)
-  unwritten-none (stop.Refused r) k cause = k
   unwritten-none (stop.PoolFull pool) k cause = absurd cause
-  unwritten-none stop.ReadFault k cause = k
   unwritten-none stop.WriteFault k cause = absurd cause
-  unwritten-none stop.Memory k cause = k
+  unwritten-none _ k cause = k
 
   -- A run that stopped before that.
   pub run_stopped : (s : Stop) (closed : Option Ended) (ran : Ran)

@@ -1,17 +1,15 @@
 -- How many bytes are taken from a source.
-use Rattle.std.proofs.Common.{◌≤◌, ◌+◌, ℕ, List, [], length, Option, Result, Ok, Err, arith}
+use Rattle.std.proofs.Common.{◌≤◌, ◌+◌, ℕ, List, [], length, Option, Result, Err, arith}
 use Rattle.std.specs.Io.KnownBytes.{Consumes}
 use Rattle.std.proofs.KnownBytes.{Consumes-nil}
 use Rattle.abuf_io.specs.Whole.{ReadsUpTo, TakesCount}
 use Rattle.abuf_io.specs.declared.whole.ReadEnd.{ReadEnd}
-use Rattle.abuf_io.specs.declared.whole.ReadEnd.TheVariants.{ReadFault, TooLong, Memory}
+use Rattle.abuf_io.specs.declared.whole.ReadEnd.TheVariants.{Memory}
 
 -- A reading of all takes at most one byte more than its limit, whatever its answer,
 counted : {T : Type 0} (limit n : ℕ) (r : Result T ReadEnd) → TakesCount limit r n → n ≤ limit + 1
-counted limit n (Ok _) h = omega (arith, h)
-counted limit n (Err ReadFault) h = omega (arith, h)
-counted limit n (Err TooLong) h = omega (arith, h)
 counted limit n (Err Memory) h = h
+counted limit n _ h = omega (arith, h)
 
 pub takes : {T : Type 0} (limit : ℕ) (old new : Option (List ℕ)) (r : Result T ReadEnd) → ReadsUpTo limit old new r
     → (taken : List ℕ) × Consumes old new taken × (length taken ≤ limit + 1)

@@ -17,11 +17,8 @@ use Rattle.abuf_top.specs.declared.stop.Stop.TheVariants as stop
 
 -- more causes of a stop may be named,
 pub stops-weaker : {T : Type 0} (line : Result T Refusal) (few more : Type 0) (s : Stop) → (few → more) → StopsAt line few s → StopsAt line more s
-stops-weaker line few more (stop.Refused r) f h = h
-stops-weaker line few more (stop.PoolFull pool) f h = h
 stops-weaker line few more stop.ReadFault f h = f h
-stops-weaker line few more stop.WriteFault f h = h
-stops-weaker line few more stop.Memory f h = h
+stops-weaker line few more _ f h = h
 
 -- more causes may be named
 pub loads-weaker : (line : Result (List Triangle) Refusal) (few more : Type 0) (r : Result Loaded Stop) → (few → more) → Loads line few r → Loads line more r
@@ -36,11 +33,8 @@ told-weaker (Some line) few more r f h = loads-weaker line few more r f h
 
 pub cause-weaker : (few more : Type 0) (r : Result Loaded Stop) → (few → more) → IfErr r (HasReadCause few) → IfErr r (HasReadCause more)
 cause-weaker few more (Ok loaded) f h = tt
-cause-weaker few more (Err (stop.Refused r)) f h = h
-cause-weaker few more (Err (stop.PoolFull pool)) f h = h
 cause-weaker few more (Err stop.ReadFault) f h = f h
-cause-weaker few more (Err stop.WriteFault) f h = h
-cause-weaker few more (Err stop.Memory) f h = h
+cause-weaker few more _ f h = h
 
 -- a count that stays at 0 didn't rise
 pub still : Rose 0 0 → ⊥

@@ -30,11 +30,9 @@ RefusesBy v s = v.refusal ≡ Some (record { status = stop_status s; text = stop
 -- The bytes that are to be written, or how a drawing stops before that: by a full pool, or because memory runs out.
 abbrev pub Produces : Verdict → Result (List ℕ) Stop → Type 0
 Produces verdict (Ok bytes) = verdict ≡ write bytes
-Produces verdict (Err (stop.Refused r)) = ⊥
 Produces verdict (Err (stop.PoolFull pool)) = (verdict.outputs ≡ []) × RefusesBy verdict (stop.PoolFull pool)
-Produces verdict (Err stop.ReadFault) = ⊥
-Produces verdict (Err stop.WriteFault) = ⊥
 Produces verdict (Err stop.Memory) = Unit {0}
+Produces verdict _ = ⊥
 
 -- How a run of this verdict ends, before it says so: by its end, by the first refusal, by a full pool, by a fault of reading or
 -- writing, which comes only where a count rose, or because memory runs out.
@@ -49,11 +47,8 @@ Ends v rose out (Err stop.Memory) = TookSome out v
 -- Nothing is written but by a write that is begun after all else: at the end, or where it fails.
 abbrev pub WritesLast : Taken → Result (Unit {0}) Stop → Type 0
 WritesLast out (Ok _) = Unit {0}
-WritesLast out (Err (stop.Refused r)) = Keeps out.old out.new
-WritesLast out (Err (stop.PoolFull pool)) = Keeps out.old out.new
-WritesLast out (Err stop.ReadFault) = Keeps out.old out.new
 WritesLast out (Err stop.WriteFault) = Unit {0}
-WritesLast out (Err stop.Memory) = Keeps out.old out.new
+WritesLast out _ = Keeps out.old out.new
 
 -- The frame is there, where there is one for the whole image.
 abbrev pub HasFrame : Bool → Option Ended → Type 0
@@ -62,12 +57,10 @@ HasFrame false closed = IsNone closed
 
 -- It is handed back where the output was written, where writing it failed, and where the pool was full.
 abbrev pub HandsBack : {T : Type 0} → Bool → Result T Stop → Option Ended → Type 0
-HandsBack one_frame (Ok _) closed = HasFrame one_frame closed
 HandsBack one_frame (Err (stop.Refused r)) closed = IsNone closed
-HandsBack one_frame (Err (stop.PoolFull pool)) closed = HasFrame one_frame closed
 HandsBack one_frame (Err stop.ReadFault) closed = IsNone closed
-HandsBack one_frame (Err stop.WriteFault) closed = HasFrame one_frame closed
 HandsBack one_frame (Err stop.Memory) closed = IsNone closed
+HandsBack one_frame _ closed = HasFrame one_frame closed
 
 -- What a run says, and its status: those of its stop. Where memory runs out for the text of a refusal, they say that memory ran
 -- out.
@@ -92,14 +85,9 @@ Tells (Err s) is err = Reports s is err
 -- The frame that goes with a status.
 abbrev pub handed_back : Status → Option Ended → Option Ended
 handed_back ended.Written closed = closed
-handed_back ended.Words closed = None
-handed_back ended.Scene closed = None
-handed_back ended.Library closed = None
 handed_back ended.PoolFull closed = closed
-handed_back ended.ReadFault closed = None
 handed_back ended.WriteFault closed = closed
-handed_back ended.Memory closed = None
-handed_back ended.Path closed = None
+handed_back _ closed = None
 
 -- A run that ended so, and what it says.
 pub record Concludes (result : Result (Unit {0}) Stop) (closed : Option Ended) (ran : Ran) (err : Taken) : Type 0 where

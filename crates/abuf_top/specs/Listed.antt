@@ -5,7 +5,7 @@ use Rattle.abuf_num.specs.declared.plain.PixelSum.{PixelSum}
 use Rattle.abuf_frame.specs.Closing.{Ended}
 use Rattle.abuf_io.specs.Sinks.{Taken}
 use Rattle.abuf_raster.specs.Samples.{offsets_of}
-use Rattle.abuf_resolve.specs.declared.runs.Resolved.{Resolved}
+use Rattle.abuf_resolve.specs.declared.scene.runs.Resolved.{Resolved}
 use Rattle.abuf_pam.specs.Image as pam
 use Rattle.abuf_picture.specs.Resolving.{Subject, Way, Agrees, FitsIn}
 use Rattle.abuf_cli.specs.declared.job.What.{What}
@@ -75,8 +75,5 @@ pub record IsOutputBy (way : Way) (d : Drawing) (bytes : Result (List ℕ) Stop)
 -- What was written of the output. It is made of what the way gives for the lists of the frame that is handed back.
 abbrev pub WritesFrom : Way → Drawing → Taken → Result (Unit {0}) Stop → Option Ended → Type 0
 WritesFrom way d out (Ok _) closed = (bytes : List ℕ) × ComesFrom way d closed bytes × Appends out.old out.new bytes
-WritesFrom way d out (Err (stop.Refused r)) closed = Unit {0}
-WritesFrom way d out (Err (stop.PoolFull pool)) closed = Unit {0}
-WritesFrom way d out (Err stop.ReadFault) closed = Unit {0}
 WritesFrom way d out (Err stop.WriteFault) closed = (bytes : List ℕ) × ComesFrom way d closed bytes × TookPart out bytes
-WritesFrom way d out (Err stop.Memory) closed = Unit {0}
+WritesFrom way d out _ closed = Unit {0}

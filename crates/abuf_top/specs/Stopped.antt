@@ -19,42 +19,19 @@ StoppedBy first rose stop.Memory = Unit {0}
 abbrev pub IsOfWords : Refusal → Type 0
 IsOfWords refusal.Words = Unit {0}
 IsOfWords (refusal.Value option) = Unit {0}
-IsOfWords refusal.PathMissing = ⊥
-IsOfWords refusal.PathTooLong = ⊥
-IsOfWords (refusal.PathLine line why) = ⊥
-IsOfWords refusal.SceneTooLong = ⊥
-IsOfWords (refusal.SceneLine line why) = ⊥
-IsOfWords (refusal.UnknownMaterial line) = ⊥
-IsOfWords (refusal.LibraryMissing k) = ⊥
-IsOfWords (refusal.LibraryTooLong k) = ⊥
-IsOfWords (refusal.LibraryLine k line why) = ⊥
+IsOfWords _ = ⊥
 
 abbrev pub IsAfterWords : Refusal → Type 0
 IsAfterWords refusal.Words = ⊥
 IsAfterWords (refusal.Value option) = ⊥
-IsAfterWords refusal.PathMissing = Unit {0}
-IsAfterWords refusal.PathTooLong = Unit {0}
-IsAfterWords (refusal.PathLine line why) = Unit {0}
-IsAfterWords refusal.SceneTooLong = Unit {0}
-IsAfterWords (refusal.SceneLine line why) = Unit {0}
-IsAfterWords (refusal.UnknownMaterial line) = Unit {0}
-IsAfterWords (refusal.LibraryMissing k) = Unit {0}
-IsAfterWords (refusal.LibraryTooLong k) = Unit {0}
-IsAfterWords (refusal.LibraryLine k line why) = Unit {0}
+IsAfterWords _ = Unit {0}
 
 -- One of the path of a sequence, and one of the scene or a library.
 abbrev pub IsOfPath : Refusal → Type 0
-IsOfPath refusal.Words = ⊥
-IsOfPath (refusal.Value option) = ⊥
 IsOfPath refusal.PathMissing = Unit {0}
 IsOfPath refusal.PathTooLong = Unit {0}
 IsOfPath (refusal.PathLine line why) = Unit {0}
-IsOfPath refusal.SceneTooLong = ⊥
-IsOfPath (refusal.SceneLine line why) = ⊥
-IsOfPath (refusal.UnknownMaterial line) = ⊥
-IsOfPath (refusal.LibraryMissing k) = ⊥
-IsOfPath (refusal.LibraryTooLong k) = ⊥
-IsOfPath (refusal.LibraryLine k line why) = ⊥
+IsOfPath _ = ⊥
 
 abbrev pub IsOfScene : Refusal → Type 0
 IsOfScene refusal.Words = ⊥
@@ -62,12 +39,7 @@ IsOfScene (refusal.Value option) = ⊥
 IsOfScene refusal.PathMissing = ⊥
 IsOfScene refusal.PathTooLong = ⊥
 IsOfScene (refusal.PathLine line why) = ⊥
-IsOfScene refusal.SceneTooLong = Unit {0}
-IsOfScene (refusal.SceneLine line why) = Unit {0}
-IsOfScene (refusal.UnknownMaterial line) = Unit {0}
-IsOfScene (refusal.LibraryMissing k) = Unit {0}
-IsOfScene (refusal.LibraryTooLong k) = Unit {0}
-IsOfScene (refusal.LibraryLine k line why) = Unit {0}
+IsOfScene _ = Unit {0}
 
 -- Whatever is told, a scene and its libraries stop a run by a refusal of theirs, and by a fault of reading only where a count rose.
 abbrev pub HasReadCause : Type 0 → Stop → Type 0
@@ -80,10 +52,7 @@ HasReadCause rose stop.Memory = Unit {0}
 -- The path stops the run.
 abbrev pub StopsByPath : Stop → Type 0
 StopsByPath (stop.Refused r) = IsOfPath r
-StopsByPath (stop.PoolFull pool) = ⊥
-StopsByPath stop.ReadFault = ⊥
-StopsByPath stop.WriteFault = ⊥
-StopsByPath stop.Memory = ⊥
+StopsByPath _ = ⊥
 
 -- The words refuse where they give no job, and only there.
 abbrev pub RefusesFor : Result Job WordFault → Refusal → Type 0
@@ -100,7 +69,5 @@ HasCause words rose stop.Memory = Unit {0}
 -- What may stop a run once it draws.
 abbrev pub IsOfDrawing : Stop → Type 0
 IsOfDrawing (stop.Refused r) = ⊥
-IsOfDrawing (stop.PoolFull pool) = Unit {0}
 IsOfDrawing stop.ReadFault = ⊥
-IsOfDrawing stop.WriteFault = Unit {0}
-IsOfDrawing stop.Memory = Unit {0}
+IsOfDrawing _ = Unit {0}

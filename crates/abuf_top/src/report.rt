@@ -14,7 +14,7 @@ use crate::drawing::Drawing;
 use abuf_num::{List, NoMemory};
 use abuf_raster::{Fragment, Pattern, Region, ScreenTri, unpack};
 use abuf_resolve::laws::{order_law, pixel_law};
-use abuf_resolve::{Pixel, Planes};
+use abuf_resolve::{Pixel, Planes, SampleWord};
 use std::alloc::{AllocError, Global};
 
 // One fragment's line.
@@ -42,8 +42,9 @@ fn fragments_text(alloc: Global, words: &[u64]) -> Result<String, AllocError>
 fn push_layer(text: &mut String, word: u64) -> Result<(), AllocError>
     ensures { OnOk result (string_bytes text.new ≡ string_bytes text.old ++ layer_text (layer_of word)) }
 {
-    let prim = word & 0xffffff;
-    let depth = word >> 24;
+    let word = SampleWord(word);
+    let prim = word.primitive();
+    let depth = word.depth_key();
     write!(text, " prim {prim} depth {depth}")
 }
 

@@ -9,7 +9,7 @@ use Rattle.abuf_view.proofs.Ring.{add_mul, neg_mul}
 use Rattle.abuf_view.specs.declared.eye.EyePoint.{EyePoint}
 use Rattle.abuf_view.specs.declared.near_plane.EyeTriangle.{EyeTriangle}
 use Rattle.abuf_view.specs.NearPlane.{clip_by, clipped, is_inside, cut}
-use Rattle.abuf_view.specs.CutLaw.{IsBehind, IsBetween, IsFloorOf, IsCutOf}
+use Rattle.abuf_view.specs.CutLaw.{IsBehind, IsFloorOf, IsCutOf}
 use Rattle.abuf_view.proofs.Bounds.{cut_between}
 
 -- ---- corners
@@ -84,12 +84,6 @@ floor_moved u n d h =
       rw (next, add_mul u (z +ℤ pos 1) d) (omega (arith, ints, f.1)),
     )
 
--- A cut lies between the ends of its edge.
-between : (p q k d : ℤ) → pos 0 <ℤ d → pos 0 ≤ℤ k → k ≤ℤ d → IsBetween p q (p +ℤ floor_div ((q -ℤ p) *ℤ k) d)
-between p q k (negsuc d) h g l = absurd h.lt
-between p q (negsuc k) (pos d) h g l = absurd g.le
-between p q (pos k) (pos d) h g l = cut_between p q k d (omega (arith, ints, h)) (omega (arith, ints, l))
-
 -- What the cut makes is the cut point.
 pub is_cut : (m : ℤ) (p q : EyePoint) → m ≤ℤ p.w → q.w <ℤ m → IsCutOf m p q (cut m p q)
 is_cut m p q i o =
@@ -99,7 +93,7 @@ is_cut m p q i o =
     record {
       x_floor = floor_moved p.x ((q.x -ℤ p.x) *ℤ (p.w -ℤ m)) (p.w -ℤ q.w) span;
       y_floor = floor_moved p.y ((q.y -ℤ p.y) *ℤ (p.w -ℤ m)) (p.w -ℤ q.w) span;
-      x_between = between p.x q.x (p.w -ℤ m) (p.w -ℤ q.w) span near order;
-      y_between = between p.y q.y (p.w -ℤ m) (p.w -ℤ q.w) span near order;
+      x_between = cut_between p.x q.x (p.w -ℤ m) (p.w -ℤ q.w) span near order;
+      y_between = cut_between p.y q.y (p.w -ℤ m) (p.w -ℤ q.w) span near order;
       at_plane = refl;
     }

@@ -75,14 +75,10 @@ module _ (k : Camera) (e : Eye) (is : e ≡ eye_of k) (ts us : List Triangle) (s
   pub joined_paints : (made : List Paint) → made ≡ paints_by e us → made ≡ map (λ q. q.paint) (prims k ts)
   joined_paints made h = all_paints k e is ts us same (length us) (omega arith) made (h ∙ ap (paints_by e) (sym (take-length us)))
 
--- two lists of the same primitives are of one length, and no triangle has more than two
-pub one_length : (k : Camera) (ts : List Triangle) (tris : List OnScreen) (paints : List Paint) → tris ≡ map (λ (q : Primitive). q.triangle) (prims k ts) → paints ≡ map (λ (q : Primitive). q.paint) (prims k ts)
-    → length tris ≡ length paints
-one_length k ts tris paints t p =
-    ap length t ∙ (length-map (prims k ts) (λ (q : Primitive). q.triangle) ∙ sym (length-map (prims k ts) (λ (q : Primitive). q.paint))) ∙ ap length (sym p)
-
--- And they are at most twice as many as the triangles of the scene.
-pub tris_few : (k : Camera) (ts : List Triangle) (tris : List OnScreen) → tris ≡ map (λ (q : Primitive). q.triangle) (prims k ts) → length tris ≤ 2 * length ts
-tris_few k ts tris t =
-    let same : length tris ≡ length (prims k ts) = ap length t ∙ length-map (prims k ts) (λ (q : Primitive). q.triangle) in
-    omega (arith, same, prims_few k ts)
+-- two lists of the same primitives are at most twice as many as the triangles, and of one length
+pub lengths : (k : Camera) (ts : List Triangle) (tris : List OnScreen) (paints : List Paint) → tris ≡ map (λ (q : Primitive). q.triangle) (prims k ts) → paints ≡ map (λ (q : Primitive). q.paint) (prims k ts)
+    → (length tris ≤ 2 * length ts) × (length paints ≡ length tris)
+lengths k ts tris paints t p =
+    let a : length tris ≡ length (prims k ts) = ap length t ∙ length-map (prims k ts) (λ (q : Primitive). q.triangle) in
+    let b : length paints ≡ length (prims k ts) = ap length p ∙ length-map (prims k ts) (λ (q : Primitive). q.paint) in
+    (omega (arith, a, prims_few k ts), b ∙ sym a)

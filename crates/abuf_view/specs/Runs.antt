@@ -1,12 +1,10 @@
 -- Runs of faces, and what is made of each.
-use Rattle.std.specs.Prelude.{◌≡◌, ℕ, ◌*◌, ◌<◌, ◌≤◌, List, [], ◌∷◌, take, drop, length, slice_index_or, flat_map, find, Option, Some, None, option_map, Result, Ok, Err, OnOk, IfOk, IfErr, ⊤}
-use Rattle.abuf_num.specs.declared.plain.Paint.{Paint}
+use Rattle.std.specs.Prelude.{◌≡◌, ℕ, ◌*◌, ◌<◌, ◌≤◌, List, [], ◌∷◌, ◌++◌, take, drop, length, slice_index_or, flat_map, find, Option, None, option_map, Result, Ok, Err, OnOk, IfOk, IfErr, ⊤}
 use Rattle.abuf_obj.specs.declared.face.Face.{Face}
 use Rattle.abuf_obj.specs.declared.scene.Obj.{Obj}
 use Rattle.abuf_scene.specs.Triangles.{Look, is_unknown, triangles_of, Tells}
 use Rattle.abuf_scene.specs.declared.assembly.SceneFault.{SceneFault}
 use Rattle.abuf_scene.specs.declared.assembly.SceneFault.TheVariants.{UnknownMaterial, Memory}
-use Rattle.abuf_raster.specs.Triangle.{Triangle as OnScreen}
 use Rattle.abuf_view.specs.Eye.{tris_by, paints_by}
 use Rattle.abuf_view.specs.declared.eye.Eye.{Eye}
 use Rattle.abuf_view.specs.declared.primitive_lists.PrimitiveLists.{PrimitiveLists}
@@ -28,22 +26,19 @@ module _ (look : Look) (obj : Obj) (eye : Eye) where
     pub all : length faces ≤ length runs * per_run
     pub each : (n : ℕ) (d : Result PrimitiveLists SceneFault) → n < length runs → IsRun (take per_run (drop (n * per_run) faces)) (slice_index_or runs n d)
 
--- The triangles on the screen of a run that was made, and the paint of each. A run that was refused has none.
-abbrev pub tris_of : Result PrimitiveLists SceneFault → List OnScreen
-tris_of (Ok made) = made.tris
-tris_of (Err fault) = []
+-- A run that was made, before what those after it give: the primitives of both, or the refusal.
+abbrev pub before : PrimitiveLists → Result PrimitiveLists SceneFault → Result PrimitiveLists SceneFault
+before made (Ok more) = Ok (record { tris = made.tris ++ more.tris; paints = made.paints ++ more.paints })
+before made (Err fault) = Err fault
 
-abbrev pub paints_of : Result PrimitiveLists SceneFault → List Paint
-paints_of (Ok made) = made.paints
-paints_of (Err fault) = []
+-- The runs together: all primitives in their order, or the first refusal.
+abbrev pub together : List (Result PrimitiveLists SceneFault) → Result PrimitiveLists SceneFault
+together [] = Ok (record { tris = []; paints = [] })
+together (Ok made ∷ runs) = before made (together runs)
+together (Err fault ∷ runs) = Err fault
 
--- Why the first of the runs that were refused was.
-abbrev pub first_fault : List (Result PrimitiveLists SceneFault) → Option SceneFault
-first_fault [] = None
-first_fault (Ok made ∷ runs) = first_fault runs
-first_fault (Err fault ∷ runs) = Some fault
-
--- An unknown material is that of the first run that was refused; memory may always run out.
-abbrev pub IsFirst : Option SceneFault → SceneFault → Type 0
-IsFirst first (UnknownMaterial line) = first ≡ Some (UnknownMaterial line)
-IsFirst first Memory = ⊤
+-- The answer is this one; memory may always run out.
+abbrev pub IsAnswer : Result PrimitiveLists SceneFault → Result PrimitiveLists SceneFault → Type 0
+IsAnswer whole (Ok made) = whole ≡ Ok made
+IsAnswer whole (Err (UnknownMaterial line)) = whole ≡ Err (UnknownMaterial line)
+IsAnswer whole (Err Memory) = ⊤

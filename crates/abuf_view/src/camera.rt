@@ -1,15 +1,13 @@
 // The camera.
-ghost use Rattle.std.specs.Prelude.{◌≡◌, ◌≤◌, ◌*◌, ◌↔◌, ◌∷◌, [], pos, ◌≤ℤ◌, unsigned_abs, IsTrue, MatchOption};
-ghost use Rattle.abuf_num.specs.declared.limits.TheConstants.{MAX_COORDINATE};
+ghost use Rattle.std.specs.Prelude.{◌≡◌, ◌∷◌, []};
 ghost use Rattle.abuf_view.specs.Eye.{eye_of, IsEye};
-ghost use Rattle.abuf_view.specs.Camera.{Camera as Viewpoint, camera, camera_of, IsMade, IsCamera, IsSize, IsTurn, IsBounded, IsFrom, IsLens};
+ghost use Rattle.abuf_view.specs.Camera.{Camera as Viewpoint, camera, camera_of, IsCamera};
 
 use crate::eye::{Eye, times};
 use crate::near_plane::NearPlane;
 use crate::point::Point3;
 use crate::quaternion::Quaternion;
 use crate::screen::Screen;
-use abuf_num::limits::{MAX_COORDINATE, MAX_PIXELS, MAX_SIDE};
 use std::marker::Model;
 
 /// A focal length and a near distance, in 1/65536.
@@ -40,105 +38,19 @@ impl Model for Camera {
     ghost inverse = { λ k. record { width = k.width; height = k.height; turn = k.turn; shift = k.shift; lens = record { focal = k.focal; near = k.near } } };
 }
 
-fn is_size(width: u32, height: u32) -> bool
-    ensures { IsTrue result ↔ IsSize width height }
-{
-    1 <= width
-        && width <= MAX_SIDE
-        && 1 <= height
-        && height <= MAX_SIDE
-        && width * height <= MAX_PIXELS
-}
-
-fn is_part(part: i32) -> bool
-    ensures { IsTrue result ↔ (unsigned_abs part ≤ 1024) }
-{
-    -1024 <= part && part <= 1024
-}
-
-fn is_turn(turn: Quaternion) -> bool
-    ensures { IsTrue result ↔ IsTurn turn }
-{
-    is_part(turn.a)
-        && is_part(turn.b)
-        && is_part(turn.c)
-        && is_part(turn.d)
-        && !(turn.a == 0 && turn.b == 0 && turn.c == 0 && turn.d == 0)
-}
-
-fn is_coordinate(part: i64) -> bool
-    ensures { IsTrue result ↔ (unsigned_abs part ≤ MAX_COORDINATE) }
-{
-    part.unsigned_abs() <= MAX_COORDINATE
-}
-
-fn is_bounded(point: Point3) -> bool
-    ensures { IsTrue result ↔ IsBounded point }
-{
-    is_coordinate(point.x) && is_coordinate(point.y) && is_coordinate(point.z)
-}
-
-fn is_from(low: i64, high: i64, length: i64) -> bool
-    ensures { IsTrue result ↔ IsFrom low high length }
-{
-    low <= length && length <= high
-}
-
-fn is_lens(lens: Lens) -> bool
-    ensures { IsTrue result ↔ IsLens lens.focal lens.near }
-{
-    is_from(1, 1048576, lens.focal) && is_from(4096, 2147483647, lens.near)
-}
-
 impl Camera {
-    /// The camera of these numbers, or none where they are past its bounds.
-    ///
-    /// The width and height are from 1 to 4096 pixels, and their product is at most 4194304. Each part of the turn is from -1024
-    /// to 1024, and not all are 0; the quaternion need not have length 1. The parts of the shift are at most 2147483647 either way,
-    /// the focal length is from 1 to 1048576, and the near distance from 4096 to 2147483647, in units of 1/65536.
-    pub fn new(
-        width: u32,
-        height: u32,
-        turn: [i32; 4],
-        shift: [i64; 3],
-        focal: i64,
-        near: i64,
-    ) -> Option<Camera>
-        ensures { IsMade result (camera width height turn shift focal near) }
+    /// The camera of these numbers, for callers who know that they are within its bounds, which [`new`](Camera::new) names and
+    /// checks. Nothing is checked here. The focal length and the near distance are those of the lens.
+    pub fn of_parts(width: u32, height: u32, turn: [i32; 4], shift: [i64; 3], lens: Lens) -> Camera
+        requires bounds { IsCamera (camera width height turn shift lens.focal lens.near) }
+        ensures { result ≡ camera width height turn shift lens.focal lens.near }
     {
-        let turn = Quaternion {
-            a: turn[0],
-            b: turn[1],
-            c: turn[2],
-            d: turn[3],
-        };
-        let shift = Point3 {
-            x: shift[0],
-            y: shift[1],
-            z: shift[2],
-        };
-        Camera::of_parts(width, height, turn, shift, Lens { focal, near })
-    }
-
-    fn of_parts(
-        width: u32,
-        height: u32,
-        turn: Quaternion,
-        shift: Point3,
-        lens: Lens,
-    ) -> Option<Camera>
-        ensures { IsMade result (camera_of width height turn shift lens.focal lens.near) }
-    {
-        if is_size(width, height) && is_turn(turn) && is_bounded(shift) && is_lens(lens) {
-            Some(Camera {
-                width,
-                height,
-                turn,
-                shift,
-                lens,
-            })
-        } else {
-            None
+        Camera {
+            width,
+            height,
+            turn: Quaternion::of(turn),
+            shift: Point3::of(shift),
+            lens,
         }
     }
 

@@ -1,5 +1,5 @@
 // The change to eye space.
-ghost use Rattle.std.specs.Prelude.{◌≡◌, ◌*◌, ◌^◌, ◌<◌, ◌≤◌, ℤ, pos, ◌+ℤ◌, ◌-ℤ◌, ◌*ℤ◌, ◌<ℤ◌, ◌≤ℤ◌, unsigned_abs};
+ghost use Rattle.std.specs.Prelude.{◌≡◌, ◌+◌, ◌*◌, ◌^◌, ◌<◌, ◌≤◌, ℤ, pos, ◌+ℤ◌, ◌-ℤ◌, ◌*ℤ◌, ◌<ℤ◌, ◌≤ℤ◌, unsigned_abs};
 ghost use Rattle.abuf_view.specs.Camera.{dot, IsBounded};
 ghost use Rattle.abuf_view.specs.NearPlane.{IsNearPlane, IsEyePoint};
 ghost use Rattle.abuf_view.specs.Eye.{eye_point_by, IsEye, IsRow};
@@ -9,8 +9,8 @@ use crate::near_plane::NearPlane;
 use crate::point::Point3;
 use crate::screen::Screen;
 
-/// A point in eye space, as the camera sees it, in units of 1/65536 times the norm of the camera's turn: x to the right, y upward, and w the
-/// distance in front of the camera. Each is below 2^55 either way.
+/// A point in eye space, as the camera sees it, in units of 1/65536 times the norm of the camera's turn: x to the right, y upward,
+/// and w the distance in front of the camera. Each is below 2^55 either way.
 #[derive(Clone, Copy, Debug, PartialEq, Eq)]
 pub struct EyePoint {
     pub x: i64,
@@ -40,6 +40,16 @@ pub fn times(entry: i64, part: i64) -> i64
     entry * part
 }
 
+/// A sum of two numbers that are below 2^62 either way, which 64 bits always hold.
+pub fn sum(a: i64, b: i64) -> i64
+    requires a { unsigned_abs a < 2 ^ 62 }
+    requires b { unsigned_abs b < 2 ^ 62 }
+    ensures value { result ≡ a +ℤ b }
+    ensures bound { unsigned_abs result ≤ unsigned_abs a + unsigned_abs b }
+{
+    a + b
+}
+
 /// One coordinate of a point in eye space, but for its sign: by a row of the matrix, the norm and one part of the shift.
 fn eye_part(row: Point3, norm: i64, p: Point3, shift: i64) -> i64
     requires norm { unsigned_abs norm ≤ 4194304 }
@@ -54,7 +64,7 @@ fn eye_part(row: Point3, norm: i64, p: Point3, shift: i64) -> i64
     let second = times(row.y, p.y);
     let third = times(row.z, p.z);
     let fourth = times(norm, shift);
-    first + second + third + fourth
+    sum(sum(sum(first, second), third), fourth)
 }
 
 impl Eye {

@@ -2,8 +2,8 @@
 #![tactic(auto)]
 
 mod camera;
+mod checked_camera;
 mod eye;
-mod faces;
 pub mod laws;
 mod near_plane;
 mod palette;
@@ -19,7 +19,7 @@ mod short_points;
 mod threads;
 mod turns;
 
-pub use camera::Camera;
+pub use camera::{Camera, Lens};
 pub use eye::EyePoint;
 pub use near_plane::EyeTriangle;
 pub use projection::Projected;

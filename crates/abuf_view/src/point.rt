@@ -11,15 +11,16 @@ pub struct Point3 {
     pub z: i64,
 }
 
-/// The point of these coordinates.
-pub fn to_point(point: [i64; 3]) -> Point3
-    requires { IsInRange point }
-    ensures value { result ≡ point_of point }
-    ensures range { IsBounded result }
-{
-    Point3 {
-        x: point[0],
-        y: point[1],
-        z: point[2],
+impl Point3 {
+    /// The point of these coordinates.
+    pub fn of(parts: [i64; 3]) -> Point3
+        ensures value { result ≡ point_of parts }
+        ensures range { IsInRange parts → IsBounded result }
+    {
+        Point3 {
+            x: parts[0],
+            y: parts[1],
+            z: parts[2],
+        }
     }
 }

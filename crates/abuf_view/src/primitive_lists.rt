@@ -5,9 +5,11 @@ ghost use Rattle.abuf_scene.specs.Triangles.{IsTriangleInRange};
 ghost use Rattle.abuf_view.specs.Eye.{IsEye, clipped_by, shown_by};
 ghost use Rattle.abuf_view.specs.NearPlane.{IsInFront};
 
+pub(crate) mod faces;
+
 use crate::eye::Eye;
 use crate::near_plane::{EyeTriangle, clip};
-use crate::point::to_point;
+use crate::point::Point3;
 use crate::projection::Projected;
 use crate::screen::on_screen;
 use abuf_num::{List, NoMemory, Paint};
@@ -72,9 +74,9 @@ impl PrimitiveLists {
         ensures tris { OnOk result (self.new.tris ≡ self.old.tris ++ map (shown_by eye.now) (clipped_by eye.now t.now)) }
         ensures paints { OnOk result (self.new.paints ≡ self.old.paints ++ map (λ _. t.now.paint) (clipped_by eye.now t.now)) }
     {
-        let a = eye.sees(to_point(t.a));
-        let b = eye.sees(to_point(t.b));
-        let c = eye.sees(to_point(t.c));
+        let a = eye.sees(Point3::of(t.a));
+        let b = eye.sees(Point3::of(t.b));
+        let c = eye.sees(Point3::of(t.c));
         let (first, second) = clip(eye.near_plane, a, b, c);
         self.push_part(eye, first, t.paint)?;
         self.push_part(eye, second, t.paint)?;

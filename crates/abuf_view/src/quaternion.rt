@@ -1,9 +1,10 @@
 // Quaternions, and the matrices of their turns.
 ghost use Rattle.std.specs.Prelude.{◌≡◌, ◌^◌, ◌≤◌, pos, ◌+ℤ◌, ◌-ℤ◌, ◌*ℤ◌, unsigned_abs};
-ghost use Rattle.abuf_view.specs.Camera.{norm, row_x, row_y, row_z, IsTurn};
-ghost use Rattle.abuf_view.specs.Squares.{squares_of, AreSmall};
+ghost use Rattle.abuf_view.specs.Camera.{norm, row_x, row_y, row_z, quaternion_of, IsTurn};
 
+use crate::eye::sum;
 use crate::point::Point3;
+use abuf_num::difference;
 
 /// A turn, as a quaternion.
 #[derive(Clone, Copy, Debug, PartialEq, Eq)]
@@ -42,56 +43,29 @@ fn twice_difference(p: i64, q: i64) -> i64
     2 * (p - q)
 }
 
-/// The squares of the parts of a turn.
-#[derive(Clone, Copy)]
-struct Squares {
-    aa: i64,
-    bb: i64,
-    cc: i64,
-    dd: i64,
-}
-
-impl Squares {
-    fn sum(self) -> i64
-        requires { AreSmall self }
-        ensures { result ≡ self.aa +ℤ self.bb +ℤ self.cc +ℤ self.dd }
-    {
-        self.aa + self.bb + self.cc + self.dd
-    }
-
-    fn about_x(self) -> i64
-        requires { AreSmall self }
-        ensures { result ≡ self.aa +ℤ self.bb -ℤ self.cc -ℤ self.dd }
-    {
-        self.aa + self.bb - self.cc - self.dd
-    }
-
-    fn about_y(self) -> i64
-        requires { AreSmall self }
-        ensures { result ≡ self.aa -ℤ self.bb +ℤ self.cc -ℤ self.dd }
-    {
-        self.aa - self.bb + self.cc - self.dd
-    }
-
-    fn about_z(self) -> i64
-        requires { AreSmall self }
-        ensures { result ≡ self.aa -ℤ self.bb -ℤ self.cc +ℤ self.dd }
-    {
-        self.aa - self.bb - self.cc + self.dd
-    }
+/// The sum of the first two less the other two, in the orders in which the entries on the matrix's diagonal have it.
+fn diagonal(p: i64, q: i64, r: i64, s: i64) -> i64
+    requires p { unsigned_abs p ≤ 2 ^ 20 }
+    requires q { unsigned_abs q ≤ 2 ^ 20 }
+    requires r { unsigned_abs r ≤ 2 ^ 20 }
+    requires s { unsigned_abs s ≤ 2 ^ 20 }
+    ensures x { result ≡ p +ℤ q -ℤ r -ℤ s }
+    ensures y { result ≡ p -ℤ r +ℤ q -ℤ s }
+    ensures z { result ≡ p -ℤ r -ℤ s +ℤ q }
+{
+    difference(sum(p, q), sum(r, s))
 }
 
 impl Quaternion {
-    fn squares(self) -> Squares
-        requires { IsTurn self }
-        ensures value { result ≡ squares_of self }
-        ensures small { AreSmall result }
+    /// The turn of these parts.
+    pub fn of(parts: [i32; 4]) -> Quaternion
+        ensures { result ≡ quaternion_of parts }
     {
-        Squares {
-            aa: part_product(self.a, self.a),
-            bb: part_product(self.b, self.b),
-            cc: part_product(self.c, self.c),
-            dd: part_product(self.d, self.d),
+        Quaternion {
+            a: parts[0],
+            b: parts[1],
+            c: parts[2],
+            d: parts[3],
         }
     }
 
@@ -100,7 +74,13 @@ impl Quaternion {
         requires { IsTurn self }
         ensures { result ≡ norm self }
     {
-        self.squares().sum()
+        sum(
+            sum(
+                sum(part_product(self.a, self.a), part_product(self.b, self.b)),
+                part_product(self.c, self.c),
+            ),
+            part_product(self.d, self.d),
+        )
     }
 
     pub fn row_x(self) -> Point3
@@ -108,7 +88,12 @@ impl Quaternion {
         ensures { result ≡ row_x self }
     {
         Point3 {
-            x: self.squares().about_x(),
+            x: diagonal(
+                part_product(self.a, self.a),
+                part_product(self.b, self.b),
+                part_product(self.c, self.c),
+                part_product(self.d, self.d),
+            ),
             y: twice_difference(part_product(self.b, self.c), part_product(self.a, self.d)),
             z: twice_sum(part_product(self.b, self.d), part_product(self.a, self.c)),
         }
@@ -120,7 +105,12 @@ impl Quaternion {
     {
         Point3 {
             x: twice_sum(part_product(self.b, self.c), part_product(self.a, self.d)),
-            y: self.squares().about_y(),
+            y: diagonal(
+                part_product(self.a, self.a),
+                part_product(self.c, self.c),
+                part_product(self.b, self.b),
+                part_product(self.d, self.d),
+            ),
             z: twice_difference(part_product(self.c, self.d), part_product(self.a, self.b)),
         }
     }
@@ -132,7 +122,12 @@ impl Quaternion {
         Point3 {
             x: twice_difference(part_product(self.b, self.d), part_product(self.a, self.c)),
             y: twice_sum(part_product(self.c, self.d), part_product(self.a, self.b)),
-            z: self.squares().about_z(),
+            z: diagonal(
+                part_product(self.a, self.a),
+                part_product(self.d, self.d),
+                part_product(self.b, self.b),
+                part_product(self.c, self.c),
+            ),
         }
     }
 }

@@ -1,6 +1,6 @@
 // Runs of faces, put together.
-ghost use Rattle.std.specs.Prelude.{◌≡◌, ◌++◌, [], flat_map, None, OnOk, IfOk, IfErr};
-ghost use Rattle.abuf_view.specs.Runs.{tris_of, paints_of, first_fault, IsFirst};
+ghost use Rattle.std.specs.Prelude.{◌≡◌, ◌++◌, [], OnOk, IfOk};
+ghost use Rattle.abuf_view.specs.Runs.{together, IsAnswer};
 
 use crate::primitive_lists::PrimitiveLists;
 use abuf_num::{List, NoMemory};
@@ -42,10 +42,7 @@ pub fn put_together(
     runs: Vec<Result<PrimitiveLists, SceneFault>>,
 ) -> Result<PrimitiveLists, SceneFault>
     requires empty { (room.tris ≡ []) × (room.paints ≡ []) }
-    ensures fault { IfErr result (IsFirst (first_fault runs.items)) }
-    ensures known { OnOk result (first_fault runs.items ≡ None) }
-    ensures tris { IfOk result (λ p. p.tris ≡ flat_map tris_of runs.items) }
-    ensures paints { IfOk result (λ p. p.paints ≡ flat_map paints_of runs.items) }
+    ensures { IsAnswer (together runs.items) result }
 {
     let mut tris = room.tris.into_vec();
     let mut paints = room.paints.into_vec();

@@ -3,7 +3,7 @@ ghost use Rattle.std.specs.Prelude.{◌≡◌, ◌*◌, ◌^◌, ◌<◌, ◌≤
 ghost use Rattle.abuf_num.specs.declared.limits.TheConstants.{MAX_DEPTH, MAX_SIDE};
 ghost use Rattle.abuf_num.specs.Division.{floor_div, round_div, nearest};
 ghost use Rattle.abuf_raster.specs.Triangle.{IsWithin};
-ghost use Rattle.abuf_view.specs.NearPlane.{IsNearPlane, IsEyePoint};
+ghost use Rattle.abuf_view.specs.NearPlane.{IsNearPlane, IsEyePoint, IsInFront};
 ghost use Rattle.abuf_view.specs.Screen.{shown, depth_value, on_screen, signed_by};
 
 use crate::eye::EyePoint;
@@ -186,23 +186,11 @@ pub fn on_screen(screen: Screen, near_plane: NearPlane, t: EyeTriangle) -> Scree
     requires width { screen.width ≤ MAX_SIDE }
     requires height { screen.height ≤ MAX_SIDE }
     requires focal { (pos 0 ≤ℤ screen.focal) × (screen.focal ≤ℤ pos 1048576) }
-    requires a_bounded { IsEyePoint near_plane.norm t.a }
-    requires b_bounded { IsEyePoint near_plane.norm t.b }
-    requires c_bounded { IsEyePoint near_plane.norm t.c }
-    requires a_inside { near_plane.w ≤ℤ t.a.w }
-    requires b_inside { near_plane.w ≤ℤ t.b.w }
-    requires c_inside { near_plane.w ≤ℤ t.c.w }
+    requires in_front { IsInFront near_plane.norm near_plane.w t }
     ensures { result ≡ on_screen screen.width screen.height screen.focal near_plane.w t }
 {
     let a = corner(screen, near_plane, t.a);
     let b = corner(screen, near_plane, t.b);
     let c = corner(screen, near_plane, t.c);
-    match ScreenTri::new(
-        [a.place.x, b.place.x, c.place.x],
-        [a.place.y, b.place.y, c.place.y],
-        [a.depth, b.depth, c.depth],
-    ) {
-        Some(triangle) => triangle,
-        None => unreachable!(),
-    }
+    ScreenTri::of_corners(a.place, b.place, c.place, a.depth, b.depth, c.depth)
 }

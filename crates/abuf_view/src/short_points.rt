@@ -5,7 +5,7 @@ ghost use Rattle.abuf_view.specs.Eye.{IsEye};
 ghost use Rattle.abuf_view.specs.ShortPoints.{short, short_of, short_point, joined};
 
 use crate::eye::Eye;
-use crate::point::to_point;
+use crate::point::Point3;
 use crate::screen::corner;
 use abuf_raster::ScreenTri;
 
@@ -46,7 +46,7 @@ pub fn short_point(eye: &Eye, point: [i64; 3]) -> Option<ShortPoint>
     requires point { IsInRange point }
     ensures { result ≡ short_point eye.now point }
 {
-    let seen = eye.sees(to_point(point));
+    let seen = eye.sees(Point3::of(point));
     if eye.near_plane.is_inside(seen) {
         let corner = corner(eye.screen, eye.near_plane, seen);
         short_of(short(corner.place.x), short(corner.place.y), corner.depth)

@@ -10,10 +10,10 @@ ghost use Rattle.abuf_view.specs.Primitives.{prims, HasTriangles, HasPaints};
 ghost use Rattle.abuf_view.specs.Runs.{AreRuns};
 
 use crate::camera::Camera;
-use crate::faces::project_run;
 use crate::palette::Palette;
 use crate::point_table::PointTable;
 use crate::primitive_lists::PrimitiveLists;
+use crate::primitive_lists::faces::project_run;
 use crate::projection::Projected;
 use crate::runs::{put_together, room_for};
 use abuf_mtl::Materials;

@@ -1,7 +1,12 @@
-use Rattle.abuf_raster.specs.Region.{whole_image}
-use Rattle.abuf_band.proofs.Totals.{totals_of_bands}
+use Rattle.std.proofs.Common.{ap, ◌∙◌}
+use Rattle.abuf_raster.specs.Region.{Region, whole_image}
+use Rattle.abuf_picture.specs.Picture.{total}
+use Rattle.abuf_band.proofs.Above.{above_all, total_above}
 use Rattle.abuf_band.proofs.laws.bands_law.Goals as goal
 
 pub returns : goal.returns
 returns c =
-    totals_of_bands (whole_image c.args.width c.args.height) c.args.bands c.requires.bands.0 c.requires.bands.1 c.requires.size.width_some c.args.triangles.now c.args.pattern
+    let all : Region = whole_image c.args.width c.args.height in
+    let bands = c.requires.bands in
+    total_above all c.args.bands bands.0 bands.1 c.requires.size.width_some c.args.triangles.now c.args.pattern c.args.bands
+    ∙ ap (total c.args.triangles.now c.args.pattern) (above_all all c.args.bands bands.0 bands.1)

@@ -1,15 +1,11 @@
 use Rattle.std.proofs.Common.{ap, arith, length, subst, sym}
 use Rattle.abuf_raster.specs.Samples.{offsets_of}
-use Rattle.abuf_raster.specs.Hits.{all_fragments}
 use Rattle.abuf_share.specs.declared.rule.Hand.{Hand}
-use Rattle.abuf_fan.specs.Grows.{Grows}
 use Rattle.abuf_fan.specs.Parts.{IsOrder}
 use Rattle.abuf_fan.proofs.Parts.{all_fragments_few}
 use Rattle.abuf_fan.proofs.Growing.{grows_endowment, grows_loose}
 use Rattle.abuf_fan.proofs.Halves.{served_all}
 use Rattle.abuf_fan.proofs.drawing.draw_all.Goals as goal
-use Rattle.abuf_fan.proofs.drawing.draw_all.Goals.{After-drop-order-2}
-use Rattle.abuf_fan.proofs.drawing.draw_all.Given.{Over}
 
 pub draw_workers-requires-clause-can : goal.draw_workers-requires-clause-can
 draw_workers-requires-clause-can g c = λ κs within.
@@ -18,17 +14,14 @@ draw_workers-requires-clause-can g c = λ κs within.
     let threads = c.requires.threads in
     record { of_frame = c.requires.frame; of_desk = start.1; numbers = omega arith; fragments = c.requires.credit }
 
-all_drawn : (g : Over) (c : After-drop-order-2 g) → Grows (all_fragments c.args.tris.now 0 (offsets_of c.args.pattern) c.args.region) c.args.pass.now.view c.draw_workers.new.pass.view
-all_drawn g c = served_all c.args.tris.now (offsets_of c.args.pattern) c.args.region c.deref.result.now c.in_ok-desk.turn.hand c.draw_workers.new.turn.hand c.args.pass.now.view c.draw_workers.new.pass.view (subst (IsOrder (length c.args.tris.now)) (sym c.deref.ensures.value) c.in_ok-order.ensures) c.in_ok-desk.ensures.2 c.draw_workers.ensures.served.served
-
 pub returns-clause-drawn : goal.returns-clause-drawn
-returns-clause-drawn g c = all_drawn g c
+returns-clause-drawn g c = served_all c.args.tris.now (offsets_of c.args.pattern) c.args.region c.deref.result.now c.in_ok-desk.turn.hand c.draw_workers.new.turn.hand c.args.pass.now.view c.draw_workers.new.pass.view (subst (IsOrder (length c.args.tris.now)) (sym c.deref.ensures.value) c.in_ok-order.ensures) c.in_ok-desk.ensures.2 c.draw_workers.ensures.served.served
 
 pub returns-clause-few : goal.returns-clause-few
-returns-clause-few g c = let s = (all_drawn g c).spent in let f = all_fragments_few (offsets_of c.args.pattern) c.args.region c.args.tris.now 0 in omega arith
+returns-clause-few g c = let s = (returns-clause-drawn g c).spent in let f = all_fragments_few (offsets_of c.args.pattern) c.args.region c.args.tris.now 0 in omega arith
 
 pub returns-clause-endowment : goal.returns-clause-endowment
-returns-clause-endowment g c = grows_endowment _ _ _ (all_drawn g c)
+returns-clause-endowment g c = grows_endowment _ _ _ (returns-clause-drawn g c)
 
 pub returns-clause-loose : goal.returns-clause-loose
-returns-clause-loose g c = grows_loose _ _ _ (all_drawn g c)
+returns-clause-loose g c = grows_loose _ _ _ (returns-clause-drawn g c)

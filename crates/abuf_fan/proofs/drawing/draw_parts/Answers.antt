@@ -52,18 +52,8 @@ loop-part-preserved g c = let i = c.loop-part.invariant in let t = c.in-Some.ens
       drawn = draws_more ts os r order i.numbers t.0 c.in-Some.part c.args.pass.now.view c.loop-part.pass.view c.draw_part.new.pass.view a i.drawn part;
     }
 
-pub returns-then-next-eq0-2 : goal.returns-then-next-eq0-2
-returns-then-next-eq0-2 g c = record {
-  served = record {
-    same_frame = c.loop-part.invariant.same;
-    same_desk = c.take.ensures.table ∙ c.loop-part.invariant.seat;
-    served = let i = c.loop-part.invariant in let t = c.in_default.ensures.number in let b = t.3 in let p = c.args.work.now.parts in let low = i.low in let turns = i.turns in
-        served_ends c.args.work.now.tris.now (offsets_of c.args.work.now.pattern) c.args.work.now.region c.args.work.now.order.now c.args.turn.now.hand c.loop-part.turn.hand c.take.new.turn.hand i.numbers t.0 i.drawn_are i.spent (omega arith) t.1 c.args.pass.now.view c.loop-part.pass.view (omega arith) c.take.ensures.each_once i.drawn;
-  };
-}
-
-pub returns-else-next-eq0-2 : goal.returns-else-next-eq0-2
-returns-else-next-eq0-2 g c = record {
+pub returns : goal.returns
+returns g c = record {
   served = record {
     same_frame = c.loop-part.invariant.same;
     same_desk = c.take.ensures.table ∙ c.loop-part.invariant.seat;

@@ -1,4 +1,4 @@
-use Rattle.std.proofs.Common.{arith, ◌+◌, ◌*◌, ◌≡◌, ◌∙◌, ℕ, suc, List, [], ◌∷◌, ◌++◌, length, take, drop, refl, sym, subst, ap, append-nil, slice_index_or}
+use Rattle.std.proofs.Common.{arith, ◌+◌, ◌*◌, ◌≡◌, ◌∙◌, ℕ, suc, List, [], ◌∷◌, ◌++◌, length, take, drop, refl, sym, subst, ap, true≢false, append-nil, slice_index_or}
 use Rattle.std.specs.List.{flat_map}
 use Rattle.std.proofs.lemmas.List.{length-drop, take_all, take_more}
 use Rattle.std.proofs.lemmas.Grind.{flat_map-append}
@@ -10,7 +10,6 @@ use Rattle.abuf_draw.proofs.Drawing.{passes_none, passes_then, passes_end}
 use Rattle.abuf_fan.specs.Parts.{fragments_of}
 use Rattle.abuf_fan.proofs.Parts.{one_more_waits, still_room, still_few}
 use Rattle.abuf_fan.proofs.part.draw_part.Goals as goal
-use Rattle.abuf_fan.proofs.part.draw_part.Goals.{After-flush}
 
 pub loop-number-init : goal.loop-number-init
 loop-number-init c =
@@ -19,6 +18,7 @@ loop-number-init c =
     record {
       brush = c.new-brush.ensures.brush;
       same = refl;
+      full = λ h. absurd (true≢false (sym h ∙ c.new-brush.ensures.full));
       room = omega (arith, count, c.requires.credit);
       few = omega (arith, count);
       passes = subst (λ (l : List (ℕ × ℕ)). Passes [] [] l c.args.pass.now.view c.args.pass.now.view) (sym none) (passes_none [] c.args.pass.now.view);
@@ -47,20 +47,18 @@ loop-number-preserved c =
     record {
       brush = c.draw_one.ensures.brush;
       same = c.draw_one.ensures.frame ∙ i.same;
+      full = c.draw_one.ensures.full;
       room = still_room old new rest area c.loop-number.pass.view.credit c.draw_one.new.pass.view.credit (rw one at i.room) c.draw_one.ensures.few;
       few = still_few old new rest area c.args.pass.now.view.credit c.loop-number.pass.view.credit c.draw_one.new.pass.view.credit (length numbers * area) (rw one at i.few) c.draw_one.ensures.few;
       passes = subst (λ (l : List (ℕ × ℕ)). Passes [] l c.draw_one.new.brush.batch c.args.pass.now.view c.draw_one.new.pass.view) (sym more) (passes_then [] (flat_map f (take at numbers)) c.loop-number.brush.batch (f n) c.draw_one.new.brush.batch _ _ _ i.passes c.draw_one.ensures.passes);
     }
 
-all_drawn : (c : After-flush) → Draws (flat_map (fragments_of c.args.work.now.tris.now (offsets_of c.args.work.now.pattern) c.args.work.now.region) c.args.numbers.now) c.args.pass.now.view c.flush.new.pass.view
-all_drawn c =
+pub returns-clause-draws : goal.returns-clause-draws
+returns-clause-draws c =
     let f : ℕ → List (ℕ × ℕ) = fragments_of c.args.work.now.tris.now (offsets_of c.args.work.now.pattern) c.args.work.now.region in
     let all = ap (flat_map f) (take_all c.loop-number.number-index c.args.numbers.now (omega arith)) in
     subst (λ (l : List (ℕ × ℕ)). Draws l c.args.pass.now.view c.flush.new.pass.view) all
     (passes_end (flat_map f (take c.loop-number.number-index c.args.numbers.now)) c.loop-number.brush.batch _ _ _ c.loop-number.invariant.passes c.flush.ensures.draws)
-
-pub returns-clause-draws : goal.returns-clause-draws
-returns-clause-draws c = all_drawn c
 
 pub returns-clause-few : goal.returns-clause-few
 returns-clause-few c = let i = c.loop-number.invariant in let d = draws_credit _ _ _ c.flush.ensures.draws in omega (arith, i.few, d)

@@ -1,11 +1,9 @@
-use Rattle.std.proofs.Common.{◌≡◌, ◌*◌, ℕ, List, length, ap, ap₂, subst, arith}
+use Rattle.std.proofs.Common.{ℕ, List, ap, ap₂, arith}
 use Rattle.abuf_num.specs.declared.plain.PixelSum.{PixelSum}
 use Rattle.abuf_raster.specs.Samples.{offsets_of}
 use Rattle.abuf_raster.proofs.Masks.{offsets_few}
-use Rattle.abuf_resolve.specs.declared.runs.Resolved.{Resolved}
+use Rattle.abuf_resolve.specs.declared.scene.runs.Resolved.{Resolved}
 use Rattle.abuf_resolve.specs.Lengths.{greatest}
-use Rattle.abuf_resolve.specs.Words.{AreListsOf}
-use Rattle.abuf_resolve.proofs.Hits.{all_fragments_are, all_hits}
 use Rattle.abuf_resolve.proofs.Present.{lengths_are}
 use Rattle.abuf_resolve.proofs.Totals.{sums_are}
 use Rattle.abuf_picture.proofs.resolving.compositing_law.Goals as goal
@@ -17,10 +15,8 @@ returns c =
     let os = offsets_of t.pattern in
     let few = offsets_few t.pattern in
     λ (lists : List (List ℕ)) size are.
-    let held : AreListsOf (all_hits os p.triangles.now t.region) lists =
-    subst (λ (es : List (ℕ × ℕ)). AreListsOf es lists) (all_fragments_are os p.triangles.now t.region) are in
-    let sums = sums_are os t.background p.triangles.now p.paints.now t.region lists few (omega (arith, p.few)) c.region_law.ensures size held in
-    let lengths = lengths_are os p.triangles.now t.region lists few (omega (arith, p.few)) c.region_law.ensures size held in
+    let sums = sums_are os t.background p.triangles.now p.paints.now t.region lists few (omega (arith, p.few)) c.region_law.ensures size are in
+    let lengths = lengths_are os p.triangles.now t.region lists few (omega (arith, p.few)) c.region_law.ensures size are in
     ap₂ of_parts sums (ap greatest lengths)
   where
     of_parts : List PixelSum → ℕ → Resolved

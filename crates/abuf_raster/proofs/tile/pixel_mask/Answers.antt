@@ -1,10 +1,10 @@
-use Rattle.std.proofs.Common.{◌∙◌, sym, ap, ap₂, length, ℕ, bit_and, ◌+ℤ◌, ◌≤ℤ◌, subst}
+use Rattle.std.proofs.Common.{◌∙◌, sym, ap, ap₂, length, ℕ, bit_and}
 use Rattle.abuf_raster.specs.Samples.{offsets_of}
-use Rattle.abuf_raster.specs.Values.{Numbers, none_below, sample_change, mask_of_values}
+use Rattle.abuf_raster.specs.Values.{Numbers, none_below, mask_of_values}
 use Rattle.abuf_raster.specs.Triangle.{Triangle}
 use Rattle.abuf_raster.specs.TrioNumbers.{numbers_of}
-use Rattle.abuf_raster.proofs.Changes.{mask_inside, mask_outside, plus_up}
-use Rattle.abuf_raster.proofs.Accepted.{three_accept}
+use Rattle.abuf_raster.proofs.Changes.{mask_inside, mask_outside}
+use Rattle.abuf_raster.proofs.Accepted.{three_accept, least_values}
 use Rattle.abuf_raster.proofs.tile.pixel_mask.Goals as goal
 
 pub returns-then-not-none_below : goal.returns-then-not-none_below
@@ -19,25 +19,13 @@ returns-then-none_below g c =
     (sym (ap none_below c.plus-least.ensures) ∙ (sym c.none_below-2.ensures ∙ c.if-none_below.true)))
 
 pub accepted-requires-clause-least : goal.accepted-requires-clause-least
-accepted-requires-clause-least g c = λ k l.
-    let n : Numbers = numbers_of g.V.Width.number c.args.at in
-    let low : (n.ab +ℤ g.V.Width.number c.args.samples.least.ab) ≤ℤ (n.ab +ℤ sample_change c.t.inside.a c.t.inside.b (offsets_of c.args.pattern) k) =
-    subst (λ (v : Triangle). (n.ab +ℤ g.V.Width.number c.args.samples.least.ab) ≤ℤ (n.ab +ℤ sample_change v.a v.b (offsets_of c.args.pattern) k)) (sym c.t.view_is) (plus_up n _ _ (c.requires.samples.low k l)).ab in
-    rw (ap (λ (n : Numbers). n.ab) c.plus-least.ensures) low
+accepted-requires-clause-least g c = (least_values c.args.t.now (record { a = c.t.inside.a; b = c.t.inside.b; c = c.t.inside.c; qa = c.t.inside.qa; qb = c.t.inside.qb; qc = c.t.inside.qc }) (offsets_of c.args.pattern) (numbers_of g.V.Width.number c.args.at) (numbers_of g.V.Width.number c.args.samples.least) (numbers_of g.V.Width.number c.plus-least.result) c.t.view_is c.plus-least.ensures c.requires.samples.low).0
 
 pub accepted-requires-2-clause-least : goal.accepted-requires-2-clause-least
-accepted-requires-2-clause-least g c = λ k l.
-    let n : Numbers = numbers_of g.V.Width.number c.args.at in
-    let low : (n.bc +ℤ g.V.Width.number c.args.samples.least.bc) ≤ℤ (n.bc +ℤ sample_change c.t.inside.b c.t.inside.c (offsets_of c.args.pattern) k) =
-    subst (λ (v : Triangle). (n.bc +ℤ g.V.Width.number c.args.samples.least.bc) ≤ℤ (n.bc +ℤ sample_change v.b v.c (offsets_of c.args.pattern) k)) (sym c.t.view_is) (plus_up n _ _ (c.requires.samples.low k l)).bc in
-    rw (ap (λ (n : Numbers). n.bc) c.plus-least.ensures) low
+accepted-requires-2-clause-least g c = (least_values c.args.t.now (record { a = c.t.inside.a; b = c.t.inside.b; c = c.t.inside.c; qa = c.t.inside.qa; qb = c.t.inside.qb; qc = c.t.inside.qc }) (offsets_of c.args.pattern) (numbers_of g.V.Width.number c.args.at) (numbers_of g.V.Width.number c.args.samples.least) (numbers_of g.V.Width.number c.plus-least.result) c.t.view_is c.plus-least.ensures c.requires.samples.low).1
 
 pub accepted-requires-3-clause-least : goal.accepted-requires-3-clause-least
-accepted-requires-3-clause-least g c = λ k l.
-    let n : Numbers = numbers_of g.V.Width.number c.args.at in
-    let low : (n.ca +ℤ g.V.Width.number c.args.samples.least.ca) ≤ℤ (n.ca +ℤ sample_change c.t.inside.c c.t.inside.a (offsets_of c.args.pattern) k) =
-    subst (λ (v : Triangle). (n.ca +ℤ g.V.Width.number c.args.samples.least.ca) ≤ℤ (n.ca +ℤ sample_change v.c v.a (offsets_of c.args.pattern) k)) (sym c.t.view_is) (plus_up n _ _ (c.requires.samples.low k l)).ca in
-    rw (ap (λ (n : Numbers). n.ca) c.plus-least.ensures) low
+accepted-requires-3-clause-least g c = (least_values c.args.t.now (record { a = c.t.inside.a; b = c.t.inside.b; c = c.t.inside.c; qa = c.t.inside.qa; qb = c.t.inside.qb; qc = c.t.inside.qc }) (offsets_of c.args.pattern) (numbers_of g.V.Width.number c.args.at) (numbers_of g.V.Width.number c.args.samples.least) (numbers_of g.V.Width.number c.plus-least.result) c.t.view_is c.plus-least.ensures c.requires.samples.low).2
 
 pub returns : goal.returns
 returns g c =

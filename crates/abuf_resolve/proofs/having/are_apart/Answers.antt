@@ -1,20 +1,17 @@
-use Rattle.std.proofs.Common.{◌≡◌, ◌∙◌, ◌%◌, ◌∷◌, [], ◌<◌, min, ℕ, zero, suc, List, take, refl, length, get_or, bit_and, ap, sym, arith, ◌==◌, if◌then◌else◌}
+use Rattle.std.proofs.Common.{◌≡◌, ◌∙◌, ◌%◌, ◌∷◌, [], min, ℕ, List, take, length, get_or, bit_and, ap, sym, arith}
 use Rattle.std.specs.Int.{bit_at}
 use Rattle.std.specs.List.{filter}
 use Rattle.std.proofs.lemmas.List.{take_more}
 use Rattle.std.proofs.lemmas.List.Elements.{filter-append}
 use Rattle.std.proofs.lemmas.Nat.Bits.{bit_at-lt, bit_at-zero, bit_at_and, bit_at_or}
 use Rattle.std.proofs.Common.{length-append}
+use Rattle.std.proofs.lemmas.Bool.Decides.{nat_tests}
 use Rattle.abuf_resolve.specs.Words.{has_sample}
 use Rattle.abuf_resolve.proofs.having.are_apart.Goals as goal
 
 -- A word is kept as often as its bit says.
 kept_once : (k w : ℕ) → length (filter (has_sample k) (w ∷ [])) ≡ bit_at (w % 65536) k
-kept_once k w = go (bit_at (w % 65536) k) (bit_at-lt (w % 65536) k) where
-  go : (b : ℕ) → b < 2 → length (if b == 1 then w ∷ [] else []) ≡ b
-  go zero l = refl
-  go (suc zero) l = refl
-  go (suc (suc b)) l = absurd (omega arith)
+kept_once k w = grind (arith, nat_tests, bit_at-lt (w % 65536) k)
 
 pub loop-word-preserved : goal.loop-word-preserved
 loop-word-preserved c = λ k l.

@@ -1,10 +1,6 @@
-use Rattle.std.proofs.Common.{◌≡◌, flat_map}
-use Rattle.abuf_view.specs.Runs.{tris_of, paints_of, first_fault}
+use Rattle.std.proofs.Common.{◌≡◌}
+use Rattle.abuf_view.specs.Runs.{before, together}
 use Rattle.abuf_view.proofs.runs.put_together.Given as goal
 
 abbrev pub invariant-loop-run : goal.invariant-loop-run
-invariant-loop-run l = record {
-  fault : first_fault l.run-iterator.rest.items ≡ first_fault l.fn.runs.items;
-  tris : l.tris.items ≡ flat_map tris_of l.yielded;
-  paints : l.paints.items ≡ flat_map paints_of l.yielded;
-}
+invariant-loop-run l = before (record { tris = l.tris.items; paints = l.paints.items }) (together l.run-iterator.rest.items) ≡ together l.fn.runs.items

@@ -3,7 +3,7 @@ use Rattle.abuf_obj.specs.declared.face.Face.{Face}
 use Rattle.abuf_scene.specs.Triangles.{Tells}
 use Rattle.abuf_scene.specs.Lookup.{look_up}
 use Rattle.abuf_view.specs.Runs.{IsRun, unknown_in}
-use Rattle.abuf_view.proofs.Together.{together}
+use Rattle.abuf_view.proofs.Together.{all_runs, answered}
 use Rattle.abuf_view.proofs.threads.all_faces.Goals as goal
 use Rattle.abuf_view.proofs.threads.all_faces.Goals.{After-put_together}
 use Rattle.abuf_view.proofs.threads.all_faces.Given.{Over}
@@ -15,8 +15,9 @@ returns-then-faces-per_run-clause-fault g c =
 -- The workers' runs, put together, are the run of all faces.
 all : (g : Over) (c : After-put_together g) → IsRun (look_up c.args.palette.now.materials.value) c.args.obj.now c.args.table.now.eye c.args.obj.now.faces c.put_together.result
 all g c =
-    let put = c.put_together.ensures in
-    together (look_up c.args.palette.now.materials.value) c.args.obj.now c.args.table.now.eye c.args.per_run c.args.obj.now.faces c.in_ok-runs.runs.items c.put_together.result c.in_ok-runs.ensures put.fault put.known put.tris put.paints
+    let look = look_up c.args.palette.now.materials.value in
+    let eye = c.args.table.now.eye in
+    answered look c.args.obj.now eye c.args.obj.now.faces _ c.put_together.result (all_runs look c.args.obj.now eye c.args.per_run c.args.obj.now.faces c.in_ok-runs.runs.items c.in_ok-runs.ensures) c.put_together.ensures
 
 pub returns-clause-fault : goal.returns-clause-fault
 returns-clause-fault g c = (all g c).fault

@@ -6,7 +6,7 @@ use Rattle.abuf_mtl.specs.StandsFor.{StandsFor}
 use Rattle.abuf_scene.specs.Triangles.{Look, triangles, unknown, triangles_by, unknown_by}
 use Rattle.abuf_scene.specs.Lookup.{look_up}
 use Rattle.abuf_scene.proofs.Lookups.{look_up-material, tells-by}
-use Rattle.abuf_view.proofs.Joining.{joined_tris, joined_paints, one_length, tris_few}
+use Rattle.abuf_view.proofs.Joining.{joined_tris, joined_paints, lengths}
 use Rattle.abuf_view.proofs.Fans.{triangles_few}
 use Rattle.abuf_view.proofs.threads.project_faces.Goals as goal
 
@@ -35,15 +35,12 @@ unfolding triangles
 returns-clause-paints g c = λ libraries stands.
     c.into_projected.ensures.paints ∙ joined_paints c.args.camera.now c.in_ok-table.table.eye (c.in_ok-table.ensures.eye ∙ c.eye.ensures.value) _ _ (ap (λ (look : Look). triangles_by look c.args.obj.now) (by_library libraries c.in_ok-palette.palette.materials.value c.args.materials.now c.in_ok-palette.ensures.materials stands)) _ c.in_ok-made.ensures.paints
 
-pub into_projected-requires-clause-painted : goal.into_projected-requires-clause-painted
-into_projected-requires-clause-painted g c =
+pub into_projected-requires : goal.into_projected-requires
+into_projected-requires g c =
     let k = c.args.camera.now in
-    let ts = triangles_by (look_up c.in_ok-palette.palette.materials.value) c.args.obj.now in
-    sym (one_length k ts _ _ (joined_tris k c.in_ok-table.table.eye (c.in_ok-table.ensures.eye ∙ c.eye.ensures.value) ts ts refl _ c.in_ok-made.ensures.tris) (joined_paints k c.in_ok-table.table.eye (c.in_ok-table.ensures.eye ∙ c.eye.ensures.value) ts ts refl _ c.in_ok-made.ensures.paints))
-
-pub into_projected-requires-clause-few : goal.into_projected-requires-clause-few
-into_projected-requires-clause-few g c =
-    let k = c.args.camera.now in
-    let ts = triangles_by (look_up c.in_ok-palette.palette.materials.value) c.args.obj.now in
-    let few = tris_few k ts _ (joined_tris k c.in_ok-table.table.eye (c.in_ok-table.ensures.eye ∙ c.eye.ensures.value) ts ts refl _ c.in_ok-made.ensures.tris) in
-    omega (arith, few, triangles_few (look_up c.in_ok-palette.palette.materials.value) c.args.obj.now c.args.obj.now.faces, c.requires.scene.few)
+    let e = c.in_ok-table.table.eye in
+    let is = c.in_ok-table.ensures.eye ∙ c.eye.ensures.value in
+    let look = look_up c.in_ok-palette.palette.materials.value in
+    let ts = triangles_by look c.args.obj.now in
+    let l = lengths k ts _ _ (joined_tris k e is ts ts refl _ c.in_ok-made.ensures.tris) (joined_paints k e is ts ts refl _ c.in_ok-made.ensures.paints) in
+    record { few = omega (arith, l.0, triangles_few look c.args.obj.now c.args.obj.now.faces, c.requires.scene.few); painted = l.1 }

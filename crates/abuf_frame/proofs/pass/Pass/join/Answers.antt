@@ -1,10 +1,10 @@
 use Rattle.std.proofs.Common.{◌≡◌, ◌≤◌, ◌^◌, rules, ap, arith, subst, ◌∙◌, []}
 use Rattle.abuf_frame.specs.Steps.{united}
-use Rattle.abuf_frame.specs.Views.{endowment}
+use Rattle.abuf_frame.specs.Views.{endowment, loose}
 use Rattle.abuf_frame.specs.Pass.{Ties}
 use Rattle.abuf_frame.proofs.Claims.{loose_le}
 use Rattle.abuf_frame.proofs.Shares.{joins, weighs, ties_united}
-use Rattle.abuf_frame.proofs.Draws.{united_loose}
+use Rattle.abuf_frame.proofs.Draws.{loose-append}
 use Rattle.abuf_frame.proofs.pass.Pass.join.Goals as goal
 
 pub join_seat-requires : goal.join_seat-requires
@@ -24,4 +24,4 @@ invariant_of-self c = let is = ap (λ m. m.0) c.join_seat.ensures.2 in
     ties_united _ _ c.self.inside.seat.me c.other.inside.seat.me c.count_at.new.seat.me _ _ _ _ _ _ c.self.invariant other now fit
 
 pub returns-clause-loose : goal.returns-clause-loose
-returns-clause-loose c = united_loose c.args.self.now.view c.args.other.view c.count_at.new.seat.me.0 (search rules)
+returns-clause-loose c = let e : c.count_at.new.seat.me.0 ≡ united c.args.self.now.view c.args.other.view = search rules in ap (λ v. loose v.entries) e ∙ loose-append c.args.self.now.view.entries c.args.other.view.entries

@@ -1,7 +1,8 @@
 use Rattle.std.proofs.Common.{◌≡◌, ◌∙◌, ◌+◌, ◌*◌, ◌^◌, ◌<◌, ℕ, ℤ, pos, neg_ℤ, ◌-ℤ◌, ◌<ℤ◌, ap, refl, sym, subst, unsigned_abs, to_z, of_z, w64, arith}
 use Rattle.std.proofs.lemmas.Int.{ints, to_z-of_z}
+use Rattle.std.proofs.lemmas.Nat.{mul-le}
 use Rattle.abuf_raster.specs.Edge.{edge_function}
-use Rattle.abuf_raster.specs.Triangle.{Triangle}
+use Rattle.abuf_raster.specs.Triangle.{Triangle, AreWithin}
 use Rattle.abuf_raster.specs.Slopes.{slope_across, slope_down}
 use Rattle.abuf_raster.proofs.Bounds.{back64}
 use Rattle.abuf_raster.proofs.Planes.{sum_is, move, more_is, slope_is, greatest_is}
@@ -12,6 +13,9 @@ whole r d h e = omega (arith, ints)
 
 less : (d x : ℤ) → unsigned_abs x < 2 ^ 45 → d ≡ pos 0 -ℤ to_z w64 (of_z w64 x) → to_z w64 (of_z w64 d) ≡ neg_ℤ x
 less d x h e = omega (arith, ints)
+
+fits : (z : ℤ) → unsigned_abs z < 2 ^ 29 → unsigned_abs (to_z w64 (of_z w64 z)) < 2 ^ 29
+fits z h = omega (arith, ints)
 
 pub returns : goal.returns
 returns c =
@@ -43,3 +47,14 @@ returns c =
       to_bottom = down;
       sum = sum_is u _ _ _ c.more-at_corner.result c.more-at_side.result across down first second third;
     })
+
+pub slope-across-requires-clause-small : goal.slope-across-requires-clause-small
+slope-across-requires-clause-small c = let w = subst (AreWithin (2 ^ 29)) (sym c.t.view_is) (c.is_small.ensures.small.0 c.if-not-is_small.false) in
+    (fits c.t.inside.a.y w.0.1, fits c.t.inside.b.y w.1.1, fits c.t.inside.c.y w.2.1)
+
+pub slope-down-requires-clause-small : goal.slope-down-requires-clause-small
+slope-down-requires-clause-small c = let w = subst (AreWithin (2 ^ 29)) (sym c.t.view_is) (c.is_small.ensures.small.0 c.if-not-is_small.false) in
+    (fits c.t.inside.a.x w.0.0, fits c.t.inside.c.x w.2.0, fits c.t.inside.b.x w.1.0)
+
+pub overflow_mul-area : goal.overflow_mul-area
+overflow_mul-area c = let m = mul-le (unsigned_abs (to_z w64 (of_z w64 c.edge_function-area.result))) (c.max-greatest.result + 1) (2 ^ 63) (2 ^ 33) (omega (arith, ints)) (omega arith) in omega (arith, m)

@@ -3,7 +3,7 @@ use Rattle.abuf_raster.specs.declared.point.Point.{Point}
 use Rattle.abuf_raster.specs.Triangle.{Triangle, positive_order}
 use Rattle.abuf_raster.specs.Samples.{offsets_of, sample_place}
 use Rattle.abuf_raster.specs.Plane.{sum_at}
-use Rattle.abuf_raster.proofs.Means.{both_true}
+use Rattle.std.proofs.lemmas.Bool.{and_parts}
 use Rattle.abuf_raster.proofs.Keys.{plane_of, key_of, key_told}
 use Rattle.abuf_raster.proofs.plane.DepthPlane.key.Goals as goal
 
@@ -14,5 +14,5 @@ returns-in-Some-clause-key c =
     let s : Point = sample_place (slice_index_or (offsets_of c.args.pattern) c.args.k (pos 0, pos 0)) c.args.x c.args.y in
     let same : c.sample_place.result ≡ s = c.sample_place.ensures.value ∙ ap (λ (o : ℤ × ℤ). sample_place o c.args.x c.args.y) c.offset.ensures.value in
     let plane = plane_of c.args.self.now c.self.inside.triangle.value c.self.inside.coefficients p c.self.invariant c.in-Some.is c.self.view_is in
-    key_told u p s c.key.result plane (key_of u p s plane (both_true _ _ c.requires.covered).1)
+    key_told u p s c.key.result plane (key_of u p s plane (and_parts _ _ c.requires.covered).1)
     (λ n e. c.key.ensures.key n (ap (sum_at p) same ∙ e))

@@ -1,6 +1,6 @@
 use Rattle.std.proofs.Common.{arith, ◌*◌}
 use Rattle.std.proofs.lemmas.List.Sorted.{IsPermutation-sym, All-permutation, length_permutation}
-use Rattle.abuf_raster.specs.Hits.{hits, IsHitIn}
+use Rattle.abuf_raster.specs.Hits.{hit_at, hits, IsHitIn}
 use Rattle.abuf_raster.specs.Samples.{offsets_of}
 use Rattle.abuf_raster.specs.TilesLeft.{hits_left}
 use Rattle.abuf_raster.proofs.Masks.{offsets_few}
@@ -19,5 +19,5 @@ returns-clause-few c =
     let r = c.args.region in
     let all = hits c.args.t.now c.args.prim (offsets_of c.args.pattern) r in
     let l = length_permutation (hits_left c.new.result) all c.new.ensures.hits in
-    let f = hits_few c.args.t.now c.args.prim (offsets_of c.args.pattern) r (r.w * r.h) 0 in
+    let f = hits_few (hit_at c.args.t.now c.args.prim (offsets_of c.args.pattern) r) (r.w * r.h) 0 in
     omega (arith, l, f)

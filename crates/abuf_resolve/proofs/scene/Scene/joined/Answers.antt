@@ -1,6 +1,6 @@
 use Rattle.std.proofs.Common.{◌*◌, ℕ, List, min, sym, subst, rules, arith}
 use Rattle.std.specs.List.{range_with_len}
-use Rattle.abuf_resolve.specs.declared.runs.Resolved.{Resolved}
+use Rattle.abuf_resolve.specs.declared.scene.runs.Resolved.{Resolved}
 use Rattle.abuf_resolve.specs.Parts.{IsPart, IsRun}
 use Rattle.abuf_resolve.proofs.Parts.{part_join}
 use Rattle.abuf_resolve.proofs.Places.{run_next}

@@ -9,9 +9,9 @@ use Rattle.abuf_view.proofs.primitive_lists.PrimitiveLists.push_triangle.Goals.{
 parts : (c : After-clip-first) → option_to_list c.clip-first.result.0 ++ option_to_list c.clip-first.result.1 ≡ clipped_by c.args.eye.now c.args.t.now
 parts c =
     let e = c.args.eye.now in
-    let a = c.sees-a.ensures.value ∙ ap (eye_point_by e) c.to_point.ensures.value in
-    let b = c.sees-b.ensures.value ∙ ap (eye_point_by e) c.to_point-2.ensures.value in
-    let d = c.sees-c.ensures.value ∙ ap (eye_point_by e) c.to_point-3.ensures.value in
+    let a = c.sees-a.ensures.value ∙ ap (eye_point_by e) c.of.ensures.value in
+    let b = c.sees-b.ensures.value ∙ ap (eye_point_by e) c.of-2.ensures.value in
+    let d = c.sees-c.ensures.value ∙ ap (eye_point_by e) c.of-3.ensures.value in
     c.clip-first.ensures.parts ∙ (λ i. clipped e.near_plane.w (a i) (b i) (d i))
 
 pub returns-clause-tris : goal.returns-clause-tris

@@ -1,0 +1,107 @@
+// The primitives of faces, without a list of their triangles.
+ghost use Rattle.std.specs.Prelude.{◌≡◌, ◌+◌, ◌≤◌, ◌<◌, ◌++◌, All, length, map, flat_map, None, OnOk, IfOk, IfErr};
+ghost use Rattle.abuf_obj.specs.Sound.{IsFace};
+ghost use Rattle.abuf_scene.specs.Triangles.{fan, triangle, paint_by, triangles_of, Tells};
+ghost use Rattle.abuf_scene.specs.Lookup.{look_up, line_if_none};
+ghost use Rattle.abuf_view.specs.Eye.{clipped_by, shown_by, tris_by, paints_by};
+ghost use Rattle.abuf_view.specs.Runs.{unknown_in};
+
+use crate::palette::Palette;
+use crate::point_table::PointTable;
+use crate::primitive_lists::PrimitiveLists;
+use abuf_num::{NoMemory, Paint};
+use abuf_obj::{Face, Obj};
+use abuf_scene::{SceneFault, fan_triangle};
+use std::alloc::Global;
+
+impl PrimitiveLists {
+    // Puts the primitives of a fan's triangle of the corners 0, i and i + 1 last. Where the table has all three corners, no point is
+    // computed.
+    fn push_fan_triangle(
+        &mut self,
+        table: &PointTable,
+        corners: &[u32],
+        paint: Paint,
+        i: usize,
+    ) -> Result<(), NoMemory>
+        requires place { i + 1 < length corners.now }
+        requires points { All (λ c. c < length table.now.points.now) corners.now }
+        ensures tris { OnOk result
+            (self.new.tris ≡ self.old.tris ++ map (shown_by table.now.eye) (clipped_by table.now.eye (triangle table.now.points.now corners.now paint i))) }
+        ensures paints { OnOk result
+            (self.new.paints ≡ self.old.paints ++ map (λ _. paint) (clipped_by table.now.eye (triangle table.now.points.now corners.now paint i))) }
+    {
+        match table.fan_triangle(corners, i) {
+            Some(triangle) => self.push(triangle, paint),
+            None => self.push_triangle(&table.eye, &fan_triangle(table.points, corners, paint, i)),
+        }
+    }
+
+    // Puts the primitives of a fan last.
+    fn push_fan(
+        &mut self,
+        table: &PointTable,
+        corners: &[u32],
+        paint: Paint,
+    ) -> Result<(), NoMemory>
+        requires three { 3 ≤ length corners.now }
+        requires points { All (λ c. c < length table.now.points.now) corners.now }
+        ensures tris { OnOk result (self.new.tris ≡ self.old.tris ++ tris_by table.now.eye (fan table.now.points.now corners.now paint)) }
+        ensures paints { OnOk result (self.new.paints ≡ self.old.paints ++ paints_by table.now.eye (fan table.now.points.now corners.now paint)) }
+    {
+        for i in 1..corners.len() - 1 {
+            self.push_fan_triangle(table, corners, paint, i)?;
+        }
+        Ok(())
+    }
+
+    // Puts the primitives of a face last, or refuses a name without a material.
+    fn push_face(
+        &mut self,
+        table: &PointTable,
+        obj: &Obj,
+        palette: &Palette,
+        face: &Face,
+    ) -> Result<(), SceneFault>
+        requires points { table.now.points.now ≡ obj.now.points }
+        requires names { palette.now.names.value ≡ obj.now.names }
+        requires face { IsFace (length obj.now.points) (length obj.now.names) face.now }
+        ensures fault { IfErr result (Tells (line_if_none face.now.line (paint_by (look_up palette.now.materials.value) obj.now.names face.now.name))) }
+        ensures known { OnOk result (line_if_none face.now.line (paint_by (look_up palette.now.materials.value) obj.now.names face.now.name) ≡ None) }
+        ensures tris { OnOk result
+            (self.new.tris ≡ self.old.tris ++ tris_by table.now.eye (triangles_of (look_up palette.now.materials.value) obj.now face.now)) }
+        ensures paints { OnOk result
+            (self.new.paints ≡ self.old.paints ++ paints_by table.now.eye (triangles_of (look_up palette.now.materials.value) obj.now face.now)) }
+    {
+        match palette.paint_of(face.name) {
+            None => Err(SceneFault::UnknownMaterial { line: face.line }),
+            Some(paint) => {
+                self.push_fan(table, face.corners.as_slice(), paint)?;
+                Ok(())
+            }
+        }
+    }
+}
+
+// The primitives of a run of the file's faces as the eye of the table sees them, by the paints of the palette.
+pub fn project_run(
+    alloc: Global,
+    table: &PointTable,
+    obj: &Obj,
+    palette: &Palette,
+    faces: &[Face],
+) -> Result<PrimitiveLists, SceneFault>
+    requires points { table.now.points.now ≡ obj.now.points }
+    requires names { palette.now.names.value ≡ obj.now.names }
+    requires faces { All (IsFace (length obj.now.points) (length obj.now.names)) faces.now }
+    ensures fault { IfErr result (Tells (unknown_in (look_up palette.now.materials.value) obj.now.names faces.now)) }
+    ensures known { OnOk result (unknown_in (look_up palette.now.materials.value) obj.now.names faces.now ≡ None) }
+    ensures tris { IfOk result (λ p. p.tris ≡ tris_by table.now.eye (flat_map (triangles_of (look_up palette.now.materials.value) obj.now) faces.now)) }
+    ensures paints { IfOk result (λ p. p.paints ≡ paints_by table.now.eye (flat_map (triangles_of (look_up palette.now.materials.value) obj.now) faces.now)) }
+{
+    let mut made = PrimitiveLists::with_room(alloc, faces.len())?;
+    for face in faces {
+        made.push_face(table, obj, palette, face)?;
+    }
+    Ok(made)
+}
