@@ -9,10 +9,11 @@ Crates that don't stand on each other are proved side by side. The one that the 
 takes half of the processors that are idle, or all if no other crate can begin. A crate that is proved stays so until it or one
 below it changes, also if the run is ended.
 
-Each crate is proved over the statements of those below, which stand in out/proved, as `rt ci` proves it. `rt lib` keeps whole
-proofs, and to read them all takes the upper crates longer than to prove their own.
+Each crate is proved over the statements of those below, as `rt ci` proves it. They stand where `rt` keeps what it builds of a
+crate, in its out/rlib. `rt lib` keeps whole proofs there, and to read them all takes the upper crates longer than to prove their own.
 """
 
+import contextlib
 import fcntl
 import hashlib
 import os
@@ -28,7 +29,6 @@ from abuflib import report
 from abuflib.program import TOP
 from abuflib.report import Fault
 
-PROVED = os.path.join(TOP, "out", "proved")
 PROGRAM = "abuf"
 # Tests, callers, and programs of their own: the program doesn't need them.
 OTHERS = ("abuf_drawing_rows", "abuf_reading_rows", "abuf_refused", "abuf_rows", "abuf_uses", "abuf_watch")
@@ -141,7 +141,9 @@ class Toolchain:
         words = [self.path("bin", "rattle"), "build" if is_library or name == PROGRAM else "check", "--crate-name", name,
                  "src/lib.rt" if is_library else "src/main.rt", "--jobs", str(processors), "--links", f"{name}=",
                  "--antt-project", self.path("rattle", "logic", "antt-project.json"), "--logic-built", self.path("logic_built"),
-                 "-L", f"dependency={self.path('rlibs')}", "-L", f"dependency={PROVED}"]
+                 "-L", f"dependency={self.path('rlibs')}"]
+        for it in sorted(all_below(crates, name)):
+            words += ["-L", f"dependency={kept_folder(it)}"]
         for it in ["std", *crates[name]]:
             words += ["--extern", f"{it}={library(it) if it in crates else self.path('rlibs', it + '.rlib')}"]
         if is_library:
@@ -168,8 +170,12 @@ class Toolchain:
         return found
 
 
+def kept_folder(name: str) -> str:
+    return os.path.join(crate_folder(name), "out", "rlib")
+
+
 def library(name: str) -> str:
-    return os.path.join(PROVED, name + ".rlib")
+    return os.path.join(kept_folder(name), name + ".rlib")
 
 
 # ---- proving
@@ -180,7 +186,8 @@ class Proof:
 
     def __init__(self, toolchain: Toolchain, crates: Crates, name: str, processors: int) -> None:
         self.toolchain, self.name, self.processors, self.began = toolchain, name, processors, time.monotonic()
-        os.makedirs(os.path.join(crate_folder(name), "out"), exist_ok=True)
+        shutil.rmtree(kept_folder(name), ignore_errors=True)
+        os.makedirs(kept_folder(name))
         self.log = tempfile.TemporaryFile("w+", encoding="utf-8", errors="replace")
         self.ran = self.start(toolchain.proves(crates, name, processors))
 
@@ -206,21 +213,23 @@ class Proof:
 
 
 class Kept:
-    """Which crates are proved as they are: by the sum of what each was proved from, which stands beside its statements."""
+    """Which crates are proved as they are: by the sum of what each was proved from, which stands beside its statements. Statements
+    fit only those that they were proved over, so all crates below have to be kept too."""
 
-    def __init__(self, sums: Mapping[str, str]) -> None:
-        self.sums = sums
+    def __init__(self, crates: Crates, sums: Mapping[str, str]) -> None:
+        self.crates, self.sums = crates, sums
 
     def file(self, name: str) -> str:
-        return os.path.join(PROVED, name + ".sum")
+        return os.path.join(kept_folder(name), "sum")
 
     def has(self, name: str) -> bool:
         made = os.path.join(crate_folder(name), "out", name) if name == PROGRAM else self.file(name)
         try:
             with open(self.file(name), encoding="ascii") as file:
-                return file.read() == self.sums[name] and os.path.exists(made)
+                is_same = file.read() == self.sums[name] and os.path.exists(made)
         except FileNotFoundError:
             return False
+        return is_same and all(self.has(it) for it in own_below(self.crates, name))
 
     def add(self, name: str) -> None:
         with open(self.file(name), "w", encoding="ascii") as file:
@@ -249,7 +258,7 @@ class Progress:
 def prove(crates: Crates, left: list[str], processors: int, is_timed: bool) -> int:
     """Proves the crates that are left, and returns the status."""
     toolchain = Toolchain()
-    kept = Kept(toolchain.sums(crates))
+    kept = Kept(crates, toolchain.sums(crates))
     left = [it for it in left if not kept.has(it)]
     lines = {name: count_lines(name) for name in left}
     chain = chains({it: [below for below in crates[it] if below in left] for it in left}, lines)
@@ -281,6 +290,17 @@ def prove(crates: Crates, left: list[str], processors: int, is_timed: bool) -> i
     return report.WELL
 
 
+@contextlib.contextmanager
+def alone(crates: Crates) -> Iterator[None]:
+    """Waits until no other run, of this script or of `rt`, works in the crates' folders, and keeps others out until the end."""
+    with contextlib.ExitStack() as held:
+        for name in sorted(crates):
+            folder = os.open(crate_folder(name), os.O_RDONLY)
+            held.callback(os.close, folder)
+            fcntl.flock(folder, fcntl.LOCK_EX)
+        yield
+
+
 def ended(number: int, _: object) -> None:
     sys.exit(128 + number)
 
@@ -297,10 +317,7 @@ def main() -> int:
         signal.signal(number, ended)
     with open(os.path.join(TOP, "crates.txt"), encoding="utf-8") as file:
         crates = read_crates(file.read())
-    os.makedirs(PROVED, exist_ok=True)
-    # A second run waits here until the first has ended, and then finds its work.
-    with open(os.path.join(PROVED, "lock"), "w", encoding="ascii") as lock:
-        fcntl.flock(lock, fcntl.LOCK_EX)
+    with alone(crates):
         return prove(crates, [it for it in crates if given.all or it not in OTHERS], given.processors, given.times)
 
 

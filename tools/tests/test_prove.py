@@ -91,8 +91,7 @@ echo "told by $crate"
         for name in self.NAMED:
             self.write_source(name, "main.rt" if name == "abuf" else "lib.rt")
         self.log = os.path.join(self.top, "log")
-        for name, value in (("TOP", self.top), ("PROVED", os.path.join(self.top, "out", "proved"))):
-            self.enterContext(mock.patch.object(prove, name, value))
+        self.enterContext(mock.patch.object(prove, "TOP", self.top))
         self.variables = {"PATH": os.path.join(self.kit, "bin") + os.pathsep + os.environ["PATH"], "RATTLE_LOG": self.log}
 
     def write_crates(self, text):
@@ -128,7 +127,7 @@ echo "told by $crate"
         self.prove()
         for name, words in zip(self.asked(), self.calls()):
             given = dict(words[at + 1].split("=") for at, it in enumerate(words) if it == "--extern")
-            wanted = {it: os.path.join(prove.PROVED, it + ".rlib") for it in self.NAMED[name]}
+            wanted = {it: os.path.join(self.top, "crates", it, "out", "rlib", it + ".rlib") for it in self.NAMED[name]}
             wanted |= {it: os.path.join(self.kit, "rlibs", it + ".rlib") for it in ("std", "bstr") if it == "std" or it in wanted}
             self.assertEqual(given, wanted)
             self.assertEqual("--statements" in words, name != "abuf")
@@ -154,6 +153,12 @@ echo "told by $crate"
         helping.write(os.path.join(self.kit, "WHAT"), b"another toolchain\n")
         self.prove()
         self.assertEqual(len(self.asked()), 4)
+
+    def test_all_above_are_proved_anew_where_another_tool_took_the_place_of_statements(self):
+        self.prove()
+        os.remove(os.path.join(self.top, "crates", "raster", "out", "rlib", "sum"))
+        self.prove()
+        self.assertEqual(self.asked(), ["raster", "abuf"])
 
     def test_a_program_that_was_removed_is_built_again(self):
         self.prove()
