@@ -128,6 +128,8 @@ class Maker:
             scene = self.damaged(scene)
         if self.command == b"sequence":
             self.libraries["path"] = self.path(len(scene) < 2000)
+        if self.chance(2) and kind != "heavy":
+            scene = self.stretched(scene)
         for name in sorted(self.libraries):
             if self.chance(12):
                 self.libraries[name] = self.damaged(self.libraries[name])
@@ -135,6 +137,19 @@ class Maker:
         is_short = self.chance(10) and sum(len(word) + 9 for word in words) < 2000
         memory = self.logarithmic(8, 16384) if is_short else None
         return Case(kind, words, place, scene, self.libraries, memory)
+
+    def stretched(self, scene):
+        """The scene with comments between its lines, so many that it is read in pieces."""
+        rng = self.rng
+        lines = scene.split(b"\n")
+        comment = b"#" + b"-" * rng.randint(0, 900) + b"\n"
+        left = rng.randint(270000, 900000) // len(comment)
+        for place in rng.sample(range(len(lines)), min(len(lines), rng.randint(1, 30))):
+            count = rng.randint(left // 4, left)
+            lines[place] = comment * count + lines[place]
+            left -= count
+        lines[0] = comment * left + lines[0]
+        return b"\n".join(lines)
 
     # words
 

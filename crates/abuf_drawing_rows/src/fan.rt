@@ -37,10 +37,12 @@ fn halves() -> Option<[ScreenTri; 2]> {
 fn no_fewer_than_the_fragments(rt: HostRuntime) -> Result<(), Fail> {
     let halves = halves().ok_or("no triangle")?;
     for threads in 1..4 {
-        let most = most_fragments(&rt, &halves, square(), Pattern::One, threads);
+        let most = most_fragments(&rt, &halves, square(), Pattern::One, threads, 1000);
         assert!(rt; 16 <= most && most <= 32, "by {threads} threads");
+        let few = most_fragments(&rt, &halves, square(), Pattern::One, threads, 8);
+        assert!(rt; 8 <= few && few <= most, "by {threads} threads");
     }
-    assert!(rt; most_fragments(&rt, &[], square(), Pattern::Eight, 64) == 0);
+    assert!(rt; most_fragments(&rt, &[], square(), Pattern::Eight, 64, 1000) == 0);
     Ok(())
 }
 

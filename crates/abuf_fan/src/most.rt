@@ -23,15 +23,18 @@ fn most_of(t: &ScreenTri, region: Region, pattern: Pattern) -> u32
     most_hits(t, region, pattern)
 }
 
-/// The sum of what each of the triangles has at most.
-fn sum_of(tris: &[ScreenTri], region: Region, pattern: Pattern) -> u64
+/// The sum of what each of the triangles has at most, up to what is enough.
+fn sum_of(tris: &[ScreenTri], region: Region, pattern: Pattern, enough: u64) -> u64
     requires few { length tris.now ≤ MAX_PRIMITIVES }
-    ensures bound { IsMost tris.now (offsets_of pattern) region result }
+    ensures bound { IsMost tris.now (offsets_of pattern) region enough result }
     ensures small { result ≤ length tris.now * MAX_PIXELS }
 {
     region_law(region);
     let mut sum = 0;
     for t in tris {
+        if enough <= sum {
+            return sum;
+        }
         sum += u64::from(most_of(t, region, pattern));
     }
     sum
@@ -50,21 +53,23 @@ fn is_little(count: usize, region: Region) -> bool
 
 /// At least as many as the triangles have fragments in the region, whatever number the first of them has: the sum of what each
 /// has at most, found on 1 to 64 threads, or on one where that is soon done. A frame of so many nodes loses none, and more nodes
-/// would only take memory, and time to clear them. The call takes no memory.
+/// would only take memory, and time to clear them. Where the sum reaches what is enough, the rest isn't asked: no caller needs a
+/// bound above the nodes that its pool may have. The call takes no memory.
 pub fn most_fragments<R: Threads + Sync>(
     rt: &R,
     tris: &[ScreenTri],
     region: Region,
     pattern: Pattern,
     threads: u32,
+    enough: u64,
 ) -> u64
     requires few { length tris.now ≤ MAX_PRIMITIVES }
     requires threads { (1 ≤ threads) × (threads ≤ MAX_THREADS) }
-    ensures bound { IsMost tris.now (offsets_of pattern) region result }
+    ensures bound { IsMost tris.now (offsets_of pattern) region enough result }
     ensures small { result ≤ length tris.now * MAX_PIXELS }
 {
     if threads == 1 || is_little(tris.len(), region) {
-        return sum_of(tris, region, pattern);
+        return sum_of(tris, region, pattern, enough);
     }
     let left = threads / 2;
     let right = threads - left;
@@ -75,12 +80,12 @@ pub fn most_fragments<R: Threads + Sync>(
         rt,
         move || -> u64
             requires { IsSync R.row × CanCount front.now left }
-            ensures { IsMost front.entry.now (offsets_of pattern) shared.entry.now result × (result ≤ length front.entry.now * MAX_PIXELS) }
-        { most_fragments(rt, front, *shared, pattern, left) },
+            ensures { IsMost front.entry.now (offsets_of pattern) shared.entry.now enough result × (result ≤ length front.entry.now * MAX_PIXELS) }
+        { most_fragments(rt, front, *shared, pattern, left, enough) },
         move || -> u64
             requires { IsSync R.row × CanCount back.now right }
-            ensures { IsMost back.entry.now (offsets_of pattern) shared.entry.now result × (result ≤ length back.entry.now * MAX_PIXELS) }
-        { most_fragments(rt, back, *shared, pattern, right) },
+            ensures { IsMost back.entry.now (offsets_of pattern) shared.entry.now enough result × (result ≤ length back.entry.now * MAX_PIXELS) }
+        { most_fragments(rt, back, *shared, pattern, right, enough) },
     );
     before + after
 }

@@ -3,3 +3,7 @@ pub mod Leading
 pub mod Joining
 pub mod Late
 pub mod Reading
+pub mod Splitting
+pub mod PieceReading
+pub mod Tallies
+pub mod Rows

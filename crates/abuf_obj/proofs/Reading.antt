@@ -30,13 +30,13 @@ pub record HasRead (before after all : List (List ℕ)) (number : ℕ) (r : Read
   pub faces : r.faces ++ map clamped_face (faces_from before after) ≡ map clamped_face (faces_from [] all)
 
 module _ (before : List (List ℕ)) (line : List ℕ) where
-  materials_on-more : materials_on (before ++ line ∷ []) ≡ materials_on before ++ materials_by (keyword_of (statement line)) (rest line)
+  pub materials_on-more : materials_on (before ++ line ∷ []) ≡ materials_on before ++ materials_by (keyword_of (statement line)) (rest line)
   materials_on-more = flat_map-append _ before (line ∷ []) ∙ ap (λ (ns : List (List ℕ)). materials_on before ++ ns) (append-nil (materials_by (keyword_of (statement line)) (rest line)))
 
   libraries_on-more : libraries_on (before ++ line ∷ []) ≡ libraries_on before ++ libraries_by (keyword_of (statement line)) (rest line)
   libraries_on-more = flat_map-append _ before (line ∷ []) ∙ ap (λ (ns : List (List ℕ)). libraries_on before ++ ns) (append-nil (libraries_by (keyword_of (statement line)) (rest line)))
 
-abbrev named_by : List (List ℕ) → Option ℕ
+abbrev pub named_by : List (List ℕ) → Option ℕ
 named_by ms = option_and_then (λ text. place_of text (with_names [] ms)) (last_of ms)
 
 name_of-last : (ms : List (List ℕ)) (text : List ℕ) → named_by (ms ++ text ∷ []) ≡ place_of text (with_names (with_names [] ms) (text ∷ []))
@@ -52,11 +52,11 @@ name_of-more before keyword.Library text = ap named_by (append-nil (materials_on
 name_of-more before keyword.Passed text = ap named_by (append-nil (materials_on before))
 name_of-more before keyword.Refused text = ap named_by (append-nil (materials_on before))
 
-above_same : (a b : Above) → a.points ≡ b.points → a.triangles ≡ b.triangles → a.names ≡ b.names → a.libraries ≡ b.libraries → a.name ≡ b.name → a ≡ b
+pub above_same : (a b : Above) → a.points ≡ b.points → a.triangles ≡ b.triangles → a.names ≡ b.names → a.libraries ≡ b.libraries → a.name ≡ b.name → a ≡ b
 above_same a b p t n l m = λ i. record { points = p i; triangles = t i; names = n i; libraries = l i; name = m i }
 
 -- what is counted behind one line more
-above_of-more : (before : List (List ℕ)) (line : List ℕ) → above_of (before ++ line ∷ []) ≡ with_line (keyword_of (statement line)) (arguments line) (rest line) (above_of before)
+pub above_of-more : (before : List (List ℕ)) (line : List ℕ) → above_of (before ++ line ∷ []) ≡ with_line (keyword_of (statement line)) (arguments line) (rest line) (above_of before)
 above_of-more before line =
     above_same _ _
     (fold-append _ 0 before (line ∷ []))

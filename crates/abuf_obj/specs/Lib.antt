@@ -7,5 +7,7 @@ pub mod Scene
 pub mod Places
 pub mod Sound
 pub mod Taking
+pub mod Pieces
 pub mod LeadingElement
 pub mod Corners
+pub mod FaceRows

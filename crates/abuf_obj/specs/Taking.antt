@@ -14,7 +14,7 @@ use Rattle.abuf_obj.specs.declared.reader.Reader.{Reader}
 
 -- what has been counted
 abbrev pub counted : Reader → Above
-counted r = record { points = length r.points; triangles = r.triangles; names = r.names; libraries = r.libraries; name = r.name }
+counted r = record { points = r.points_above + length r.points; triangles = r.triangles; names = r.names; libraries = r.libraries; name = r.name }
 
 -- the name that is in use behind a line
 abbrev pub name_by : Keyword → List ℕ → Above → Option ℕ

@@ -10,7 +10,7 @@ ghost use Rattle.abuf_obj.specs.Sound.{IsScene};
 use crate::face::Face;
 use crate::fault::{ObjFault, Why};
 use crate::reader::Reader;
-use abuf_num::List;
+use abuf_num::{List, NoMemory};
 use abuf_text::{Lines, Names};
 use std::alloc::Global;
 
@@ -36,14 +36,14 @@ fn read_lines(alloc: Global, bytes: &[u8]) -> Result<Reader, ObjFault>
     ensures names { IfOk result (λ r. r.names ≡ names_of (lines bytes.now)) }
     ensures libraries { IfOk result (λ r. r.libraries ≡ libraries_of (lines bytes.now)) }
 {
-    let mut reader = Reader {
-        points: List::new(alloc),
-        faces: List::new(alloc),
-        names: Names::new(alloc),
-        libraries: Names::new(alloc),
-        triangles: 0,
-        name: None,
-    };
+    let mut reader = Reader::beginning(
+        alloc,
+        bytes.len(),
+        0,
+        Names::new(alloc),
+        Names::new(alloc),
+        None,
+    )?;
     let mut number = 0;
     for line in Lines::new(bytes) {
         number += 1;
@@ -66,22 +66,22 @@ pub fn read_obj(alloc: Global, bytes: &[u8]) -> Result<Obj, ObjFault>
     ensures scene { IfOk result IsScene }
 {
     let reader = read_lines(alloc, bytes)?;
-    match first_astray(&reader) {
+    let obj = finish(alloc, reader)?;
+    match first_astray(&obj) {
         Some(line) => Err(ObjFault::Line {
             line,
             why: Why::BadIndex,
         }),
-        None => Ok(finish(reader)),
+        None => Ok(obj),
     }
 }
 
 // The line of the first face with a place at or beyond the number of points.
-fn first_astray(reader: &Reader) -> Option<u32>
-    ensures { result ≡ astray_line (length reader.now.points) reader.now.faces }
+pub fn first_astray(obj: &Obj) -> Option<u32>
+    ensures { result ≡ astray_line (length obj.now.points) obj.now.faces }
 {
-    let points = reader.points.as_slice().len();
-    reader
-        .faces
+    let points = obj.points.as_slice().len();
+    obj.faces
         .as_slice()
         .iter()
         .find(|face| goes_astray(points, face))
@@ -97,16 +97,16 @@ fn goes_astray(points: usize, face: &Face) -> bool
         .any(|corner| points <= *corner as usize)
 }
 
-// The scene that was read, in which no face goes astray.
-fn finish(reader: Reader) -> Obj
-    requires { astray_line (length reader.points) reader.faces ≡ None }
-    ensures points { result.points ≡ reader.points }
-    ensures faces { result.faces ≡ reader.faces }
-    ensures names { result.names ≡ reader.names }
-    ensures libraries { result.libraries ≡ reader.libraries }
-    ensures scene { IsScene result }
+// What was read. It is a scene if no face goes astray.
+pub fn finish(alloc: Global, reader: Reader) -> Result<Obj, NoMemory>
+    ensures points { IfOk result (λ obj. obj.points ≡ reader.points) }
+    ensures faces { IfOk result (λ obj. obj.faces ≡ reader.faces) }
+    ensures names { IfOk result (λ obj. obj.names ≡ reader.names) }
+    ensures libraries { IfOk result (λ obj. obj.libraries ≡ reader.libraries) }
+    ensures scene { IfOk result (λ obj. astray_line (length obj.points) obj.faces ≡ None → IsScene obj) }
 {
     let Reader {
+        points_above: _,
         points,
         faces,
         names,
@@ -114,10 +114,11 @@ fn finish(reader: Reader) -> Obj
         triangles: _,
         name: _,
     } = reader;
-    Obj {
+    let faces = faces.into_list(alloc)?;
+    Ok(Obj {
         points,
         faces,
         names: names.into_list(),
         libraries: libraries.into_list(),
-    }
+    })
 }

@@ -37,6 +37,7 @@ pub(crate) fn room_for<R: Threads + Sync>(rt: &R, primitives: &Primitives, targe
         target.region,
         target.pattern,
         target.threads,
+        u64::from(target.nodes),
     );
     nodes_for(most, target.nodes)
 }

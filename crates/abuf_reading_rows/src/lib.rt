@@ -14,6 +14,8 @@ mod num;
 #[cfg(test)]
 mod obj;
 #[cfg(test)]
+mod obj_threads;
+#[cfg(test)]
 mod pam;
 #[cfg(test)]
 mod refusals;

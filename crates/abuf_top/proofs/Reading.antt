@@ -65,6 +65,16 @@ module _ (f : Result (List Triangle) Refusal → Result Task Refusal) where
   gives_all (Some line) rose loaded r h made =
       subst (λ (l : Result (List Triangle) Refusal). Gives (f l) rose r) (sym h.2) (gives_weaker (f (material_verdict loaded.obj h.0)) ⊥ rose r (λ e. absurd e) (made h.0 h.1))
 
+  -- What stops the loading stops the run, where a refusal of the scene is one of the task.
+  stops_all : ((r : Refusal) → f (Err r) ≡ Err r) → (line : Option (Result (List Triangle) Refusal)) (rose : Type 0) (s : Stop)
+      → IfSome line (λ l. Loads l rose (Err s)) → IfSome (option_map f line) (λ l. Gives l rose (Err s))
+  stops_all keeps None rose s h = tt
+  stops_all keeps (Some line) rose (stop.Refused q) h = subst (λ (l : Result (List Triangle) Refusal). f l ≡ Err q) (sym h) (keeps q)
+  stops_all keeps (Some line) rose (stop.PoolFull pool) h = h
+  stops_all keeps (Some line) rose stop.ReadFault h = h
+  stops_all keeps (Some line) rose stop.WriteFault h = h
+  stops_all keeps (Some line) rose stop.Memory h = h
+
   module _ (job : Job) (verdict : Option (List ℕ) → Option Holdings → Option (Result (List Triangle) Refusal)) (demand : Option (List ℕ) → Option Holdings → Demand)
       (from : SourceChange) (by : ShelfChange) where
     abbrev By : Result Task Stop → Type 0
@@ -83,6 +93,15 @@ module _ (f : Result (List Triangle) Refusal → Result Task Refusal) where
       as_told = gives_all (verdict from.left_old (told by)) (ReadFailed from by) loaded (Err s) h.as_told told_of;
       cause = cause_weaker job ⊥ (ReadFailed from by) s (λ e. absurd e) cause;
       path = λ p. absurd (not_by_path ⊥ s cause p);
+      words_own = tt;
+      calls = h.calls;
+    }
+
+    pub unmade : ((r : Refusal) → f (Err r) ≡ Err r) → (s : Stop) → LoadsBy verdict demand from by (Err s) → By (Err s)
+    unmade keeps s h = record {
+      as_told = stops_all keeps (verdict from.left_old (told by)) (ReadFailed from by) s h.as_told;
+      cause = cause_weaker job (ReadFailed from by) (ReadFailed from by) s (λ e. e) h.cause;
+      path = λ p. absurd (not_by_path (ReadFailed from by) s h.cause p);
       words_own = tt;
       calls = h.calls;
     }

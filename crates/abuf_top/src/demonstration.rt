@@ -1,5 +1,6 @@
 // The demonstration scene, in the place of the source and the shelf.
 ghost use Rattle.std.specs.Prelude.{◌≡◌, ◌≤◌, ◌∷◌, [], IfOk, IfErr, IfSome, Some, codes};
+ghost use Rattle.abuf_num.specs.declared.limits.TheConstants.{MAX_THREADS};
 ghost use Rattle.abuf_obj.specs.Sound.{IsScene};
 ghost use Rattle.abuf_io.specs.Memory.{steady_pairs};
 ghost use Rattle.abuf_scene.specs.Demo.{obj};
@@ -15,6 +16,7 @@ use abuf_io::SteadyShelf;
 use abuf_num::{List, NoMemory};
 use abuf_scene::make;
 use std::alloc::Global;
+use std::thread::Threads;
 
 // A shelf of one library, under the name that the scene has for it.
 fn library_shelf(alloc: Global, library: List<u8>) -> Result<SteadyShelf, NoMemory>
@@ -26,9 +28,15 @@ fn library_shelf(alloc: Global, library: List<u8>) -> Result<SteadyShelf, NoMemo
     Ok(SteadyShelf::new(pairs))
 }
 
-/// The demonstration scene of so many triangles.
-pub fn demonstrate(alloc: Global, number: u32) -> Result<Loaded, Stop>
-    requires { (1 ≤ number) × (number ≤ 200000) }
+/// The demonstration scene of so many triangles, read on so many threads.
+pub fn demonstrate<R: Threads + Sync>(
+    rt: &R,
+    alloc: Global,
+    number: u32,
+    threads: u32,
+) -> Result<Loaded, Stop>
+    requires number { (1 ≤ number) × (number ≤ 200000) }
+    requires threads { (1 ≤ threads) × (threads ≤ MAX_THREADS) }
     ensures told { IfSome (scene_verdict (Some demo_shelf) (obj number)) (λ verdict. Loads verdict ⊥ result) }
     ensures cause { IfErr result (HasReadCause ⊥) }
     ensures scene { IfOk result (λ loaded. IsScene loaded.obj) }
@@ -39,5 +47,5 @@ pub fn demonstrate(alloc: Global, number: u32) -> Result<Loaded, Stop>
     let Ok(mut shelf) = library_shelf(alloc, made.library) else {
         return Err(Stop::Memory);
     };
-    read_text(alloc, made.obj, &mut shelf)
+    read_text(rt, alloc, made.obj, &mut shelf, threads)
 }

@@ -1,6 +1,6 @@
 // The work before the projection: the words, the scene, its libraries and their materials.
 ghost use Rattle.std.specs.Prelude.{◌≡◌, ◌⊎◌, ◌≤◌, ◌+◌, [], List as Items, ℕ, length, true, IfOk, IfErr, IfSome, None, OnOk, option_and_then};
-ghost use Rattle.abuf_num.specs.declared.limits.TheConstants.{MAX_BYTES};
+ghost use Rattle.abuf_num.specs.declared.limits.TheConstants.{MAX_BYTES, MAX_THREADS};
 ghost use Rattle.abuf_io.specs.Causes.{Rose};
 ghost use Rattle.abuf_cli.specs.declared.job.What.TheVariants.{Demo};
 ghost use Rattle.abuf_obj.specs.Sound.{IsScene};
@@ -22,9 +22,10 @@ use abuf_cli::{What, WordFault};
 use abuf_io::{ReadEnd, Shelf, Source, read_all};
 use abuf_num::List;
 use abuf_num::limits::MAX_BYTES;
-use abuf_obj::{Obj, ObjFault, read_obj};
+use abuf_obj::{Obj, ObjFault, read_obj_on_threads};
 use abuf_scene::SceneFault;
 use std::alloc::Global;
+use std::thread::Threads;
 
 impl From<ReadEnd> for Stop {
     ghost use Rattle.abuf_top.specs.Ends.{read_stop};
@@ -97,8 +98,14 @@ fn furnish<H: Shelf>(alloc: Global, obj: Obj, shelf: &mut H) -> Result<Loaded, S
 }
 
 // The scene that these bytes define. They are freed once they are read.
-fn read_list(alloc: Global, bytes: List<u8>) -> Result<Obj, ObjFault>
-    requires { length bytes ≤ MAX_BYTES }
+fn read_list<R: Threads + Sync>(
+    rt: &R,
+    alloc: Global,
+    bytes: List<u8>,
+    threads: u32,
+) -> Result<Obj, ObjFault>
+    requires few { length bytes ≤ MAX_BYTES }
+    requires threads { (1 ≤ threads) × (threads ≤ MAX_THREADS) }
     ensures fault { IfErr result (TellsFirst (obj_fault bytes)) }
     ensures sound { OnOk result (obj_fault bytes ≡ None) }
     ensures points { IfOk result (λ obj. obj.points ≡ points bytes) }
@@ -107,12 +114,19 @@ fn read_list(alloc: Global, bytes: List<u8>) -> Result<Obj, ObjFault>
     ensures libraries { IfOk result (λ obj. obj.libraries ≡ libraries bytes) }
     ensures scene { IfOk result IsScene }
 {
-    read_obj(alloc, bytes.as_slice())
+    read_obj_on_threads(rt, alloc, bytes.as_slice(), threads)
 }
 
 // The scene that these bytes define, and its libraries.
-fn read_bytes<H: Shelf>(alloc: Global, bytes: List<u8>, shelf: &mut H) -> Result<Loaded, Stop>
-    requires { length bytes ≤ MAX_BYTES }
+fn read_bytes<R: Threads + Sync, H: Shelf>(
+    rt: &R,
+    alloc: Global,
+    bytes: List<u8>,
+    shelf: &mut H,
+    threads: u32,
+) -> Result<Loaded, Stop>
+    requires few { length bytes ≤ MAX_BYTES }
+    requires threads { (1 ≤ threads) × (threads ≤ MAX_THREADS) }
     ensures told { AnswersAsHeld (λ held. fault_verdict (scene_of bytes) held (obj_fault bytes)) (λ verdict rose. Loads verdict rose result)
         (shelf_change H.tells H.holds H.calls H.faults shelf.old shelf.new) }
     ensures cause { IfErr result (HasReadCause (Rose (H.faults shelf.old) (H.faults shelf.new))) }
@@ -122,12 +136,19 @@ fn read_bytes<H: Shelf>(alloc: Global, bytes: List<u8>, shelf: &mut H) -> Result
     ensures most { H.calls shelf.new ≤ H.calls shelf.old + length (libraries bytes) }
     ensures later { H.faults shelf.old ≤ H.faults shelf.new }
 {
-    let obj = read_list(alloc, bytes)?;
+    let obj = read_list(rt, alloc, bytes, threads)?;
     furnish(alloc, obj, shelf)
 }
 
-/// The scene that these bytes define, unless they are too many, and its libraries.
-pub fn read_text<H: Shelf>(alloc: Global, bytes: List<u8>, shelf: &mut H) -> Result<Loaded, Stop>
+/// The scene that these bytes define, unless they are too many, and its libraries, read on so many threads.
+pub fn read_text<R: Threads + Sync, H: Shelf>(
+    rt: &R,
+    alloc: Global,
+    bytes: List<u8>,
+    shelf: &mut H,
+    threads: u32,
+) -> Result<Loaded, Stop>
+    requires threads { (1 ≤ threads) × (threads ≤ MAX_THREADS) }
     ensures told { AnswersAsHeld (λ held. scene_verdict held bytes) (λ verdict rose. Loads verdict rose result)
         (shelf_change H.tells H.holds H.calls H.faults shelf.old shelf.new) }
     ensures cause { IfErr result (HasReadCause (Rose (H.faults shelf.old) (H.faults shelf.new))) }
@@ -136,37 +157,43 @@ pub fn read_text<H: Shelf>(alloc: Global, bytes: List<u8>, shelf: &mut H) -> Res
     if bytes.as_slice().len() as u64 > MAX_BYTES {
         return Err(Stop::Refused(Refusal::SceneTooLong));
     }
-    read_bytes(alloc, bytes, shelf)
+    read_bytes(rt, alloc, bytes, shelf, threads)
 }
 
-/// The scene that the source has left, and its libraries.
+/// The scene that the source has left, and its libraries, read on so many threads.
 #[tactic(auto, using(crate::proofs::Taking::takes))]
-pub fn read_scene<S: Source, H: Shelf>(
+pub fn read_scene<R: Threads + Sync, S: Source, H: Shelf>(
+    rt: &R,
     alloc: Global,
     scene: &mut S,
     shelf: &mut H,
+    threads: u32,
 ) -> Result<Loaded, Stop>
+    requires threads { (1 ≤ threads) × (threads ≤ MAX_THREADS) }
     ensures { LoadsBy scene_read scene_demand (source_change S.left S.faults scene.old scene.new)
         (shelf_change H.tells H.holds H.calls H.faults shelf.old shelf.new) result }
 {
     let bytes = read_all(alloc, scene, MAX_BYTES)?;
-    read_bytes(alloc, bytes, shelf)
+    read_bytes(rt, alloc, bytes, shelf, threads)
 }
 
-/// The scene of a drawing, and its libraries: `demo` has its own, and calls neither the source nor the shelf.
+/// The scene of a drawing, and its libraries, read on so many threads: `demo` has its own, and calls neither the source nor the shelf.
 #[tactic(auto, using(crate::proofs::Taking::takes_none))]
-pub fn load<S: Source, H: Shelf>(
+pub fn load<R: Threads + Sync, S: Source, H: Shelf>(
+    rt: &R,
     alloc: Global,
     what: What,
     scene: &mut S,
     shelf: &mut H,
+    threads: u32,
 ) -> Result<Loaded, Stop>
-    requires { (number : ℕ) → what ≡ Demo number → (1 ≤ number) × (number ≤ 200000) }
+    requires number { (number : ℕ) → what ≡ Demo number → (1 ≤ number) × (number ≤ 200000) }
+    requires threads { (1 ≤ threads) × (threads ≤ MAX_THREADS) }
     ensures { LoadsBy (loaded what) (load_demand what) (source_change S.left S.faults scene.old scene.new)
         (shelf_change H.tells H.holds H.calls H.faults shelf.old shelf.new) result }
 {
     match what {
-        What::Render | What::Pick { .. } => read_scene(alloc, scene, shelf),
-        What::Demo { number } => demonstrate(alloc, number),
+        What::Render | What::Pick { .. } => read_scene(rt, alloc, scene, shelf, threads),
+        What::Demo { number } => demonstrate(rt, alloc, number, threads),
     }
 }

@@ -30,10 +30,12 @@ fn task_of<R: Threads + Sync, S: Source, H: Shelf>(
     match job.command() {
         Command::Draw(what) => {
             let what = *what;
-            let loaded = load(alloc, what, scene, shelf)?;
+            let loaded = load(rt, alloc, what, scene, shelf, job.threads())?;
             loaded.drawing(rt, alloc, job, what)
         }
-        Command::Sequence { name } => prepare_images(alloc, &job, name.as_slice(), scene, shelf),
+        Command::Sequence { name } => {
+            prepare_images(rt, alloc, &job, name.as_slice(), scene, shelf)
+        },
     }
 }
 

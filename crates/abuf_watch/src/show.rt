@@ -91,7 +91,14 @@ pub fn show<R: Threads + Sync>(
     let primitives = Primitives::of(shown);
     let pattern = job.pattern();
     let threads = drawers(job.threads());
-    let most = most_fragments(rt, primitives.triangles, region, pattern, threads);
+    let most = most_fragments(
+        rt,
+        primitives.triangles,
+        region,
+        pattern,
+        threads,
+        u64::from(job.nodes()),
+    );
     let places = grid(alloc, region)?;
     let drawing = Watch {
         primitives,

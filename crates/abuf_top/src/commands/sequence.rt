@@ -160,7 +160,8 @@ fn images_of(alloc: Global, job: &Job, shots: List<Shot>, loaded: Loaded) -> Res
 }
 
 // The images of these shots of the scene that the source has left.
-fn read_images<S: Source, H: Shelf>(
+fn read_images<R: Threads + Sync, S: Source, H: Shelf>(
+    rt: &R,
     alloc: Global,
     job: &Job,
     shots: List<Shot>,
@@ -173,13 +174,14 @@ fn read_images<S: Source, H: Shelf>(
     ensures { PreparesBy (λ left held. option_map (images_verdict job.now shots) (scene_read left held)) scene_demand (Ok job.now)
         (source_change S.left S.faults scene.old scene.new) (shelf_change H.tells H.holds H.calls H.faults shelf.old shelf.new) result }
 {
-    let loaded = read_scene(alloc, scene, shelf)?;
+    let loaded = read_scene(rt, alloc, scene, shelf, job.threads())?;
     images_of(alloc, job, shots, loaded)
 }
 
 /// The images of a job's path. The path comes first: where it is refused, the scene isn't read. The scene and its libraries
 /// are read and refused by also where the path has no shots.
-pub fn prepare_images<S: Source, H: Shelf>(
+pub fn prepare_images<R: Threads + Sync, S: Source, H: Shelf>(
+    rt: &R,
     alloc: Global,
     job: &Job,
     name: &[u8],
@@ -191,7 +193,7 @@ pub fn prepare_images<S: Source, H: Shelf>(
         (source_change S.left S.faults scene.old scene.new) (shelf_change H.tells H.holds H.calls H.faults shelf.old shelf.new) result }
 {
     let shots = fetch_path(alloc, shelf, name)?;
-    read_images(alloc, job, shots, scene, shelf)
+    read_images(rt, alloc, job, shots, scene, shelf)
 }
 
 /// Writes the images, up to the first that is full.

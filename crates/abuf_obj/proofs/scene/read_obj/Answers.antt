@@ -1,4 +1,4 @@
-use Rattle.std.proofs.Common.{◌∙◌, ap, sym, None}
+use Rattle.std.proofs.Common.{◌∙◌, length, ap, sym, None, arith}
 use Rattle.std.proofs.lemmas.Result.{err_from_is_err_and}
 use Rattle.abuf_text.specs.Lines.{lines}
 use Rattle.abuf_obj.specs.Scene.{points, faces, names, libraries, obj_fault, or_astray}
@@ -17,7 +17,10 @@ returns-in-Some-clause-fault c =
     let all = lines c.args.bytes.now in
     let r = c.in_ok-reader.reader in
     let read = c.in_ok-reader.ensures in
-    first_late all c.first_astray.result read.sound (found_of_all all r.points r.faces r.few_points read.points read.faces c.first_astray.result c.first_astray.ensures)
+    let o = c.in_ok-obj.obj in
+    let made = c.in_ok-obj.ensures in
+    first_late all c.first_astray.result read.sound
+    (found_of_all all o.points o.faces (omega (arith, r.few_points, ap length made.points)) (made.points ∙ read.points) (made.faces ∙ read.faces) c.first_astray.result c.first_astray.ensures)
     ∙ ap (or_astray None) c.in-Some.is
 
 pub returns-in-None-clause-sound : goal.returns-in-None-clause-sound
@@ -26,12 +29,15 @@ returns-in-None-clause-sound c =
     let all = lines c.args.bytes.now in
     let r = c.in_ok-reader.reader in
     let read = c.in_ok-reader.ensures in
-    first_late all c.first_astray.result read.sound (found_of_all all r.points r.faces r.few_points read.points read.faces c.first_astray.result c.first_astray.ensures)
+    let o = c.in_ok-obj.obj in
+    let made = c.in_ok-obj.ensures in
+    first_late all c.first_astray.result read.sound
+    (found_of_all all o.points o.faces (omega (arith, r.few_points, ap length made.points)) (made.points ∙ read.points) (made.faces ∙ read.faces) c.first_astray.result c.first_astray.ensures)
     ∙ ap (or_astray None) c.in-None.is
 
 pub returns-in-None-clause-points : goal.returns-in-None-clause-points
 unfolding points
-returns-in-None-clause-points c = c.finish.ensures.points ∙ c.in_ok-reader.ensures.points
+returns-in-None-clause-points c = c.in_ok-obj.ensures.points ∙ c.in_ok-reader.ensures.points
 
 pub returns-in-None-clause-faces : goal.returns-in-None-clause-faces
 unfolding faces
@@ -39,12 +45,17 @@ returns-in-None-clause-faces c =
     let all = lines c.args.bytes.now in
     let r = c.in_ok-reader.reader in
     let read = c.in_ok-reader.ensures in
-    c.finish.ensures.faces ∙ faces_of_all all r.points r.faces r.few_points read.points read.faces (sym c.first_astray.ensures ∙ c.in-None.is)
+    let o = c.in_ok-obj.obj in
+    let made = c.in_ok-obj.ensures in
+    faces_of_all all o.points o.faces (omega (arith, r.few_points, ap length made.points)) (made.points ∙ read.points) (made.faces ∙ read.faces) (sym c.first_astray.ensures ∙ c.in-None.is)
 
 pub returns-in-None-clause-names : goal.returns-in-None-clause-names
 unfolding names
-returns-in-None-clause-names c = c.finish.ensures.names ∙ c.in_ok-reader.ensures.names
+returns-in-None-clause-names c = c.in_ok-obj.ensures.names ∙ c.in_ok-reader.ensures.names
 
 pub returns-in-None-clause-libraries : goal.returns-in-None-clause-libraries
 unfolding libraries
-returns-in-None-clause-libraries c = c.finish.ensures.libraries ∙ c.in_ok-reader.ensures.libraries
+returns-in-None-clause-libraries c = c.in_ok-obj.ensures.libraries ∙ c.in_ok-reader.ensures.libraries
+
+pub returns-in-None-clause-scene : goal.returns-in-None-clause-scene
+returns-in-None-clause-scene c = c.in_ok-obj.ensures.scene (sym c.first_astray.ensures ∙ c.in-None.is)

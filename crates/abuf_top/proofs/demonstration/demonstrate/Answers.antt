@@ -10,7 +10,7 @@ use Rattle.abuf_top.proofs.Telling.{told-weaker, still}
 use Rattle.abuf_top.proofs.demonstration.demonstrate.Goals as goal
 
 pub returns-clause-told : goal.returns-clause-told
-returns-clause-told c =
+returns-clause-told g c =
     let pairs : steady_pairs c.in-Ok-library_shelf.shelf ≡ (codes "demo.mtl", library) ∷ [] = c.in-Ok-library_shelf.ensures ∙ ap (λ (l : List ℕ). (codes "demo.mtl", l) ∷ []) c.in-Ok.ensures.library in
     told-weaker (scene_verdict (Some demo_shelf) (obj c.args.number)) (Rose 0 0) ⊥ c.read_text.result still
     (subst (λ (ps : List (List ℕ × List ℕ)). IfSome (scene_verdict (Some (held ps)) (obj c.args.number)) (λ line. Loads line (Rose 0 0) c.read_text.result)) pairs

@@ -1,0 +1,121 @@
+// The faces of a file while it is read.
+ghost use Rattle.std.specs.Prelude.{◌≡◌, ◌≤◌, ◌++◌, ◌∷◌, [], length, IfOk, OnErr, OnOk};
+ghost use Rattle.abuf_num.specs.declared.limits.TheConstants.{MAX_ELEMENTS, MAX_TRIANGLES};
+ghost use Rattle.abuf_obj.specs.FaceRows.{corners_in, faces_in_rows};
+
+use crate::face::Face;
+use abuf_num::{List, NoMemory};
+use std::alloc::Global;
+use std::marker::Model;
+
+/// A face but for its corners, of which there are so many.
+#[derive(Clone, Copy)]
+pub struct Row {
+    line: u32,
+    count: u32,
+    name: Option<u32>,
+}
+
+/// Faces, with the corners of all of them in one list. A list of its own for each would be taken from memory that threads share, and
+/// they would wait for one another. Clauses see the list of the faces.
+#[derive(Drop)]
+pub struct Faces {
+    corners: Vec<u32>,
+    rows: Vec<Row>,
+}
+
+impl Model for Faces {
+    ghost use Rattle.std.specs.Prelude.{◌≡◌, List as Items, length};
+    ghost use Rattle.abuf_obj.specs.declared.face.Face.{Face};
+    ghost use Rattle.abuf_obj.specs.FaceRows.{corners_in, faces_in_rows};
+
+    ghost Value = { Items Face };
+
+    ghost view = { λ f. faces_in_rows f.corners.items f.rows.items };
+
+    ghost invariant = { λ f. corners_in f.rows.items ≡ length f.corners.items };
+}
+
+// The faces of these rows, each with a list of its corners.
+fn faces_of(alloc: Global, corners: &[u32], rows: &[Row]) -> Result<Vec<Face>, NoMemory>
+    requires { corners_in rows.now ≡ length corners.now }
+    ensures { IfOk result (λ faces. faces.items ≡ faces_in_rows corners.now rows.now) }
+{
+    let mut faces = Vec::with_capacity(alloc, rows.len())?;
+    let mut rest = corners;
+    for row in rows {
+        let (own, later) = rest.split_at(row.count as usize);
+        let corners = List::from_vec(own.to_vec(alloc)?);
+        faces.push(Face {
+            line: row.line,
+            corners,
+            name: row.name,
+        })?;
+        rest = later;
+    }
+    Ok(faces)
+}
+
+impl Faces {
+    /// No faces, with room for so many of three corners.
+    pub fn with_room(alloc: Global, faces: usize) -> Result<Faces, NoMemory>
+        requires { faces ≤ MAX_TRIANGLES }
+        ensures { IfOk result (λ f. f ≡ []) }
+    {
+        Ok(Faces {
+            corners: Vec::with_capacity(alloc, 3 * faces)?,
+            rows: Vec::with_capacity(alloc, faces)?,
+        })
+    }
+
+    /// Puts a face last.
+    pub fn push(&mut self, line: u32, corners: &[u32], name: Option<u32>) -> Result<(), NoMemory>
+        requires { length corners.now ≤ MAX_ELEMENTS }
+        ensures ok { OnOk result (self.new ≡ self.old ++ record { line = line; corners = corners.now; name = name } ∷ []) }
+        ensures err { OnErr result (self.new ≡ self.old) }
+    {
+        let before = self.corners.len();
+        self.corners.extend_from_slice(corners)?;
+        let row = Row {
+            line,
+            count: corners.len() as u32,
+            name,
+        };
+        match self.rows.push(row) {
+            Ok(()) => Ok(()),
+            Err(_) => {
+                self.corners.truncate(before);
+                Err(NoMemory)
+            }
+        }
+    }
+
+    /// The faces of the first, and then those of the second. Most files have their points before their faces, so that there are often
+    /// none in the first.
+    pub fn joined(first: Faces, second: Faces) -> Result<Faces, NoMemory>
+        ensures { IfOk result (λ all. all ≡ first ++ second) }
+    {
+        if first.rows.is_empty() {
+            return Ok(second);
+        }
+        let Faces {
+            mut corners,
+            mut rows,
+        } = first;
+        let Faces {
+            corners: mut more_corners,
+            rows: mut more_rows,
+        } = second;
+        corners.append(&mut more_corners)?;
+        rows.append(&mut more_rows)?;
+        Ok(Faces { corners, rows })
+    }
+
+    /// The faces, each with a list of its corners.
+    pub fn into_list(self, alloc: Global) -> Result<List<Face>, NoMemory>
+        ensures { IfOk result (λ faces. faces ≡ self) }
+    {
+        let faces = faces_of(alloc, &self.corners, &self.rows)?;
+        Ok(List::from_vec(faces))
+    }
+}
