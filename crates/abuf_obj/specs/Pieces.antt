@@ -1,5 +1,5 @@
 -- What a piece of a file gives, where it is known how many lines and points stand above it, and which names.
-use Rattle.std.specs.Prelude.{◌≡◌, ◌≤◌, ◌+◌, ◌++◌, ◌∷◌, [], ℕ, List, length, map, flat_map, None, if◌then◌else◌}
+use Rattle.std.specs.Prelude.{◌≡◌, ◌≤◌, ◌+◌, ◌++◌, ◌∷◌, [], ℕ, List, length, map, flat_map, None, if◌then◌else◌, Result, IfOk}
 use denote.Ref.{Bor}
 use Rattle.abuf_num.specs.declared.limits.TheConstants.{MAX_TRIANGLES}
 use Rattle.abuf_text.specs.Statement.{statement}
@@ -9,6 +9,7 @@ use Rattle.abuf_obj.specs.Faults.{fault_from}
 use Rattle.abuf_obj.specs.Scene.{points_of, faces_from}
 use Rattle.abuf_obj.specs.Places.{clamped_face}
 use Rattle.abuf_obj.specs.Taking.{counted}
+use Rattle.abuf_obj.specs.declared.given_up.GivenUp.{GivenUp}
 use Rattle.abuf_obj.specs.declared.keyword.Keyword.{Keyword}
 use Rattle.abuf_obj.specs.declared.keyword.Keyword.TheVariants as keyword
 use Rattle.abuf_obj.specs.declared.reader.Reader.{Reader}
@@ -59,3 +60,8 @@ pub record HasPiece (before lines : List (List ℕ)) (r : Reader) : Type 0 where
   pub points : r.points ≡ points_of lines
   pub faces : r.faces ≡ map clamped_face (faces_from before lines)
   pub sound : triangles_on (before ++ lines) ≤ MAX_TRIANGLES → fault_from before lines ≡ None
+
+-- reading these lines behind so many others, by a reader that begins with what stands there, gives the piece or is given up
+abbrev pub GivesPiece : ℕ → Reader → List (List ℕ) → Result Reader GivenUp → Type 0
+GivesPiece lines_above start lines result =
+    (before : List (List ℕ)) → lines_above ≡ length before → BeginsBehind before start → IfOk result (HasPiece before lines)

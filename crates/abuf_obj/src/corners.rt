@@ -8,10 +8,11 @@ ghost use Rattle.abuf_obj.specs.Places.{clamped};
 
 use crate::element::{count, next_place, places};
 use crate::fault::{ObjFault, Why};
+use abuf_num::List;
 use abuf_num::limits::MAX_ELEMENTS;
-use abuf_num::{List, NoMemory};
 use abuf_text::Statement;
 use std::alloc::Global;
+use std::marker::Model;
 
 // No element is left.
 fn is_end(elements: &Statement) -> bool
@@ -20,36 +21,69 @@ fn is_end(elements: &Statement) -> bool
     elements.text().is_empty()
 }
 
-// The places of three or four elements, which nearly all faces have; none where they are more or fewer, or where one has no place.
-// They need no count of their own.
-fn few_corners(
-    alloc: Global,
-    above: u32,
-    mut elements: Statement,
-) -> Result<Option<List<u32>>, NoMemory>
-    ensures { IfOk result (λ found. IfSome found (λ list. AreCorners above elements.entry list)) }
+/// The corners of a face. Three or four, which nearly all faces have, take no memory. Clauses see their list.
+#[derive(Drop)]
+pub struct FaceCorners {
+    few: [u32; 4],
+    /// How many of the few there are; where there are none, the corners are the others.
+    count: usize,
+    others: List<u32>,
+}
+
+impl Model for FaceCorners {
+    ghost use Rattle.std.specs.Prelude.{ℕ, ◌≤◌, nat_lt, if◌then◌else◌, List as Items, take};
+
+    ghost Value = { Items ℕ };
+
+    ghost view = { λ c. if nat_lt 0 c.count then take c.count c.few else c.others };
+
+    ghost invariant = { λ c. c.count ≤ 4 };
+}
+
+impl FaceCorners {
+    pub fn as_slice(&self) -> &[u32]
+        ensures { result.now ≡ self.now }
+    {
+        if self.count > 0 {
+            &self.few[..self.count]
+        } else {
+            self.others.as_slice()
+        }
+    }
+}
+
+// The places of three or four elements; none where they are more or fewer, or where one has no place. They need no count of their
+// own.
+fn few_corners(alloc: Global, above: u32, mut elements: Statement) -> Option<FaceCorners>
+    ensures { IfSome result (λ list. AreCorners above elements.entry list) }
 {
     let Some(first) = next_place(&mut elements, above) else {
-        return Ok(None);
+        return None;
     };
     let Some(second) = next_place(&mut elements, above) else {
-        return Ok(None);
+        return None;
     };
     let Some(third) = next_place(&mut elements, above) else {
-        return Ok(None);
+        return None;
     };
     if is_end(&elements) {
-        let places = vec![in alloc; first, second, third]?;
-        return Ok(Some(List::from_vec(places)));
+        return Some(FaceCorners {
+            few: [first, second, third, 0],
+            count: 3,
+            others: List::new(alloc),
+        });
     }
     let Some(fourth) = next_place(&mut elements, above) else {
-        return Ok(None);
+        return None;
     };
     if is_end(&elements) {
-        let places = vec![in alloc; first, second, third, fourth]?;
-        Ok(Some(List::from_vec(places)))
+        Some(FaceCorners {
+            few: [first, second, third, fourth],
+            count: 4,
+            others: List::new(alloc),
+        })
     } else {
-        Ok(None)
+        None
     }
 }
 
@@ -84,7 +118,7 @@ pub fn corners(
     line: u32,
     above: u32,
     elements: Statement,
-) -> Result<List<u32>, ObjFault>
+) -> Result<FaceCorners, ObjFault>
     ensures fault { IfErr result (TellsWhy line (corners_why above elements.entry)) }
     ensures ok { OnOk result (corners_why above elements.entry ≡ None) }
     ensures value { IfOk result (λ list. Some list ≡ option_map (map clamped) (places_of above elements.entry)) }
@@ -92,8 +126,15 @@ pub fn corners(
     ensures least { OnOk result (3 ≤ length elements.entry) }
     ensures most { OnOk result (length elements.entry ≤ MAX_ELEMENTS) }
 {
-    match few_corners(alloc, above, elements.again())? {
+    match few_corners(alloc, above, elements.again()) {
         Some(corners) => Ok(corners),
-        None => many_corners(alloc, line, above, elements),
+        None => {
+            let others = many_corners(alloc, line, above, elements)?;
+            Ok(FaceCorners {
+                few: [0; 4],
+                count: 0,
+                others,
+            })
+        }
     }
 }

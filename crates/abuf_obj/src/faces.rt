@@ -1,9 +1,9 @@
-// The faces of a file while it is read.
-ghost use Rattle.std.specs.Prelude.{◌≡◌, ◌≤◌, ◌++◌, ◌∷◌, [], length, IfOk, OnErr, OnOk};
+// The faces of a file, with the corners of all of them in one list.
+ghost use Rattle.std.specs.Prelude.{◌≡◌, ◌<◌, ◌≤◌, ◌^◌, ◌++◌, ◌∷◌, [], length, take, drop, IfOk, IfSome, OnErr, OnOk, None};
 ghost use Rattle.abuf_num.specs.declared.limits.TheConstants.{MAX_ELEMENTS, MAX_TRIANGLES};
-ghost use Rattle.abuf_obj.specs.FaceRows.{corners_in, faces_in_rows};
+ghost use Rattle.abuf_obj.specs.FaceRows.{corners_in, corners_of, faces_in_rows};
 
-use crate::face::Face;
+use crate::face::{Face, FaceRef};
 use abuf_num::{List, NoMemory};
 use std::alloc::Global;
 use std::marker::Model;
@@ -36,6 +36,92 @@ impl Model for Faces {
     ghost invariant = { λ f. corners_in f.rows.items ≡ length f.corners.items };
 }
 
+/// Some of the faces of a file, one after another. Clauses see their list.
+#[derive(Drop)]
+pub struct FaceSlice<'a> {
+    corners: &'a [u32],
+    rows: &'a [Row],
+}
+
+impl<'a> Model for FaceSlice<'a> {
+    ghost use Rattle.std.specs.Prelude.{◌≡◌, List as Items, length};
+    ghost use Rattle.abuf_obj.specs.declared.face.Face.{Face};
+    ghost use Rattle.abuf_obj.specs.FaceRows.{corners_in, faces_in_rows};
+
+    ghost Value = { Items Face };
+
+    ghost view = { λ f. faces_in_rows f.corners.now f.rows.now };
+
+    ghost invariant = { λ f. corners_in f.rows.now ≡ length f.corners.now };
+}
+
+// How many corners the rows have.
+fn count_corners(rows: &[Row]) -> usize
+    requires { corners_in rows.now < 2 ^ 64 }
+    ensures { result ≡ corners_in rows.now }
+{
+    let mut count = 0;
+    for row in rows {
+        count += row.count as usize;
+    }
+    count
+}
+
+impl<'a> FaceSlice<'a> {
+    /// How many faces there are.
+    pub fn len(&self) -> usize
+        ensures { result ≡ length self.now }
+    {
+        self.rows.len()
+    }
+
+    /// How many corners they have together.
+    pub fn corner_count(&self) -> usize
+        ensures { result ≡ corners_of self.now }
+    {
+        self.corners.len()
+    }
+
+    /// The first face, and those after it; `None` if there is none.
+    #[inline(always)]
+    pub fn split_first(&self) -> Option<(FaceRef<'a>, FaceSlice<'a>)>
+        ensures some { IfSome result (λ split. self.now ≡ split.0 ∷ split.1) }
+        ensures none { result ≡ None → self.now ≡ [] }
+    {
+        match self.rows {
+            [] => None,
+            [row, rows @ ..] => {
+                let (own, corners) = self.corners.split_at(row.count as usize);
+                let face = FaceRef {
+                    line: row.line,
+                    corners: own,
+                    name: row.name,
+                };
+                Some((face, FaceSlice { corners, rows }))
+            }
+        }
+    }
+
+    /// So many faces, and those after them. It takes a step for each of the first.
+    pub fn split_at(&self, count: usize) -> (FaceSlice<'a>, FaceSlice<'a>)
+        requires { count ≤ length self.now }
+        ensures first { result.0 ≡ take count self.now }
+        ensures rest { result.1 ≡ drop count self.now }
+    {
+        let (first, rest) = self.rows.split_at(count);
+        let (own, later) = self.corners.split_at(count_corners(first));
+        let first = FaceSlice {
+            corners: own,
+            rows: first,
+        };
+        let rest = FaceSlice {
+            corners: later,
+            rows: rest,
+        };
+        (first, rest)
+    }
+}
+
 // The faces of these rows, each with a list of its corners.
 fn faces_of(alloc: Global, corners: &[u32], rows: &[Row]) -> Result<Vec<Face>, NoMemory>
     requires { corners_in rows.now ≡ length corners.now }
@@ -58,7 +144,7 @@ fn faces_of(alloc: Global, corners: &[u32], rows: &[Row]) -> Result<Vec<Face>, N
 
 impl Faces {
     /// No faces, with room for so many of three corners.
-    pub fn with_room(alloc: Global, faces: usize) -> Result<Faces, NoMemory>
+    pub(crate) fn with_room(alloc: Global, faces: usize) -> Result<Faces, NoMemory>
         requires { faces ≤ MAX_TRIANGLES }
         ensures { IfOk result (λ f. f ≡ []) }
     {
@@ -69,7 +155,12 @@ impl Faces {
     }
 
     /// Puts a face last.
-    pub fn push(&mut self, line: u32, corners: &[u32], name: Option<u32>) -> Result<(), NoMemory>
+    pub(crate) fn push(
+        &mut self,
+        line: u32,
+        corners: &[u32],
+        name: Option<u32>,
+    ) -> Result<(), NoMemory>
         requires { length corners.now ≤ MAX_ELEMENTS }
         ensures ok { OnOk result (self.new ≡ self.old ++ record { line = line; corners = corners.now; name = name } ∷ []) }
         ensures err { OnErr result (self.new ≡ self.old) }
@@ -92,7 +183,7 @@ impl Faces {
 
     /// The faces of the first, and then those of the second. Most files have their points before their faces, so that there are often
     /// none in the first.
-    pub fn joined(first: Faces, second: Faces) -> Result<Faces, NoMemory>
+    pub(crate) fn joined(first: Faces, second: Faces) -> Result<Faces, NoMemory>
         ensures { IfOk result (λ all. all ≡ first ++ second) }
     {
         if first.rows.is_empty() {
@@ -111,8 +202,18 @@ impl Faces {
         Ok(Faces { corners, rows })
     }
 
+    /// All of them.
+    pub(crate) fn as_slice(&self) -> FaceSlice
+        ensures { result ≡ self.now }
+    {
+        FaceSlice {
+            corners: &self.corners,
+            rows: &self.rows,
+        }
+    }
+
     /// The faces, each with a list of its corners.
-    pub fn into_list(self, alloc: Global) -> Result<List<Face>, NoMemory>
+    pub(crate) fn into_list(self, alloc: Global) -> Result<List<Face>, NoMemory>
         ensures { IfOk result (λ faces. faces ≡ self) }
     {
         let faces = faces_of(alloc, &self.corners, &self.rows)?;

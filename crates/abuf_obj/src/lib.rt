@@ -5,7 +5,10 @@
 //! face has at least three corners, each corner is a point, each name number is that of a name, every
 //! coordinate is at most 2147483647 either way, and all fans together have at most 1048576 triangles.
 //!
-//! [`read_obj_on_threads`] gives the same of a large file sooner. The file is cut in two at the end of a line, over and over, until
+//! [`read_flat`] gives the same with the corners of all faces in one list, which takes half the memory, and no call of the allocator
+//! for each face.
+//!
+//! [`read_obj_on_threads`] gives that of a large file sooner. The file is cut in two at the end of a line, over and over, until
 //! there is a piece for each thread. What stands above a piece, which are counts of lines and points and the names, is found first,
 //! from the keywords of the lines before it; so each piece is read with the numbers of its lines and the places of its points and
 //! names in the whole file.
@@ -26,8 +29,9 @@ mod split;
 mod tally;
 mod threads;
 
-pub use face::Face;
+pub use face::{Face, FaceRef};
+pub use faces::FaceSlice;
 pub use fault::{ObjFault, Why};
 pub use given_up::GivenUp;
-pub use scene::{Obj, read_obj};
+pub use scene::{FlatObj, Obj, read_flat, read_obj};
 pub use threads::{read_in_pieces, read_obj_on_threads};

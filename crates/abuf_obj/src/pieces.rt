@@ -1,8 +1,8 @@
 // The pieces of a file, each read on a thread.
-ghost use Rattle.std.specs.Prelude.{◌≡◌, ◌+◌, ◌-◌, ◌^◌, ◌<◌, ◌≤◌, length, List as Items, ℕ, IfOk};
+ghost use Rattle.std.specs.Prelude.{◌+◌, ◌-◌, ◌^◌, ◌<◌, ◌≤◌, length, IfOk};
 ghost use Rattle.abuf_num.specs.declared.limits.TheConstants.{MAX_THREADS};
 ghost use Rattle.abuf_text.specs.Lines.{lines};
-ghost use Rattle.abuf_obj.specs.Pieces.{BeginsBehind, HasPiece, IsTally};
+ghost use Rattle.abuf_obj.specs.Pieces.{GivesPiece, IsTally};
 ghost use denote.Param.Send.{IsSync};
 
 use crate::given_up::GivenUp;
@@ -53,7 +53,7 @@ fn read_piece(
     bytes: &[u8],
 ) -> Result<Reader, GivenUp>
     requires { lines_above + length bytes.now < 2 ^ 32 - 1 }
-    ensures { (before : Items (Items ℕ)) → lines_above ≡ length before → BeginsBehind before start.now → IfOk result (HasPiece before (lines bytes.now)) }
+    ensures { GivesPiece lines_above start.now (lines bytes.now) result }
 {
     let mut reader = start.follower(alloc, bytes.len())?;
     let mut number = lines_above;
@@ -75,7 +75,7 @@ pub fn read_pieces<R: Threads + Sync>(
 ) -> Result<Reader, GivenUp>
     requires threads { (1 ≤ threads) × (threads ≤ MAX_THREADS) }
     requires few { lines_above + length bytes.now < 2 ^ 32 - 1 }
-    ensures { (before : Items (Items ℕ)) → lines_above ≡ length before → BeginsBehind before start.now → IfOk result (HasPiece before (lines bytes.now)) }
+    ensures { GivesPiece lines_above start.now (lines bytes.now) result }
 {
     if threads == 1 {
         return read_piece(alloc, lines_above, start, bytes);
@@ -89,11 +89,11 @@ pub fn read_pieces<R: Threads + Sync>(
     let lines_before = lines_above + tally.lines;
     let first = move || -> Result<Reader, GivenUp>
         requires { IsSync R.row × (1 ≤ left) × (left ≤ MAX_THREADS) × (lines_above + length front.now < 2 ^ 32 - 1) }
-        ensures { (before : Items (Items ℕ)) → lines_above ≡ length before → BeginsBehind before start.entry.now → IfOk result (HasPiece before (lines front.entry.now)) }
+        ensures { GivesPiece lines_above start.entry.now (lines front.entry.now) result }
     { read_pieces(rt, alloc, left, lines_above, start, front) };
     let second = move || -> Result<Reader, GivenUp>
         requires { IsSync R.row × (1 ≤ right) × (right ≤ MAX_THREADS) × (lines_before + length back.now < 2 ^ 32 - 1) }
-        ensures { (before : Items (Items ℕ)) → lines_before ≡ length before → BeginsBehind before middle.entry.now → IfOk result (HasPiece before (lines back.entry.now)) }
+        ensures { GivesPiece lines_before middle.entry.now (lines back.entry.now) result }
     { read_pieces(rt, alloc, right, lines_before, middle, back) };
     let (first, second) = join(rt, first, second);
     let first = first?;

@@ -9,7 +9,7 @@ use crate::fault::ObjFault;
 use crate::given_up::GivenUp;
 use crate::pieces::read_pieces;
 use crate::reader::Reader;
-use crate::scene::{Obj, finish, first_astray, read_obj};
+use crate::scene::{FlatObj, finish, first_astray, read_flat};
 use abuf_text::Names;
 use std::alloc::Global;
 use std::thread::Threads;
@@ -24,7 +24,7 @@ pub fn read_in_pieces<R: Threads + Sync>(
     alloc: Global,
     bytes: &[u8],
     pieces: u32,
-) -> Result<Obj, GivenUp>
+) -> Result<FlatObj, GivenUp>
     requires few { length bytes.now < 2 ^ 32 - 1 }
     requires pieces { (1 ≤ pieces) × (pieces ≤ MAX_THREADS) }
     ensures sound { OnOk result (obj_fault bytes.now ≡ None) }
@@ -36,14 +36,14 @@ pub fn read_in_pieces<R: Threads + Sync>(
 {
     let start = Reader::beginning(alloc, 0, 0, Names::new(alloc), Names::new(alloc), None)?;
     let reader = read_pieces(rt, alloc, pieces, 0, &start, bytes)?;
-    let obj = finish(alloc, reader)?;
+    let obj = finish(reader);
     match first_astray(&obj) {
         Some(_) => Err(GivenUp),
         None => Ok(obj),
     }
 }
 
-/// Reads a scene as [`read_obj`] does, and gives the same answer, on at most so many threads.
+/// Reads a scene as [`read_obj`](crate::read_obj) does, and gives the same answer, on at most so many threads.
 ///
 /// A file of at least 262144 bytes is shared, 131072 bytes or more for each thread. While the pieces are joined, which is two and two,
 /// the later points and faces of each pair take as much memory again. Where the pieces are [given up](read_in_pieces), the file is
@@ -53,7 +53,7 @@ pub fn read_obj_on_threads<R: Threads + Sync>(
     alloc: Global,
     bytes: &[u8],
     threads: u32,
-) -> Result<Obj, ObjFault>
+) -> Result<FlatObj, ObjFault>
     requires few { length bytes.now < 2 ^ 32 - 1 }
     requires threads { (1 ≤ threads) × (threads ≤ MAX_THREADS) }
     ensures fault { IfErr result (TellsFirst (obj_fault bytes.now)) }
@@ -66,10 +66,10 @@ pub fn read_obj_on_threads<R: Threads + Sync>(
 {
     let pieces = threads.min((bytes.len() / LEAST_BYTES) as u32);
     if pieces < 2 {
-        return read_obj(alloc, bytes);
+        return read_flat(alloc, bytes);
     }
     match read_in_pieces(rt, alloc, bytes, pieces) {
         Ok(obj) => Ok(obj),
-        Err(GivenUp) => read_obj(alloc, bytes),
+        Err(GivenUp) => read_flat(alloc, bytes),
     }
 }

@@ -10,7 +10,7 @@ use Rattle.abuf_raster.specs.declared.point.Point.{Point}
 use Rattle.abuf_raster.specs.Edge.{edge_function, is_left_edge, is_top_edge}
 use Rattle.abuf_raster.specs.Triangle.{Triangle, has_area, positive_order}
 use Rattle.abuf_raster.specs.Coverage.{accepts, all_accept, covers_sample}
-use Rattle.abuf_raster.specs.Depth.{depth_of, depth_value, least_depth, greatest_depth, HasNoKeyAbove}
+use Rattle.abuf_raster.specs.Depth.{depth_of, depth_value, least_depth, greatest_depth, HasNoKeyAbove, HasNoKeyBelow}
 use Rattle.abuf_raster.specs.Samples.{sample_place}
 use Rattle.abuf_raster.proofs.Acceptance.{in_order, positive_area}
 use Rattle.abuf_raster.proofs.Linear.{E_sum}
@@ -89,9 +89,20 @@ pub abs_at_most : (v : ℤ) (low high : ℕ) → pos low ≤ℤ v → v ≤ℤ p
 abs_at_most (pos n) low high l h = omega (arith, ints)
 abs_at_most (negsuc n) low high l h = absurd l.le
 
+-- And at least the lower.
+abs_at_least : (v : ℤ) (low : ℕ) → pos low ≤ℤ v → low ≤ unsigned_abs v
+abs_at_least (pos n) low l = omega (arith, ints)
+abs_at_least (negsuc n) low l = absurd l.le
+
 -- So no key is above the greatest depth value.
 pub no_key_above : (t : Triangle) → HasNoKeyAbove t (greatest_depth t)
 no_key_above t offsets x y k h =
     let s = sample_place (get_or offsets k (pos 0, pos 0)) x y in
     let between = key_law_holds t s h in
     abs_at_most (depth_value t s) (least_depth t) (greatest_depth t) between.0 between.1
+
+-- And none is below the least.
+pub no_key_below : (t : Triangle) → HasNoKeyBelow t (least_depth t)
+no_key_below t offsets x y k h =
+    let s = sample_place (get_or offsets k (pos 0, pos 0)) x y in
+    abs_at_least (depth_value t s) (least_depth t) (key_law_holds t s h).0

@@ -1,7 +1,8 @@
 // Files that are read in pieces: each gives what it gives as a whole.
 use abuf_num::List;
-use abuf_obj::{Face, Obj, ObjFault, Why, read_in_pieces, read_obj, read_obj_on_threads};
+use abuf_obj::{Face, FlatObj, Obj, ObjFault, Why, read_in_pieces, read_obj, read_obj_on_threads};
 use std::alloc::{AllocError, Global};
+use std::test::Fail;
 use std::thread::Threads;
 
 fn are_same_names(first: &[List<u8>], second: &[List<u8>]) -> bool {
@@ -35,7 +36,10 @@ fn agree<R: Threads + Sync>(rt: &R, alloc: Global, bytes: &[u8], pieces: u32) ->
         read_in_pieces(rt, alloc, bytes, pieces),
         read_obj(alloc, bytes),
     ) {
-        (Ok(first), Ok(second)) => are_same(&first, &second),
+        (Ok(first), Ok(second)) => match first.into_obj(alloc) {
+            Ok(first) => are_same(&first, &second),
+            Err(_) => false,
+        },
         (Err(_), Err(ObjFault::Line { .. })) => true,
         _ => false,
     }
@@ -84,7 +88,7 @@ fn read_large<R: Threads + Sync>(
     rt: &R,
     alloc: Global,
     last: &[u8],
-) -> Option<Result<Obj, ObjFault>> {
+) -> Option<Result<FlatObj, ObjFault>> {
     let Ok(text) = large(alloc, last) else {
         return None;
     };
@@ -95,19 +99,18 @@ fn read_large<R: Threads + Sync>(
 }
 
 #[test]
-fn four_threads_read_a_large_file(rt: HostRuntime) {
-    match read_large(&rt, rt.alloc(), b"f 10000 9999 1") {
-        Some(Ok(obj)) => {
-            let faces = obj.faces.as_slice();
-            assert!(rt; obj.points.as_slice().len() == 10000);
-            assert!(rt; faces.len() == 20001);
-            assert!(rt; faces[19998].line == 49997 && faces[19998].name == Some(1));
-            assert!(rt; faces[19998].corners.as_slice() == [0, 9999, 0].as_slice());
-            assert!(rt; faces[20000].line == 50001 && faces[20000].name == Some(1));
-            assert!(rt; faces[20000].corners.as_slice() == [9999, 9998, 0].as_slice());
-        }
-        _ => assert!(rt; false),
-    }
+fn four_threads_read_a_large_file(rt: HostRuntime) -> Result<(), Fail> {
+    let read = read_large(&rt, rt.alloc(), b"f 10000 9999 1").ok_or("memory")?;
+    let flat = read.ok().ok_or("fault")?;
+    assert!(rt; flat.points().len() == 10000 && flat.faces().len() == 20001);
+    let obj = flat.into_obj(rt.alloc())?;
+    let faces = obj.faces.as_slice();
+    assert!(rt; faces.len() == 20001);
+    assert!(rt; faces[19998].line == 49997 && faces[19998].name == Some(1));
+    assert!(rt; faces[19998].corners.as_slice() == [0, 9999, 0].as_slice());
+    assert!(rt; faces[20000].line == 50001 && faces[20000].name == Some(1));
+    assert!(rt; faces[20000].corners.as_slice() == [9999, 9998, 0].as_slice());
+    Ok(())
 }
 
 #[test]

@@ -4,7 +4,7 @@ ghost use Rattle.abuf_obj.specs.Sound.{IsInRange};
 
 use abuf_mtl::{Materials, read_mtl};
 use abuf_num::{List, NoMemory, Paint};
-use abuf_obj::read_obj;
+use abuf_obj::read_flat;
 use abuf_raster::{Pattern, Region, ScreenTri, TileWalk, depth_at, mask_at};
 use abuf_scene::{Scene, SceneFault, Triangle};
 use abuf_view::{Camera, Projected, project, project_faces};
@@ -189,7 +189,7 @@ fn seen_by_faces<R: Threads + Sync>(
     if library.len() > 1000 || read_mtl(alloc, library, &mut materials).is_err() {
         return None;
     }
-    match read_obj(alloc, SQUARE) {
+    match read_flat(alloc, SQUARE) {
         Ok(obj) => Some(project_faces(rt, alloc, &obj, &materials, camera, 2)),
         Err(_) => None,
     }
@@ -270,7 +270,7 @@ fn seen_on_threads<R: Threads + Sync>(
     if text.len() > 1000000 {
         return None;
     }
-    match read_obj(alloc, text.as_slice()) {
+    match read_flat(alloc, text.as_slice()) {
         Ok(obj) => Some(project_faces(rt, alloc, &obj, &materials, camera, 3)),
         Err(_) => None,
     }

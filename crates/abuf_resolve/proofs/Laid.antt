@@ -4,7 +4,7 @@ use Rattle.std.specs.List.{filter, fold}
 use Rattle.std.specs.List.Sorted.{IsNonDecreasing}
 use Rattle.std.proofs.lemmas.List.{length-map}
 use Rattle.std.proofs.lemmas.List.Sorted.{IsNonDecreasingBy-short, IsPermutation-refl}
-use Rattle.std.proofs.lemmas.List.Elements.{All-head, All-tail, All-filter}
+use Rattle.std.proofs.lemmas.List.Elements.{All-cons, All-head, All-nil, All-tail, All-filter}
 use Rattle.abuf_num.specs.declared.limits.TheConstants.{MAX_PRIMITIVES}
 use Rattle.abuf_num.specs.declared.plain.Paint.{Paint}
 use Rattle.abuf_raster.specs.Triangle.{Triangle}
@@ -73,6 +73,14 @@ pub sums_in_order : (os : List (ℤ × ℤ)) (tris : List Triangle) → length t
 sums_in_order os tris few x y paints u words all ascend =
     summed_same (λ k. fold (with_fragment paints k) u words) (sample_of os u tris paints x y words) (length os)
     (λ k l. laid_in_order os tris few x y k paints u words all (ascend k l))
+
+-- The same of two words.
+pub pair_in_order : (os : List (ℤ × ℤ)) (tris : List Triangle) → length tris ≤ MAX_PRIMITIVES → (x y : ℕ) (paints : List Paint) (u : List ℕ) (v w : ℕ) → IsFragmentAt os tris x y v → IsFragmentAt os tris x y w
+    → ((k : ℕ) → k < length os → IsNonDecreasing (sample_words os tris x y k (v ∷ w ∷ [])))
+    → summed (λ k. fold (with_fragment paints k) u (v ∷ w ∷ [])) (length os) ≡ pixel_sum os u tris paints x y (v ∷ w ∷ [])
+pair_in_order os tris few x y paints u v w is_v is_w ascend =
+    let P : ℕ → Type 0 = IsFragmentAt os tris x y in
+    sums_in_order os tris few x y paints u (v ∷ w ∷ []) (All-cons P v (w ∷ []) is_v (All-cons P w [] is_w (All-nil P))) ascend
 
 -- Two words give the same sums, whichever is the first.
 pub sums_turned : (os : List (ℤ × ℤ)) (tris : List Triangle) (x y : ℕ) (paints : List Paint) (u : List ℕ) (v w : ℕ) → pixel_sum os u tris paints x y (v ∷ w ∷ []) ≡ pixel_sum os u tris paints x y (w ∷ v ∷ [])

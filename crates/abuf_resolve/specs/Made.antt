@@ -2,11 +2,16 @@
 use Rattle.std.specs.Prelude.{◌≡◌, ◌≤◌, List, map, All}
 use Rattle.abuf_num.specs.declared.limits.TheConstants.{MAX_DEPTH}
 use Rattle.abuf_raster.specs.Triangle.{Triangle}
-use Rattle.abuf_raster.specs.Depth.{greatest_depth}
+use Rattle.abuf_raster.specs.Depth.{least_depth, greatest_depth}
+use Rattle.abuf_resolve.specs.declared.planes.Bounds.{Bounds}
 use Rattle.abuf_resolve.specs.declared.planes.Made.{Made}
 
--- It was worked out of these triangles: a plane of each, and its greatest depth value.
+-- The least and the greatest depth value of a triangle.
+abbrev pub depth_range : Triangle → Bounds
+depth_range t = record { low = least_depth t; high = greatest_depth t }
+
+-- It was worked out of these triangles: a plane of each, and the range of its depth values.
 pub record IsOf (triangles : List Triangle) (made : Made) : Type 0 where
   pub planes : made.planes.items ≡ triangles
-  pub greatest : made.greatest.items ≡ map greatest_depth triangles
-  pub small : All (λ depth. depth ≤ MAX_DEPTH) made.greatest.items
+  pub ranges : made.ranges.items ≡ map depth_range triangles
+  pub small : All (λ range. range.high ≤ MAX_DEPTH) made.ranges.items

@@ -5,10 +5,10 @@ ghost use Rattle.std.specs.List.Sorted.{IsNonDecreasing};
 ghost use Rattle.abuf_num.specs.declared.limits.TheConstants.{MAX_DEPTH, MAX_PRIMITIVES};
 ghost use Rattle.abuf_raster.specs.Samples.{offsets_of};
 ghost use Rattle.abuf_raster.specs.Coverage.{covers};
-ghost use Rattle.abuf_raster.specs.Depth.{depth_key, HasNoKeyAbove};
+ghost use Rattle.abuf_raster.specs.Depth.{depth_key, HasNoKeyAbove, HasNoKeyBelow};
 ghost use Rattle.abuf_resolve.specs.Colour.{triangle_at};
 ghost use Rattle.abuf_resolve.specs.Keys.{NoKeyBelow, NoKeyAbove, NoWordAbove};
-ghost use Rattle.abuf_resolve.specs.Made.{IsOf};
+ghost use Rattle.abuf_resolve.specs.Made.{depth_range, IsOf};
 ghost use Rattle.abuf_resolve.specs.Order.{in_order};
 ghost use Rattle.abuf_resolve.specs.Words.{sample_word, sample_words, has_sample, IsDepthWord, IsFragmentAt};
 
@@ -24,9 +24,9 @@ use std::marker::Model;
 #[derive(Drop)]
 pub(crate) struct Made {
     pub(crate) planes: Vec<DepthPlane>,
-    /// The greatest depth value of each. They lie apart from the planes, since they are asked for far more often: in the caches there is
-    /// room for many more of them.
-    pub(crate) greatest: Vec<u32>,
+    /// The least and the greatest depth value of each. They lie apart from the planes, since they are asked for far more often: in the
+    /// caches there is room for many more of them.
+    pub(crate) ranges: Vec<Bounds>,
 }
 
 /// Triangles whose depth keys are asked for. What a key takes is worked out once a triangle, or for each key where few are asked for.
@@ -52,6 +52,15 @@ impl<'a> Model for Planes<'a> {
     ghost invariant = { λ p. IfSome p.made (IsOf p.tris.now) };
 }
 
+/// Where bounds of a triangle's depth keys hold.
+#[derive(Clone, Copy)]
+pub(crate) enum Scope {
+    /// In the whole triangle. These are at hand.
+    Triangle,
+    /// In one pixel. These are narrower, and worked out from the plane.
+    Pixel,
+}
+
 /// What depth keys lie between.
 #[derive(Clone, Copy)]
 pub(crate) struct Bounds {
@@ -59,17 +68,32 @@ pub(crate) struct Bounds {
     pub(crate) high: u32,
 }
 
+/// The least and the greatest depth value of a triangle.
+#[inline(always)]
+fn depth_range(t: &ScreenTri) -> Bounds
+    ensures value { result ≡ depth_range t.now }
+    ensures low { HasNoKeyBelow t.now result.low }
+    ensures high { HasNoKeyAbove t.now result.high }
+    ensures rising { result.low ≤ result.high }
+    ensures small { result.high ≤ MAX_DEPTH }
+{
+    Bounds {
+        low: t.least_depth(),
+        high: t.greatest_depth(),
+    }
+}
+
 /// What is worked out of the triangles.
 fn made_of(alloc: Global, tris: &[ScreenTri]) -> Result<Made, NoMemory>
     ensures { IfOk result (IsOf tris.now) }
 {
     let mut planes = Vec::with_capacity(alloc, tris.len())?;
-    let mut greatest = Vec::with_capacity(alloc, tris.len())?;
+    let mut ranges = Vec::with_capacity(alloc, tris.len())?;
     for t in tris {
         planes.push(DepthPlane::new(t))?;
-        greatest.push(t.greatest_depth())?;
+        ranges.push(depth_range(t))?;
     }
-    Ok(Made { planes, greatest })
+    Ok(Made { planes, ranges })
 }
 
 impl<'a> Planes<'a> {
@@ -124,16 +148,18 @@ impl<'a> Planes<'a> {
         }
     }
 
-    /// The greatest depth value of triangle `prim`, which none of its keys passes.
+    /// The least and the greatest depth value of triangle `prim`, between which all of its keys lie.
     #[inline(always)]
-    fn greatest_depth(&self, prim: u32) -> u32
+    fn range(&self, prim: u32) -> Bounds
         requires prim { prim < length self.now }
-        ensures keys { HasNoKeyAbove (triangle_at self.now prim) result }
-        ensures small { result ≤ MAX_DEPTH }
+        ensures low { HasNoKeyBelow (triangle_at self.now prim) result.low }
+        ensures high { HasNoKeyAbove (triangle_at self.now prim) result.high }
+        ensures rising { result.low ≤ result.high }
+        ensures small { result.high ≤ MAX_DEPTH }
     {
         match &self.made {
-            Some(made) => made.greatest[prim as usize],
-            None => self.triangles()[prim as usize].greatest_depth(),
+            Some(made) => made.ranges[prim as usize],
+            None => depth_range(&self.triangles()[prim as usize]),
         }
     }
 
@@ -144,11 +170,11 @@ impl<'a> Planes<'a> {
         requires prim { prim < length self.now }
         ensures { NoWordAbove self.now prim result }
     {
-        SampleWord::new(self.greatest_depth(prim), u64::from(prim)).0
+        SampleWord::new(self.range(prim).high, u64::from(prim)).0
     }
 
-    /// Bounds of the depth keys of triangle `prim` at the samples of a pixel that it covers.
-    pub(crate) fn bounds(&self, prim: u32, at: Pixel, pattern: Pattern) -> Bounds
+    /// Bounds of the depth keys of triangle `prim` at the samples of a pixel that it covers, from its plane.
+    fn pixel_bounds(&self, prim: u32, at: Pixel, pattern: Pattern) -> Bounds
         requires prim { prim < length self.now }
         ensures rising { result.low ≤ result.high }
         ensures small { result.high ≤ MAX_DEPTH }
@@ -161,6 +187,20 @@ impl<'a> Planes<'a> {
             None => DepthPlane::new(t).bounds(t, at.x, at.y, pattern),
         };
         Bounds { low, high }
+    }
+
+    /// Bounds of the depth keys of triangle `prim` that hold at the samples of a pixel that it covers.
+    pub(crate) fn bounds(&self, prim: u32, at: Pixel, pattern: Pattern, scope: Scope) -> Bounds
+        requires prim { prim < length self.now }
+        ensures rising { result.low ≤ result.high }
+        ensures small { result.high ≤ MAX_DEPTH }
+        ensures low { NoKeyBelow (triangle_at self.now prim) (offsets_of pattern) at.x at.y result.low }
+        ensures high { NoKeyAbove (triangle_at self.now prim) (offsets_of pattern) at.x at.y result.high }
+    {
+        match scope {
+            Scope::Triangle => self.range(prim),
+            Scope::Pixel => self.pixel_bounds(prim, at, pattern),
+        }
     }
 
     /// The fragment of this word in sample k, which it has, as a word: its depth key there times 2^24, plus its primitive number.

@@ -22,7 +22,7 @@ use abuf_cli::{What, WordFault};
 use abuf_io::{ReadEnd, Shelf, Source, read_all};
 use abuf_num::List;
 use abuf_num::limits::MAX_BYTES;
-use abuf_obj::{Obj, ObjFault, read_obj_on_threads};
+use abuf_obj::{FlatObj, ObjFault, read_obj_on_threads};
 use abuf_scene::SceneFault;
 use std::alloc::Global;
 use std::thread::Threads;
@@ -82,7 +82,7 @@ impl From<WordFault> for Stop {
 }
 
 // A scene whose libraries are yet to be read.
-fn furnish<H: Shelf>(alloc: Global, obj: Obj, shelf: &mut H) -> Result<Loaded, Stop>
+fn furnish<H: Shelf>(alloc: Global, obj: FlatObj, shelf: &mut H) -> Result<Loaded, Stop>
     requires { IsScene obj }
     ensures told { H.tells shelf.old ≡ true → Loads (library_verdict obj (H.holds shelf.old)) (Rose (H.faults shelf.old) (H.faults shelf.new)) result }
     ensures none { obj.libraries ≡ [] → Loads (material_verdict obj []) ⊥ result }
@@ -93,7 +93,7 @@ fn furnish<H: Shelf>(alloc: Global, obj: Obj, shelf: &mut H) -> Result<Loaded, S
     ensures still { obj.libraries ≡ [] → (H.calls shelf.new ≡ H.calls shelf.old) × (H.faults shelf.new ≡ H.faults shelf.old) }
     ensures later { H.faults shelf.old ≤ H.faults shelf.new }
 {
-    let materials = read_libraries(alloc, shelf, obj.libraries.as_slice())?;
+    let materials = read_libraries(alloc, shelf, obj.libraries().as_slice())?;
     Ok(Loaded { obj, materials })
 }
 
@@ -103,7 +103,7 @@ fn read_list<R: Threads + Sync>(
     alloc: Global,
     bytes: List<u8>,
     threads: u32,
-) -> Result<Obj, ObjFault>
+) -> Result<FlatObj, ObjFault>
     requires few { length bytes ≤ MAX_BYTES }
     requires threads { (1 ≤ threads) × (threads ≤ MAX_THREADS) }
     ensures fault { IfErr result (TellsFirst (obj_fault bytes)) }

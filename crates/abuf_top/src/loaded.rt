@@ -1,18 +1,35 @@
 // A scene that was read.
+ghost use Rattle.std.specs.Prelude.{◌≡◌};
+
 use crate::drawing::Drawing;
 use crate::stop::Stop;
 use crate::task::Task;
 use abuf_cli::{Job, What};
 use abuf_mtl::Materials;
-use abuf_obj::Obj;
-use abuf_view::project_faces;
+use abuf_num::List;
+use abuf_obj::FlatObj;
+use abuf_view::{Projected, project_faces};
 use std::alloc::Global;
 use std::thread::Threads;
+
+// The primitives, with their paints in memory that is taken now. What was read lay on either side of the paints; when it is freed, they
+// move to its start, and the rest of it is one piece, in which the words of a frame have room.
+fn settled(alloc: Global, shown: Projected) -> Projected
+    ensures { result ≡ shown }
+{
+    match shown.paints.as_slice().to_vec(alloc) {
+        Ok(paints) => Projected {
+            tris: shown.tris,
+            paints: List::from_vec(paints),
+        },
+        Err(_) => shown,
+    }
+}
 
 /// A scene and the materials of its libraries. It isn't projected yet.
 #[derive(Drop)]
 pub struct Loaded {
-    pub obj: Obj,
+    pub obj: FlatObj,
     pub materials: Materials,
 }
 
@@ -48,6 +65,7 @@ impl Loaded {
             job.camera(),
             job.threads(),
         )?;
-        Ok(Task::Draw(Drawing::new(job, what, shown)))
+        drop(self);
+        Ok(Task::Draw(Drawing::new(job, what, settled(alloc, shown))))
     }
 }

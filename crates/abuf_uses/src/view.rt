@@ -4,7 +4,7 @@ ghost use Rattle.abuf_uses.specs.Seen.{IsFault, seen};
 
 use crate::fault::NoImage;
 use abuf_mtl::{Materials, read_mtl};
-use abuf_obj::read_obj;
+use abuf_obj::read_flat;
 use abuf_view::{Camera, Projected, project_faces};
 use std::alloc::Global;
 use std::thread::Threads;
@@ -22,7 +22,7 @@ pub fn seen_by<R: Threads + Sync>(
     ensures paints { IfOk result (λ p. p.paints ≡ map (λ q. q.paint) (seen camera.now scene.now library.now)) }
     ensures fault { IfErr result (IsFault scene.now library.now) }
 {
-    let obj = read_obj(alloc, scene)?;
+    let obj = read_flat(alloc, scene)?;
     let mut materials = Materials::new(alloc);
     read_mtl(alloc, library, &mut materials)?;
     let shown = project_faces(rt, alloc, &obj, &materials, camera, 2)?;

@@ -16,6 +16,20 @@ module _ {X A : Type 0} (f : X → List A) where
   pub both_made : (xs ys zs : List X) (now new : List A) → zs ≡ xs ++ ys → now ≡ flat_map f xs → new ≡ now ++ flat_map f ys → new ≡ flat_map f zs
   both_made xs ys zs now new all before pushed = pushed ∙ ap (λ (l : List A). l ++ flat_map f ys) before ∙ (sym (flat_map-append f xs ys) ∙ ap (flat_map f) (sym all))
 
+  -- what is made of a list's first item stands before what is made of the later ones
+  pub next_made : {Y : Type 0} (g : Y → List X) (all left later : List Y) (first : Y) (old new : List A) → left ≡ first ∷ later → new ≡ old ++ flat_map f (g first)
+      → old ++ flat_map f (flat_map g left) ≡ flat_map f (flat_map g all) → new ++ flat_map f (flat_map g later) ≡ flat_map f (flat_map g all)
+  next_made {Y} g all left later first old new is pushed before =
+      ap (λ (l : List A). l ++ flat_map f (flat_map g later)) pushed
+      ∙ (append_assoc old (flat_map f (g first)) (flat_map f (flat_map g later))
+      ∙ (ap (λ (l : List A). old ++ l) (sym (flat_map-append f (g first) (flat_map g later)))
+      ∙ (ap (λ (ys : List Y). old ++ flat_map f (flat_map g ys)) (sym is) ∙ before)))
+
+  -- where no item is left, all is made
+  pub all_made : {Y : Type 0} (g : Y → List X) (all left : List Y) (made : List A) → left ≡ [] → made ++ flat_map f (flat_map g left) ≡ flat_map f (flat_map g all) → made ≡ flat_map f (flat_map g all)
+  all_made {Y} g all left made none before =
+      sym (append-nil made) ∙ (ap (λ (ys : List Y). made ++ flat_map f (flat_map g ys)) (sym none) ∙ before)
+
   -- one more triangle of a fan
   pub one_more : (g : ℕ → X) (old now new : List A) (i : ℕ) (t : X) → 1 ≤ i → now ≡ old ++ flat_map f (map g (range_with_len 1 (i - 1))) → t ≡ g i → new ≡ now ++ f t
       → new ≡ old ++ flat_map f (map g (range_with_len 1 (i + 1 - 1)))

@@ -1,14 +1,16 @@
 -- What runs of faces give together.
-use Rattle.std.proofs.Common.{◌≡◌, ◌∙◌, sym, ap, ap₂, ◌+◌, ◌*◌, ◌≤◌, ℕ, suc, List, [], ◌∷◌, ◌++◌, append-nil, map, flat_map, take, drop, take-append-drop, length, get_or, find, Option, Some, None, option_map, Result, Ok, Err, arith, refl, subst}
+use Rattle.std.proofs.Common.{◌≡◌, ◌∙◌, sym, ap, ap₂, ◌+◌, ◌*◌, ◌<◌, ◌≤◌, ⊎_elim, ℕ, suc, List, [], ◌∷◌, ◌++◌, append-nil, map, flat_map, take, drop, take-append-drop, length, get_or, find, Option, Some, None, option_map, Result, Ok, Err, arith, refl, subst, cond, is_none}
 use Rattle.std.specs.Option.{option_or}
-use Rattle.std.proofs.lemmas.List.{append_assoc, drop-drop, length-drop}
+use Rattle.std.proofs.lemmas.List.{append_assoc, drop-drop, length-drop, length_push, get_or_append_left, get_or_push}
+use Rattle.std.proofs.lemmas.Bool.{cases_lt}
 use Rattle.std.proofs.lemmas.List.Concat.{flat_map-append}
 use Rattle.std.proofs.lemmas.List.Folds.{find-append}
 use Rattle.abuf_num.specs.declared.plain.Paint.{Paint}
 use Rattle.abuf_raster.specs.Triangle.{Triangle as OnScreen}
 use Rattle.abuf_obj.specs.declared.face.Face.{Face}
 use Rattle.abuf_obj.specs.declared.scene.Obj.{Obj}
-use Rattle.abuf_scene.specs.Triangles.{Look, is_unknown, triangles_of, Tells}
+use Rattle.abuf_scene.specs.Triangles.{Look, is_unknown, paint_by, triangles_of, Tells}
+use Rattle.abuf_scene.specs.Lookup.{line_if_none}
 use Rattle.abuf_scene.specs.declared.assembly.SceneFault.{SceneFault}
 use Rattle.abuf_scene.specs.declared.assembly.SceneFault.TheVariants.{UnknownMaterial, Memory}
 use Rattle.abuf_scene.specs.declared.triangles.Triangle.{Triangle}
@@ -137,3 +139,23 @@ module _ (look : Look) (obj : Obj) (eye : Eye) where
   answered faces whole (Ok made) are is = subst (IsRun look obj eye faces) is are
   answered faces whole (Err (UnknownMaterial line)) are is = subst (IsRun look obj eye faces) is are
   answered faces whole (Err Memory) are is = record { fault = tt; known = tt; tris = tt; paints = tt }
+
+-- one run more of faces that are cut
+pub cut_more : (p : ℕ) (faces : List Face) (runs new : List (List Face)) (run : List Face) → new ≡ runs ++ run ∷ []
+    → ((n : ℕ) (d : List Face) → n < length runs → get_or runs n d ≡ take p (drop (n * p) faces)) → run ≡ take p (drop (length runs * p) faces)
+    → (n : ℕ) (d : List Face) → n < length new → get_or new n d ≡ take p (drop (n * p) faces)
+cut_more p faces runs new run is each last n d within =
+    let few : length new ≡ length runs + 1 = ap length is ∙ length_push runs run in
+    ap (λ (rs : List (List Face)). get_or rs n d) is
+    ∙ ⊎_elim (λ (h : n < length runs). get_or_append_left runs (run ∷ []) d n h ∙ each n d h)
+    (λ (h : length runs ≤ n). let e : length runs ≡ n = omega (arith, few, within) in get_or_push runs run d n e ∙ (last ∙ ap (λ (k : ℕ). take p (drop (k * p) faces)) e)) (cases_lt n (length runs))
+
+-- A face with a known material isn't the first of those whose material is unknown.
+passed : (found : Option Paint) (line : ℕ) (face : Face) (more : Option Face) → line_if_none line found ≡ None → more ≡ cond (is_none found) (Some face) more
+passed (Some paint) line face more known = refl
+passed None line face more known = absurd (let e : Some line ≡ None = known in cc)
+
+pub next_known : (look : Look) (names : List (List ℕ)) (face : Face) (left later : List Face) → left ≡ face ∷ later → line_if_none face.line (paint_by look names face.name) ≡ None
+    → find (is_unknown look names) later ≡ find (is_unknown look names) left
+next_known look names face left later is known =
+    passed (paint_by look names face.name) face.line face (find (is_unknown look names) later) known ∙ sym (ap (find (is_unknown look names)) is)

@@ -13,6 +13,11 @@ use Rattle.abuf_view.specs.declared.primitive_lists.PrimitiveLists.{PrimitiveLis
 abbrev pub unknown_in : Look → List (List ℕ) → List Face → Option ℕ
 unknown_in look names faces = option_map (λ face. face.line) (find (is_unknown look names) faces)
 
+-- All faces in their order, in runs of so many.
+pub record AreCut (per_run : ℕ) (faces : List Face) (runs : List (List Face)) : Type 0 where
+  pub all : length faces ≤ length runs * per_run
+  pub each : (n : ℕ) (d : List Face) → n < length runs → slice_index_or runs n d ≡ take per_run (drop (n * per_run) faces)
+
 module _ (look : Look) (obj : Obj) (eye : Eye) where
   -- What a worker gives of a run of the file's faces: all their primitives, or the first unknown material.
   pub record IsRun (faces : List Face) (run : Result PrimitiveLists SceneFault) : Type 0 where

@@ -1,25 +1,42 @@
 // Runs of faces, put together.
-ghost use Rattle.std.specs.Prelude.{◌≡◌, ◌++◌, [], OnOk, IfOk};
-ghost use Rattle.abuf_view.specs.Runs.{together, IsAnswer};
+ghost use Rattle.std.specs.Prelude.{◌≡◌, ◌≤◌, ◌++◌, [], OnOk, IfOk};
+ghost use Rattle.abuf_view.specs.Runs.{together, AreCut, IsAnswer};
 
 use crate::primitive_lists::PrimitiveLists;
 use abuf_num::{List, NoMemory};
-use abuf_obj::Face;
+use abuf_obj::FaceSlice;
 use abuf_scene::SceneFault;
 use std::alloc::Global;
 
-// How many primitives the faces have where none is cut. It decides only how much memory is taken at once, so no clause tells it.
-fn primitives_of(faces: &[Face]) -> usize {
-    let mut count: usize = 0;
-    for face in faces {
-        count = count.saturating_add(face.corners.as_slice().len().saturating_sub(2));
+// The faces in runs of so many; the last may have fewer.
+pub fn runs_of<'a>(
+    alloc: Global,
+    faces: FaceSlice<'a>,
+    per_run: usize,
+) -> Result<Vec<FaceSlice<'a>>, NoMemory>
+    requires { 1 ≤ per_run }
+    ensures { IfOk result (λ runs. AreCut per_run faces.entry runs.items) }
+{
+    let mut runs = Vec::new(alloc);
+    let mut left = faces;
+    while left.len() > 0 {
+        let (run, later) = left.split_at(per_run.min(left.len()));
+        runs.push(run)?;
+        left = later;
     }
-    count
+    Ok(runs)
+}
+
+// How many primitives the faces have where none is cut. It decides only how much memory is taken at once, so no clause tells it.
+fn primitives_of(faces: &FaceSlice) -> usize {
+    faces
+        .corner_count()
+        .saturating_sub(faces.len().saturating_mul(2))
 }
 
 // No primitives, with room for those of the faces. Taken before the workers' own lists, this room lies below them in memory: what
 // they free is then one piece, into which the words of a frame fit.
-pub fn room_for(alloc: Global, faces: &[Face]) -> Result<PrimitiveLists, NoMemory>
+pub fn room_for(alloc: Global, faces: &FaceSlice) -> Result<PrimitiveLists, NoMemory>
     ensures tris { IfOk result (λ p. p.tris ≡ []) }
     ensures paints { IfOk result (λ p. p.paints ≡ []) }
 {

@@ -15,13 +15,13 @@ use crate::point_table::PointTable;
 use crate::primitive_lists::PrimitiveLists;
 use crate::primitive_lists::faces::project_run;
 use crate::projection::Projected;
-use crate::runs::{put_together, room_for};
+use crate::runs::{put_together, room_for, runs_of};
 use abuf_mtl::Materials;
 use abuf_num::NoMemory;
-use abuf_obj::Obj;
+use abuf_obj::FlatObj;
 use abuf_scene::SceneFault;
 use std::alloc::Global;
-use std::thread::{Threads, map_chunks};
+use std::thread::{Threads, map_vec};
 
 // The least number of faces for each of several workers. Starting a thread takes as long as making the primitives of some
 // hundred faces.
@@ -45,7 +45,7 @@ fn project_runs<R: Threads + Sync>(
     rt: &R,
     alloc: Global,
     table: &PointTable,
-    obj: &Obj,
+    obj: &FlatObj,
     palette: &Palette,
     per_run: usize,
 ) -> Result<Vec<Result<PrimitiveLists, SceneFault>>, NoMemory>
@@ -55,14 +55,13 @@ fn project_runs<R: Threads + Sync>(
     requires per_run { 1 ≤ per_run }
     ensures { IfOk result (λ runs. AreRuns (look_up palette.now.materials.value) obj.now table.now.eye per_run obj.now.faces runs.items) }
 {
-    let runs = map_chunks(
+    let runs = runs_of(alloc, obj.faces(), per_run)?;
+    let made = map_vec(
         rt,
-        alloc,
-        obj.faces.as_slice(),
-        per_run,
-        &|_, run| project_run(alloc, table, obj, palette, run),
+        runs,
+        &|run| project_run(alloc, table, obj, palette, run),
     )?;
-    Ok(runs)
+    Ok(made)
 }
 
 // The primitives of all faces as the eye of the table sees them, by the paints of the palette. Where one run of so many
@@ -71,7 +70,7 @@ pub fn all_faces<R: Threads + Sync>(
     rt: &R,
     alloc: Global,
     table: &PointTable,
-    obj: &Obj,
+    obj: &FlatObj,
     palette: &Palette,
     per_run: usize,
 ) -> Result<PrimitiveLists, SceneFault>
@@ -84,11 +83,11 @@ pub fn all_faces<R: Threads + Sync>(
     ensures tris { IfOk result (λ p. p.tris ≡ tris_by table.now.eye (triangles_by (look_up palette.now.materials.value) obj.now)) }
     ensures paints { IfOk result (λ p. p.paints ≡ paints_by table.now.eye (triangles_by (look_up palette.now.materials.value) obj.now)) }
 {
-    let faces = obj.faces.as_slice();
+    let faces = obj.faces();
     if faces.len() <= per_run {
         return project_run(alloc, table, obj, palette, faces);
     }
-    let room = room_for(alloc, faces)?;
+    let room = room_for(alloc, &faces)?;
     let runs = project_runs(rt, alloc, table, obj, palette, per_run)?;
     put_together(room, runs)
 }
@@ -100,7 +99,7 @@ pub fn all_faces<R: Threads + Sync>(
 pub fn project_faces<R: Threads + Sync>(
     rt: &R,
     alloc: Global,
-    obj: &Obj,
+    obj: &FlatObj,
     materials: &Materials,
     camera: &Camera,
     threads: u32,
@@ -114,16 +113,9 @@ pub fn project_faces<R: Threads + Sync>(
     ensures paints { (libraries : Items (Items ℕ)) → StandsFor libraries materials.now →
         HasPaints result (prims camera.now (triangles libraries obj.now)) }
 {
-    let faces = obj.faces.as_slice().len();
-    let table = PointTable::new(
-        rt,
-        alloc,
-        camera.eye(),
-        obj.points.as_slice(),
-        faces,
-        threads,
-    )?;
-    let palette = Palette::new(alloc, &obj.names, materials)?;
+    let faces = obj.faces().len();
+    let table = PointTable::new(rt, alloc, camera.eye(), obj.points(), faces, threads)?;
+    let palette = Palette::new(alloc, obj.names(), materials)?;
     let per_run = faces_per_run(faces, LEAST_RUN, threads);
     let made = all_faces(rt, alloc, &table, obj, &palette, per_run)?;
     Ok(made.into_projected())

@@ -8,7 +8,7 @@ use abuf_io::{Fetch, Shelf, Source, read_all};
 use abuf_mtl::{Materials, MtlFault, read_mtl};
 use abuf_num::List;
 use abuf_num::limits::MAX_BYTES;
-use abuf_obj::read_obj;
+use abuf_obj::read_obj_on_threads;
 use abuf_view::{Projected, project_faces};
 use std::alloc::Global;
 use std::thread::Threads;
@@ -57,8 +57,8 @@ pub fn load<R: Threads + Sync, S: Source, H: Shelf>(
     shelf: &mut H,
 ) -> Result<Projected, Stop> {
     let bytes = read_all(alloc, source, MAX_BYTES)?;
-    let obj = read_obj(alloc, bytes.as_slice())?;
-    let materials = read_libraries(alloc, shelf, obj.libraries.as_slice())?;
+    let obj = read_obj_on_threads(rt, alloc, bytes.as_slice(), job.threads())?;
+    let materials = read_libraries(alloc, shelf, obj.libraries().as_slice())?;
     let shown = project_faces(rt, alloc, &obj, &materials, job.camera(), job.threads())?;
     Ok(shown)
 }

@@ -5,7 +5,7 @@ ghost use Rattle.abuf_num.specs.declared.limits.TheConstants.{MAX_DEPTH, MAX_SID
 ghost use Rattle.abuf_raster.specs.Triangle.{IsWithin};
 ghost use Rattle.abuf_raster.specs.Samples.{offsets_of};
 ghost use Rattle.abuf_raster.specs.Coverage.{covers};
-ghost use Rattle.abuf_raster.specs.Depth.{weighted_depth, depth_key, spread, IsLeastKey, IsGreatestKey, IsLeastQuotient, IsGreatestQuotient, greatest_depth, HasNoKeyAbove};
+ghost use Rattle.abuf_raster.specs.Depth.{weighted_depth, depth_key, spread, IsLeastKey, IsGreatestKey, IsLeastQuotient, IsGreatestQuotient, least_depth, greatest_depth, HasNoKeyAbove, HasNoKeyBelow};
 
 use crate::edge::edge_function;
 use crate::pattern::{Pattern, sample_place};
@@ -102,6 +102,15 @@ impl ScreenTri {
         let low = quotient_below(sum, spread, area);
         let high = quotient_above(sum, spread, area);
         (low.min(high), high)
+    }
+
+    /// The least of the depth values at its corners, below which no depth key is.
+    #[inline(always)]
+    pub fn least_depth(&self) -> u32
+        ensures value { result ≡ least_depth self.now }
+        ensures keys { HasNoKeyBelow self.now result }
+    {
+        self.qa.min(self.qb.min(self.qc))
     }
 
     /// The greatest of the depth values at its corners, which no depth key passes.

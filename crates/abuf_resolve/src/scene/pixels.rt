@@ -1,5 +1,5 @@
 // The sums of one pixel.
-ghost use Rattle.std.specs.Prelude.{◌≡◌, ℕ, ◌∷◌, [], ◌<◌, true, length, IfOk};
+ghost use Rattle.std.specs.Prelude.{◌≡◌, ℕ, ◌∷◌, [], ◌<◌, true, length, IfOk, IfSome};
 ghost use Rattle.std.specs.List.{All};
 ghost use Rattle.abuf_raster.specs.Samples.{offsets_of};
 ghost use Rattle.abuf_resolve.specs.Scene.{colour_at, laid_at, sum_at, IsFragmentOf, AscendIn};
@@ -11,6 +11,7 @@ use crate::fold::lay_all;
 use crate::fragment_words::FragmentWord;
 use crate::having::{Having, are_apart};
 use crate::order::order_from;
+use crate::planes::Scope;
 use crate::scene::bounded::Bounded;
 use crate::scene::{Pixel, Scene};
 use crate::tally::Tally;
@@ -244,6 +245,24 @@ impl<'a, 'b> Scene<'a, 'b> {
         Ok(sum)
     }
 
+    /// The sums of a pixel with two fragments, if bounds of their depths tell which lies above the other.
+    fn sums_of_pair(&self, first: u64, second: u64, at: Pixel, scope: Scope) -> Option<PixelSum>
+        requires first { IsFragmentOf self.now at first }
+        requires second { IsFragmentOf self.now at second }
+        ensures value { IfSome result (λ sum. sum ≡ sum_at self.now at (first ∷ second ∷ [])) }
+        ensures small { IfSome result (λ sum. IsSmall (length (offsets_of self.now.pattern)) sum) }
+    {
+        let first = self.bounded(first, at, scope);
+        let second = self.bounded(second, at, scope);
+        if self.stay_in_order(&[first, second], at) {
+            Some(self.laid_pair(first.word, second.word))
+        } else if self.stay_in_order(&[second, first], at) {
+            Some(self.laid_pair(second.word, first.word))
+        } else {
+            None
+        }
+    }
+
     /// The sums of a pixel with two fragments.
     fn sums_of_two(
         &self,
@@ -261,12 +280,10 @@ impl<'a, 'b> Scene<'a, 'b> {
         if are_apart(&words) {
             return Ok(self.laid_pair(first, second));
         }
-        let first = self.bounded(first, at);
-        let second = self.bounded(second, at);
-        if self.stay_in_order(&[first, second], at) {
-            Ok(self.laid_pair(first.word, second.word))
-        } else if self.stay_in_order(&[second, first], at) {
-            Ok(self.laid_pair(second.word, first.word))
+        if let Some(sum) = self.sums_of_pair(first, second, at, Scope::Triangle) {
+            Ok(sum)
+        } else if let Some(sum) = self.sums_of_pair(first, second, at, Scope::Pixel) {
+            Ok(sum)
         } else {
             self.sums_by_sample(keys, &words, at)
         }

@@ -155,7 +155,11 @@ fn images_of(alloc: Global, job: &Job, shots: List<Shot>, loaded: Loaded) -> Res
     ensures cause { IfErr result (HasReadCause ⊥) }
     ensures own { IfOk result (IsTaskOf (Ok job.now)) }
 {
-    let scene = assemble(alloc, &loaded.obj, &loaded.materials)?;
+    let Loaded { obj, materials } = loaded;
+    let Ok(obj) = obj.into_obj(alloc) else {
+        return Err(Stop::Memory);
+    };
+    let scene = assemble(alloc, &obj, &materials)?;
     Ok(Task::Sequence(Images::new(scene, shots, plan_of(job))))
 }
 

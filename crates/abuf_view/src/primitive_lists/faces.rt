@@ -10,7 +10,7 @@ use crate::palette::Palette;
 use crate::point_table::PointTable;
 use crate::primitive_lists::PrimitiveLists;
 use abuf_num::{NoMemory, Paint};
-use abuf_obj::{Face, Obj};
+use abuf_obj::{FaceRef, FaceSlice, FlatObj};
 use abuf_scene::{SceneFault, fan_triangle};
 use std::alloc::Global;
 
@@ -59,9 +59,9 @@ impl PrimitiveLists {
     fn push_face(
         &mut self,
         table: &PointTable,
-        obj: &Obj,
+        obj: &FlatObj,
         palette: &Palette,
-        face: &Face,
+        face: &FaceRef,
     ) -> Result<(), SceneFault>
         requires points { table.now.points.now ≡ obj.now.points }
         requires names { palette.now.names.value ≡ obj.now.names }
@@ -76,7 +76,7 @@ impl PrimitiveLists {
         match palette.paint_of(face.name) {
             None => Err(SceneFault::UnknownMaterial { line: face.line }),
             Some(paint) => {
-                self.push_fan(table, face.corners.as_slice(), paint)?;
+                self.push_fan(table, face.corners, paint)?;
                 Ok(())
             }
         }
@@ -87,21 +87,23 @@ impl PrimitiveLists {
 pub fn project_run(
     alloc: Global,
     table: &PointTable,
-    obj: &Obj,
+    obj: &FlatObj,
     palette: &Palette,
-    faces: &[Face],
+    faces: FaceSlice,
 ) -> Result<PrimitiveLists, SceneFault>
     requires points { table.now.points.now ≡ obj.now.points }
     requires names { palette.now.names.value ≡ obj.now.names }
-    requires faces { All (IsFace (length obj.now.points) (length obj.now.names)) faces.now }
-    ensures fault { IfErr result (Tells (unknown_in (look_up palette.now.materials.value) obj.now.names faces.now)) }
-    ensures known { OnOk result (unknown_in (look_up palette.now.materials.value) obj.now.names faces.now ≡ None) }
-    ensures tris { IfOk result (λ p. p.tris ≡ tris_by table.now.eye (flat_map (triangles_of (look_up palette.now.materials.value) obj.now) faces.now)) }
-    ensures paints { IfOk result (λ p. p.paints ≡ paints_by table.now.eye (flat_map (triangles_of (look_up palette.now.materials.value) obj.now) faces.now)) }
+    requires faces { All (IsFace (length obj.now.points) (length obj.now.names)) faces }
+    ensures fault { IfErr result (Tells (unknown_in (look_up palette.now.materials.value) obj.now.names faces.entry)) }
+    ensures known { OnOk result (unknown_in (look_up palette.now.materials.value) obj.now.names faces.entry ≡ None) }
+    ensures tris { IfOk result (λ p. p.tris ≡ tris_by table.now.eye (flat_map (triangles_of (look_up palette.now.materials.value) obj.now) faces.entry)) }
+    ensures paints { IfOk result (λ p. p.paints ≡ paints_by table.now.eye (flat_map (triangles_of (look_up palette.now.materials.value) obj.now) faces.entry)) }
 {
     let mut made = PrimitiveLists::with_room(alloc, faces.len())?;
-    for face in faces {
-        made.push_face(table, obj, palette, face)?;
+    let mut left = faces;
+    while let Some((face, later)) = left.split_first() {
+        made.push_face(table, obj, palette, &face)?;
+        left = later;
     }
     Ok(made)
 }

@@ -1,14 +1,13 @@
-use Rattle.std.proofs.Common.{◌∙◌, sym, subst, ℕ, List, arith}
-use Rattle.abuf_obj.specs.Corners.{AreCorners}
+use Rattle.std.proofs.Common.{◌∙◌, sym, arith}
 use Rattle.abuf_obj.proofs.Joining.{counted-none, counted-first, are_corners}
 use Rattle.abuf_obj.proofs.corners.few_corners.Goals as goal
 
-pub returns-in_ok-places-2 : goal.returns-in_ok-places-2
-returns-in_ok-places-2 c =
+pub returns-then-is_end-2 : goal.returns-then-is_end-2
+returns-then-is_end-2 c =
     let above = c.args.above in
     let fourth = counted-first above _ _ c.in-Some-next_place-3.fourth _ (sym c.next_place-4.ensures.value ∙ c.in-Some-next_place-3.is) c.in-Some-next_place-3.ensures.rest
     (counted-none above _ (c.is_end-2.ensures c.if-is_end-2.true)) in
     let third = counted-first above _ _ c.in-Some-next_place-2.third _ (sym c.next_place-3.ensures.value ∙ c.in-Some-next_place-2.is) c.in-Some-next_place-2.ensures.rest fourth in
     let second = counted-first above _ _ c.in-Some-next_place.second _ (sym c.next_place-2.ensures.value ∙ c.in-Some-next_place.is) c.in-Some-next_place.ensures.rest third in
     let first = counted-first above _ _ c.in-Some.first _ (sym c.next_place.ensures.value ∙ c.in-Some.is) c.in-Some.ensures.rest second in
-    subst (λ (list : List ℕ). AreCorners above c.args.elements list) (sym (c.from_vec-then-is_end-2.ensures ∙ c.in_ok-places-2.ensures.items)) (are_corners above _ _ first (omega arith) (omega arith))
+    are_corners above _ _ first (omega arith) (omega arith)

@@ -1,23 +1,18 @@
-use Rattle.std.proofs.Common.{◌≡◌, ◌<◌, ℕ, List, None, length, get_or, arith, sym, subst}
+use Rattle.std.proofs.Common.{◌<◌, ℕ, List, length, get_or, arith, sym, subst}
 use Rattle.std.specs.Prelude.{IfSome}
-use Rattle.abuf_obj.specs.Scene.{astray_line}
-use Rattle.abuf_obj.specs.Sound.{IsScene}
-use Rattle.abuf_obj.specs.declared.face.Face.{Face}
 use Rattle.abuf_obj.proofs.Late.{faces_below}
 use Rattle.abuf_obj.proofs.scene.finish.Goals as goal
 
 pub returns-clause-scene : goal.returns-clause-scene
 returns-clause-scene c = λ none.
     let r = c.args.reader in
-    let same = c.in_ok-faces.ensures in
-    let within : astray_line (length r.points) r.faces ≡ None = subst (λ (fs : List Face). astray_line (length r.points) fs ≡ None) same none in
-    let below = faces_below (length r.points) (omega (arith, r.few_points)) r.faces within in
-    subst (λ (fs : List Face). IsScene (record { points = r.points; faces = fs; names = c.into_list-2.result; libraries = c.into_list-3.result })) (sym same) (record {
+    let below = faces_below (length r.points) (omega (arith, r.few_points)) r.faces none in
+    record {
       near = r.near;
       faces = λ k d here. record {
         three = (r.fans k d here).0;
         corners = below k d here;
-        name = subst (λ (names : List (List ℕ)). IfSome (get_or r.faces k d).name (λ n. n < length names)) (sym c.into_list-2.ensures) (r.fans k d here).1;
+        name = subst (λ (names : List (List ℕ)). IfSome (get_or r.faces k d).name (λ n. n < length names)) (sym c.into_list.ensures) (r.fans k d here).1;
       };
       few = omega (arith, r.counts, r.few_triangles);
-    })
+    }

@@ -21,8 +21,8 @@ returns g c =
       names = record { names = start.ensures.names ∙ c.new.ensures; libraries = start.ensures.libraries ∙ c.new-2.ensures; name = start.ensures.name };
     } in
     let whole : HasPiece [] all r = c.in_ok-reader.ensures [] refl begin in
-    let o = c.in_ok-obj.obj in
-    let made = c.in_ok-obj.ensures in
+    let o = c.finish-obj.result in
+    let made = c.finish-obj.ensures in
     let few : length o.points ≤ 1048576 = omega (arith, r.few_points, ap length made.points) in
     let points_are = made.points ∙ whole.points in
     let faces_are = made.faces ∙ whole.faces in

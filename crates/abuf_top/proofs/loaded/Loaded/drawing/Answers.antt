@@ -5,6 +5,7 @@ use Rattle.abuf_scene.specs.Triangles.{triangles, unknown}
 use Rattle.abuf_scene.specs.declared.triangles.Triangle.{Triangle}
 use Rattle.abuf_view.specs.Camera.{Camera}
 use Rattle.abuf_view.specs.Primitives.{prims}
+use Rattle.abuf_view.specs.declared.projection.Projected.{Projected}
 use Rattle.abuf_cli.specs.Job.{Job}
 use Rattle.abuf_cli.specs.declared.job.What.{What}
 use Rattle.abuf_top.specs.Image.{Drawing}
@@ -30,4 +31,6 @@ pub returns-clause-told : goal.returns-clause-told
 returns-clause-told g c = λ libraries stands.
     let shown = c.in_ok-shown.ensures in
     drawn c.args.job c.args.what c.camera.result.now (unknown libraries c.args.self.obj) (triangles libraries c.args.self.obj) _ _ c.new.result
-    c.camera.ensures.value (shown.known libraries stands) (shown.tris libraries stands) (shown.paints libraries stands) c.new.ensures
+    c.camera.ensures.value (shown.known libraries stands)
+    (ap (λ (p : Projected). p.tris) c.settled.ensures ∙ shown.tris libraries stands)
+    (ap (λ (p : Projected). p.paints) c.settled.ensures ∙ shown.paints libraries stands) c.new.ensures
