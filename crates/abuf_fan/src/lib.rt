@@ -10,7 +10,7 @@
 //!
 //! `most_fragments` tells beforehand how many fragments there are at most, so that a frame needn't have more nodes than that.
 //!
-//! That the workers run at the same time is not promised.
+//! Whether the workers run at the same time is not promised.
 #![tactic(auto)]
 
 mod drawing;

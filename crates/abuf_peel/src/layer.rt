@@ -61,7 +61,7 @@ impl Layer {
         })
     }
 
-    /// Its region.
+    /// The region of the layer.
     pub(crate) fn region(&self) -> Region
         ensures { result ≡ self.now.region }
     {

@@ -69,7 +69,7 @@ pub fn write_resolved<R: Threads + Sync, O: Sink, W: Resolve, G: Gate + Sync>(
     Outcome { result, closed }
 }
 
-/// The same by compositing, which gives what the definition says.
+/// Draws and writes like [`write_resolved`], by `Compositing`, which gives what the definition says.
 pub fn write_output<R: Threads + Sync, O: Sink, G: Gate + Sync>(
     rt: &R,
     alloc: Global,

@@ -60,7 +60,7 @@ pub(crate) fn advance(
     Ok(words.word(node + 1))
 }
 
-// The same in each lane. No lane's loads wait for those of another.
+// Each lane passes one node, as by `advance`. No lane's loads wait for those of another.
 #[inline(always)]
 fn advance_all(
     words: &Still,
