@@ -21,11 +21,11 @@ use std::alloc::Global;
 /// What a worker keeps from one pixel to the next, so that few of them take memory.
 #[derive(Drop)]
 pub(crate) struct Buffers {
-    /// The fragments of a pixel, with their bounds,
+    /// The fragments of a pixel, with their bounds.
     fragments: Vec<Bounded>,
-    /// their words in order,
+    /// The words of a pixel's fragments, in order.
     words: Vec<u64>,
-    /// and the words of one sample.
+    /// The words of one sample.
     keys: Vec<u64>,
 }
 

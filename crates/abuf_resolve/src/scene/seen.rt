@@ -40,7 +40,7 @@ impl<'a, 'b> Scene<'a, 'b> {
     }
 
     /// The fragments that have sample k and may be seen there, as words of that sample, in the order of the list, with the least
-    /// that is seen: what an opaque one hides, which stands before it in the list, isn't even kept.
+    /// that is seen. A fragment isn't even kept if an opaque one that precedes it in the list hides it.
     pub(crate) fn gather_seen(
         &self,
         keys: &mut Vec<u64>,
