@@ -1,4 +1,4 @@
--- How the weighted depth of a triangle changes from place to place.
+-- How the weighted depth of a triangle changes from position to position.
 use Rattle.std.specs.Prelude.{ℕ, ℤ, pos, ◌+ℤ◌, ◌-ℤ◌, ◌*ℤ◌}
 use Rattle.abuf_raster.specs.Triangle.{Triangle}
 

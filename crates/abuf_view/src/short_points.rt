@@ -9,7 +9,7 @@ use crate::point::Point3;
 use crate::screen::corner;
 use abuf_raster::ScreenTri;
 
-/// A point on the screen: its place in 1/256 pixel, each coordinate below 2^31 either way, and its depth value.
+/// A point on the screen: its position in 1/256 pixel, each coordinate below 2^31 either way, and its depth value.
 #[derive(Clone, Copy)]
 pub struct ShortPoint {
     pub x: i32,
