@@ -21,7 +21,7 @@ use abuf_io::{Shelf, Sink, Source, write_all};
 use std::alloc::Global;
 use std::thread::Threads;
 
-/// What a run answers.
+/// What a run returns.
 #[derive(Drop)]
 pub struct Ran {
     /// The number of the run's [`Status`](crate::Status): that of the process, from 0 to 9; 1 never comes.
@@ -39,7 +39,7 @@ fn say<E: Sink>(err: &mut E, line: &[u8])
     let _ = write_all(err, line);
 }
 
-// Says how the run stopped, and answers its status.
+// Says how the run stopped, and returns its status.
 fn report<E: Sink>(alloc: Global, err: &mut E, stop: Stop) -> Status
     ensures { Reports stop result (sink_change E.taken E.faults err.old err.new) }
 {
@@ -79,7 +79,7 @@ fn report<E: Sink>(alloc: Global, err: &mut E, stop: Stop) -> Status
     }
 }
 
-// Says why the run stopped, where it did, and answers its status.
+// Says why the run stopped, where it did, and returns its status.
 fn tell<E: Sink>(alloc: Global, err: &mut E, ended: Result<(), Stop>) -> Status
     ensures { Tells ended result (sink_change E.taken E.faults err.old err.new) }
 {

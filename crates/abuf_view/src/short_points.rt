@@ -39,7 +39,7 @@ fn short_of(x: Option<i32>, y: Option<i32>, depth: u32) -> Option<ShortPoint>
     }
 }
 
-/// Where the eye sees a point of the scene. None comes where the point is behind the near plane, or so far beside the screen that
+/// Where the eye sees a point of the scene. Returns `None` if the point is behind the near plane, or so far beside the screen that
 /// its coordinates aren't short.
 pub fn short_point(eye: &Eye, point: [i64; 3]) -> Option<ShortPoint>
     requires eye { IsEye eye.now }

@@ -41,7 +41,7 @@ fn all_ended(at: &[u64; 8]) -> bool
     *at == [0; 8]
 }
 
-// Passes the node to which the word refers, if it isn't 0: puts its payload last in the list, and answers its next.
+// Passes the node to which the word refers, if it isn't 0: puts its payload last in the list, and returns its next.
 #[inline(always)]
 pub(crate) fn advance(
     words: &Still,

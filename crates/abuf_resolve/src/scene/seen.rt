@@ -11,8 +11,8 @@ use crate::scene::{Pixel, Scene};
 use abuf_num::NoMemory;
 
 impl<'a, 'b> Scene<'a, 'b> {
-    /// Puts the word of a fragment in sample k last, which it has, unless it is known to be hidden there, and answers the least that is
-    /// then seen. The key isn't worked out where no key of the triangle reaches the least.
+    /// Puts the word of a fragment in sample k last, which it has, unless it is known to be hidden there, and returns the least
+    /// that is then seen. The key isn't worked out where no key of the triangle reaches the least.
     #[inline(always)]
     fn push_fragment(
         &self,
