@@ -29,7 +29,8 @@ def alphas():
         drawing.square(i, 0, i + 1, 6)
     yield drawing.case("Films from invisible on the left to opaque on the right lie on white, on a "
                        "colour and on the black background.")
-    yield drawing.case("The same as 16-bit values.", "alphas-65535", more="--maxval 65535")
+    yield drawing.case("Films from invisible to opaque on white, on a colour and on black, as 16-bit values.",
+                       "alphas-65535", more="--maxval 65535")
 
 
 def over():
@@ -54,7 +55,7 @@ def over():
     yield drawing.case("A film in each column over a colour in each row, as 16-bit values: both "
                        "products of over are rounded by themselves, in every step.",
                        more="--maxval 65535")
-    yield drawing.case("The same over a background and with 4 samples.", "over-4", samples=4,
+    yield drawing.case("A film in each column over a colour in each row, on a background and with 4 samples.", "over-4", samples=4,
                        more="--maxval 65535 --background 0.3,0.6,0.9")
 
 
@@ -71,7 +72,7 @@ def layers():
         yield drawing.case(f"{count:,} films lie behind each other, the nearest first in the file; "
                            "each step is rounded.", more="--maxval 65535")
         if count == 200:
-            yield drawing.case("The same as 8-bit values.", "layers-200-8-bit")
+            yield drawing.case(f"{count} films lie behind each other, as 8-bit values.", "layers-200-8-bit")
 
 
 def order():
@@ -126,7 +127,7 @@ def backgrounds():
     words = "render --size 6x4 --nodes 1 --background 0.2,0.4,0.6"
     yield Case("empty", "A scene without faces is the background.", f"abuf {words} < empty.obj",
                empty)
-    yield Case("empty-65535", "The same as 16-bit values.",
+    yield Case("empty-65535", "A scene without faces is the background, as 16-bit values.",
                f"abuf {words} --maxval 65535 < empty.obj", empty)
 
 
@@ -141,10 +142,11 @@ def values():
         drawing.square(i, 0, i + 1, 4)
     yield drawing.case("Greys beside the places where 8-bit values change: each is the nearest of "
                        "256 values.")
-    yield drawing.case("The same as 16-bit values, which are those of the paints.", "values-65535",
+    yield drawing.case("Greys beside the places where 8-bit values change, as 16-bit values, which are those of "
+                       "the paints.", "values-65535",
                        more="--maxval 65535")
     for samples in (2, 4, 8, 16):
-        yield drawing.case("The same moved by 5/16 pixel to the right and down: the mean of "
+        yield drawing.case("Greys moved by 5/16 pixel to the right and down: the mean of "
                            f"{samples} "
                            "samples is rounded, halves upwards.", f"values-{samples}",
                            samples=samples, shift=(0.3125, 0.3125), more="--maxval 65535")

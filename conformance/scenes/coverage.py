@@ -30,7 +30,7 @@ def directions():
         "left edges and level top edges cover those centres, all others don't.")
     for samples, k in ((2, 1), (4, 0), (8, 7), (16, 15)):
         yield drawing.case(
-            f"The same edges through sample {k} of {samples}, with the other samples beside them.",
+            f"Edges in sixteen directions run through sample {k} of {samples}, with the other samples beside them.",
             f"directions-{samples}", samples=samples, shift=at_sample(samples, k))
 
 
@@ -45,7 +45,8 @@ def corners():
     yield drawing.case(
         "All three corners of each triangle lie on pixel centres, in sixteen orientations: a "
         "corner covers its centre only where both of its edges do.")
-    yield drawing.case("The same corners on sample 3 of 8.", "corners-8", samples=8,
+    yield drawing.case("All three corners of each triangle lie on sample 3 of 8, in sixteen "
+                       "orientations.", "corners-8", samples=8,
                        shift=at_sample(8, 3))
 
 
@@ -85,9 +86,9 @@ def fans():
     yield drawing.case(
         "Sixteen films meet in a vertex on a pixel centre, and all spokes run through centres: "
         "each pixel is covered by one of them and none twice.")
-    yield drawing.case("The same fan about sample 4 of 8.", "fan-8", samples=8,
+    yield drawing.case("The fan of sixteen films about sample 4 of 8.", "fan-8", samples=8,
                        shift=at_sample(8, 4))
-    yield drawing.case("The same fan about sample 12 of 16, on the left side of its pixel.",
+    yield drawing.case("The fan of sixteen films about sample 12 of 16, on the left side of its pixel.",
                        "fan-16", samples=16, shift=at_sample(16, 12))
 
     drawing = Drawing("polygon", 17, 17)
@@ -144,7 +145,8 @@ def shared_edges():
         drawing.face((0.5 + 4 * i, 0.5 + 5 * i), (4.5 + 4 * i, 5.5 + 5 * i), (15.5, 0.5))
     yield drawing.case("One edge has three on its other side, with corners in its middle that lie "
                        "exactly on it: no gap, and no pixel twice.")
-    yield drawing.case("The same junction through sample 5 of 16.", "junction-16", samples=16,
+    yield drawing.case("One edge has three on its other side, with corners in its middle, through "
+                       "sample 5 of 16.", "junction-16", samples=16,
                        shift=at_sample(16, 5))
 
 
@@ -178,7 +180,7 @@ def mesh():
     yield drawing.case("A mesh of fifty films in mixed windings, most of whose vertices lie on "
                        "pixel centres: each pixel of it is covered once.")
     for samples in (4, 8, 16):
-        yield drawing.case(f"The same mesh with {samples} samples: each sample is covered once.",
+        yield drawing.case(f"The mesh of fifty films with {samples} samples: each sample is covered once.",
                            f"mesh-{samples}", samples=samples, shift=at_sample(samples, 2))
 
 

@@ -17,7 +17,7 @@ def crossing():
     pane(drawing, "blue_film", 1.25, 1.125, 0.625)
     for samples in (1, 2, 4, 8, 16):
         shows = ("Three panes cross, and each is on top where it is nearer." if samples == 1 else
-                 f"The same with {samples} samples: in a pixel that is crossed each sample has its "
+                 f"Three panes cross, with {samples} samples: in a pixel that is crossed each sample has its "
                  "own order.")
         yield drawing.case(shows, f"crossing-{samples}", samples=samples)
     yield drawing.case("The order in each sample of a pixel in which panes cross, with the depth "

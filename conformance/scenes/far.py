@@ -16,7 +16,8 @@ def sides():
         drawing.paint(("red_film", "green_film", "blue_film", "yellow_film")[i % 4])
         drawing.face((x - 3.5, y - 2.5), (x + 3.5, y - 3.5), (x + 1.5, y + 4.5))
     yield drawing.case("Triangles about the corners of the image and the middles of its sides.")
-    yield drawing.case("The same with 8 samples.", "sides-8", samples=8)
+    yield drawing.case("Triangles about the corners of the image and the middles of its sides, with "
+                       "8 samples.", "sides-8", samples=8)
 
     drawing = Drawing("beside", 8, 8)
     drawing.note("squares outside that share the sides of the image")
@@ -143,7 +144,7 @@ def limits():
     yield Case("limits", "Films whose corners lie as far out as coordinates reach, about 2^34 in "
                "1/256 pixel, share edges through pixel centres.",
                f"abuf render {words} < limits.obj", files)
-    yield Case("limits-16", "The same with 16 samples.",
+    yield Case("limits-16", "Films whose corners lie as far out as coordinates reach share edges, with 16 samples.",
                f"abuf render --samples 16 {words} < limits.obj", files)
 
     far = f"{FARTHEST * 5 ** 16}e-16"
@@ -174,7 +175,8 @@ def cases():
         "long-edges", 2 ** 11, "Slivers a few thousand pixels long, within common guard bands, "
         "with edges through pixel centres in eight directions.")
     yield from long_edges(
-        "longer-edges", 2 ** 16, "The same with slivers some hundred thousand pixels long.")
+        "longer-edges", 2 ** 16, "Slivers some hundred thousand pixels long, with edges through "
+        "pixel centres in eight directions.")
     yield from long_sides()
     yield from far_corners()
     yield from fans()

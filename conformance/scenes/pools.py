@@ -62,10 +62,10 @@ def cases():
     yield drawing.case(f"{shows} 32 nodes are just enough for the second.", nodes=32, more="--bands 3")
     yield drawing.case(f"{shows} One node less isn't enough for it.", "bands-one-more", nodes=31, status=5,
                        error="band 2 full: 32 fragments, 31 nodes", more="--bands 3")
-    yield drawing.case("The same squares in layers, which need no nodes.", "layers", nodes=1, more="--peel")
+    yield drawing.case("Three squares of 16 pixels in layers, which need no nodes.", "layers", nodes=1, more="--peel")
 
     yield Case("demo", "The scene of 200 triangles that demo makes.",
                "abuf demo 200 --size 64x48 --samples 4 --nodes 8192")
-    yield Case("demo-one-more", "The same with a pool that is too small.",
+    yield Case("demo-one-more", "The scene of 200 triangles that demo makes, with a pool that is too small.",
                "abuf demo 200 --size 64x48 --samples 4 --nodes 1000", status=5,
                error="pool full: 4787 fragments, 1000 nodes")

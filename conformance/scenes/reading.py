@@ -84,7 +84,7 @@ def faces():
              "v 8 -8 0"]
     yield case("fan", "A face is drawn as a fan about its first corner, here the tip of an arrow.",
                HEAD + lines(*arrow, "f 1 2 3 4"))
-    yield case("fan-next", "The same face from its second corner on: the fan goes beyond the "
+    yield case("fan-next", "An arrow drawn from its second corner on: the fan goes beyond the "
                "notch, and its triangles overlap.", HEAD + lines(*arrow, "f 2 3 4 1"))
     yield case("both-sides", "Both sides of a face are drawn.", HEAD + lines(
         "mtllib paints.mtl", *QUARTERS, "usemtl red", "f 1 2 5 4", "usemtl green", "f 9 6 5 8",

@@ -16,7 +16,7 @@ def scene(name, shows, error, *text, status=3, files=None, words=WORDS):
 
 
 def recipe(name, shows, error, *text):
-    """The same of a scene that is too long to be kept: counts, each with a line."""
+    """A refused scene that is too long to be kept, as counts, each with a line."""
     return Case(name, shows, f"abuf {WORDS} < {name}.obj", {f"{name}.obj.lines": lines(*text)}, 3,
                 error)
 
