@@ -19,7 +19,8 @@ def eight():
         drawing.face(*((*corner, 0.75 if one else 0.25) for corner, one in zip(corners, inside)))
     yield drawing.case("All eight cases of corners in front of the near plane and behind it: what "
                        "is left of the triangle lies before the grey whole of it.", more=HALF)
-    yield drawing.case("All eight cases of corners in front of the near plane and behind it, with 8 samples.", "eight-8", samples=8, more=HALF)
+    yield drawing.case("All eight cases of corners in front of the near plane and behind it, with "
+                       "8 samples.", "eight-8", samples=8, more=HALF)
 
 
 def numbers():
