@@ -27,22 +27,6 @@ pub fn runs_of<'a>(
     Ok(runs)
 }
 
-// How many primitives the faces have where none is cut. It decides only how much memory is taken at once, so no clause tells it.
-fn primitives_of(faces: &FaceSlice) -> usize {
-    faces
-        .corner_count()
-        .saturating_sub(faces.len().saturating_mul(2))
-}
-
-// No primitives, with room for those of the faces. Taken before the workers' own lists, this room lies below them in memory: what
-// they free is then one piece, into which the words of a frame fit.
-pub fn room_for(alloc: Global, faces: &FaceSlice) -> Result<PrimitiveLists, NoMemory>
-    ensures tris { IfOk result (λ p. p.tris ≡ []) }
-    ensures paints { IfOk result (λ p. p.paints ≡ []) }
-{
-    PrimitiveLists::with_room(alloc, primitives_of(faces))
-}
-
 // Puts the items of a run last.
 fn append<T: Drop>(items: &mut Vec<T>, run: Vec<T>) -> Result<(), NoMemory>
     ensures { OnOk result (items.new.items ≡ items.old.items ++ run.items) }
@@ -55,14 +39,14 @@ fn append<T: Drop>(items: &mut Vec<T>, run: Vec<T>) -> Result<(), NoMemory>
 // The primitives of all runs, in the order of the runs, put into lists that have none yet; or the refusal of the first that was
 // refused.
 pub fn put_together(
-    room: PrimitiveLists,
+    lists: PrimitiveLists,
     runs: Vec<Result<PrimitiveLists, SceneFault>>,
 ) -> Result<PrimitiveLists, SceneFault>
-    requires empty { (room.tris ≡ []) × (room.paints ≡ []) }
+    requires empty { (lists.tris ≡ []) × (lists.paints ≡ []) }
     ensures { IsAnswer (together runs.items) result }
 {
-    let mut tris = room.tris.into_vec();
-    let mut paints = room.paints.into_vec();
+    let mut tris = lists.tris.into_vec();
+    let mut paints = lists.paints.into_vec();
     for run in runs {
         let made = run?;
         append(&mut tris, made.tris.into_vec())?;

@@ -1,5 +1,5 @@
 // The primitives of a file's faces, on threads.
-ghost use Rattle.std.specs.Prelude.{◌≡◌, ◌*◌, ◌≤◌, ◌<◌, All, List as Items, ℕ, length, map, None, OnOk, IfOk, IfErr};
+ghost use Rattle.std.specs.Prelude.{◌≡◌, ◌*◌, ◌≤◌, ◌<◌, [], All, List as Items, ℕ, length, map, None, OnOk, IfOk, IfErr};
 ghost use Rattle.abuf_num.specs.declared.limits.TheConstants.{MAX_THREADS};
 ghost use Rattle.abuf_obj.specs.Sound.{IsScene};
 ghost use Rattle.abuf_mtl.specs.StandsFor.{StandsFor};
@@ -13,9 +13,10 @@ use crate::camera::Camera;
 use crate::palette::Palette;
 use crate::point_table::PointTable;
 use crate::primitive_lists::PrimitiveLists;
-use crate::primitive_lists::faces::project_run;
+use crate::primitive_lists::faces::{project_into, project_run};
 use crate::projection::Projected;
-use crate::runs::{put_together, room_for, runs_of};
+use crate::room::Room;
+use crate::runs::{put_together, runs_of};
 use abuf_mtl::Materials;
 use abuf_num::NoMemory;
 use abuf_obj::FlatObj;
@@ -64,16 +65,17 @@ fn project_runs<R: Threads + Sync>(
     Ok(made)
 }
 
-// The primitives of all faces as the eye of the table sees them, by the paints of the palette. Where one run of so many
-// faces has all of them, no thread is started.
+// The primitives of all faces as the eye of the table sees them, by the paints of the palette, in the room for them. Where one run
+// of so many faces has all of them, no thread is started.
 pub fn all_faces<R: Threads + Sync>(
     rt: &R,
-    alloc: Global,
+    room: Room,
     table: &PointTable,
     obj: &FlatObj,
     palette: &Palette,
     per_run: usize,
 ) -> Result<PrimitiveLists, SceneFault>
+    requires empty { (room.0 ≡ []) × (room.1 ≡ []) }
     requires points { table.now.points.now ≡ obj.now.points }
     requires names { palette.now.names.value ≡ obj.now.names }
     requires scene { IsScene obj.now }
@@ -83,27 +85,28 @@ pub fn all_faces<R: Threads + Sync>(
     ensures tris { IfOk result (λ p. p.tris ≡ tris_by table.now.eye (triangles_by (look_up palette.now.materials.value) obj.now)) }
     ensures paints { IfOk result (λ p. p.paints ≡ paints_by table.now.eye (triangles_by (look_up palette.now.materials.value) obj.now)) }
 {
+    let Room { alloc, lists } = room;
     let faces = obj.faces();
     if faces.len() <= per_run {
-        return project_run(alloc, table, obj, palette, faces);
+        return project_into(lists, table, obj, palette, faces);
     }
-    let room = room_for(alloc, &faces)?;
     let runs = project_runs(rt, alloc, table, obj, palette, per_run)?;
-    put_together(room, runs)
+    put_together(lists, runs)
 }
 
 /// What [`assemble`](abuf_scene::assemble) and then [`project`](crate::project) give: the primitives of the faces' triangles, in
 /// order, or the line of the first face whose name has no material. No list of the triangles is made, which would take 80 bytes each.
 /// The faces are shared among 1 to 64 workers, and the answer is the same for every number of them; where there are few, one
-/// worker has them all. Memory may run out at any time.
+/// worker has them all. The primitives are made in the room, which has none yet. Memory may run out at any time.
 pub fn project_faces<R: Threads + Sync>(
     rt: &R,
-    alloc: Global,
+    room: Room,
     obj: &FlatObj,
     materials: &Materials,
     camera: &Camera,
     threads: u32,
 ) -> Result<Projected, SceneFault>
+    requires room { (room.0 ≡ []) × (room.1 ≡ []) }
     requires scene { IsScene obj.now }
     requires threads { (1 ≤ threads) × (threads ≤ MAX_THREADS) }
     ensures fault { (libraries : Items (Items ℕ)) → StandsFor libraries materials.now → IfErr result (Tells (unknown libraries obj.now)) }
@@ -113,10 +116,11 @@ pub fn project_faces<R: Threads + Sync>(
     ensures paints { (libraries : Items (Items ℕ)) → StandsFor libraries materials.now →
         HasPaints result (prims camera.now (triangles libraries obj.now)) }
 {
+    let alloc = room.alloc;
     let faces = obj.faces().len();
     let table = PointTable::new(rt, alloc, camera.eye(), obj.points(), faces, threads)?;
     let palette = Palette::new(alloc, obj.names(), materials)?;
     let per_run = faces_per_run(faces, LEAST_RUN, threads);
-    let made = all_faces(rt, alloc, &table, obj, &palette, per_run)?;
+    let made = all_faces(rt, room, &table, obj, &palette, per_run)?;
     Ok(made.into_projected())
 }

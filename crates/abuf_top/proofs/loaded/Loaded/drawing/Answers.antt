@@ -32,5 +32,4 @@ returns-clause-told g c = λ libraries stands.
     let shown = c.in_ok-shown.ensures in
     drawn c.args.job c.args.what c.camera.result.now (unknown libraries c.args.self.obj) (triangles libraries c.args.self.obj) _ _ c.new.result
     c.camera.ensures.value (shown.known libraries stands)
-    (ap (λ (p : Projected). p.tris) c.settled.ensures ∙ shown.tris libraries stands)
-    (ap (λ (p : Projected). p.paints) c.settled.ensures ∙ shown.paints libraries stands) c.new.ensures
+    (shown.tris libraries stands) (shown.paints libraries stands) c.new.ensures
