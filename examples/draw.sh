@@ -8,8 +8,8 @@
 # NAME is that of a scene (lantern, panes, films, cube, crossing), or of one of its pictures (crossing-8, lantern-turning). The picture
 # is written as NAME.png into the folder, which is the current one if it isn't given; without Python as NAME.pam. The command is
 # printed. The program is that of --abuf, or of the variable ABUF, or ./abuf of this checkout, which proves and builds it the first
-# time. --unproved takes it as it is before its proof, which is compiled in about a minute. The status is that of the program, or 2
-# where something is missing.
+# time. --unproved takes the unproved program, which compiles in about a minute. The status is that of the program, or 2 if
+# something is missing.
 set -u
 top=$(cd "$(dirname "$0")/.." && pwd) || exit 2
 

@@ -293,7 +293,7 @@ def end_box(canvas: Canvas, lanes: str, y: float, name: str, gives: str) -> None
 def pipeline() -> str:
     with open(os.path.join(TOP, "crates.txt"), encoding="utf-8") as file:
         check_crates(file.read())
-    canvas = Canvas("The way of a scene through the crates")
+    canvas = Canvas("What happens to a scene in the crates")
     name, first, last = REGION
     top = EDGE + TALL + GAP
     places = row_places(top + 14)

@@ -30,7 +30,7 @@ pub record AreImageSums (triangles : List Triangle) (paints : List Paint) (image
   pub are : sums ≡ region_sums (offsets_of image.pattern) image.background triangles paints (whole_image image.width image.height)
   pub small : All (IsSmall (length (offsets_of image.pattern))) sums
 
--- This band, counted from 1, is the first whose fragments are more than the nodes, and has so many.
+-- The band of this number, from 1, is the first whose fragments are more than the nodes, and has so many.
 pub record IsFirstFull (triangles : List Triangle) (image : Banded) (band fragments nodes : ℕ) : Type 0 where
   pub from_one : 1 ≤ band
   pub first : first_full triangles image.pattern image.width image.height image.bands image.nodes ≡ Some (band - 1)

@@ -19,7 +19,8 @@ fn first_row(height: u32, count: u32, band: u32) -> u32
 }
 
 /// The pixels of a band of a region, counted from 0. Bands are groups of rows that follow each other from the top, and share the
-/// rows as evenly as whole rows can be shared.
+/// rows as evenly as whole rows can be shared. The index of a pixel counts within its band, so a band is an image of its own to the
+/// crates below.
 fn band_of(region: Region, count: u32, band: u32) -> Region
     requires count { (1 ≤ count) × (count ≤ region.h) }
     requires band { band < count }

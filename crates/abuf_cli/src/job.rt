@@ -31,7 +31,7 @@ pub enum What {
 /// What is to be done.
 #[derive(Drop)]
 pub enum Command {
-    /// One drawing, of which this is made.
+    /// A drawing, and what is made of it.
     Draw(What),
     /// An image for each shot of a path file, by `sequence`: the name of that file, which isn't empty.
     Sequence { name: List<u8> },
@@ -40,11 +40,11 @@ pub enum Command {
 /// How the fragments of an image are stored. `render` alone has bands or layers.
 #[derive(Clone, Copy, Debug, PartialEq, Eq)]
 pub enum Storage {
-    /// All of them in one frame.
+    /// All in one frame.
     OneFrame,
-    /// Those of one band of rows after another, in a frame of its own: the number of bands, from 1 to the height of the image.
+    /// In one band of rows after another, each with a frame of its own: the number of bands, from 1 to the height of the image.
     Bands(u32),
-    /// None: the image is peeled layer by layer.
+    /// Not at all: the image is peeled layer by layer.
     Layers,
 }
 

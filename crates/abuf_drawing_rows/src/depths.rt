@@ -38,7 +38,7 @@ fn key(t: &ScreenTri, x: u32, y: u32, pattern: Pattern, k: u32) -> Option<u32>
     }
 }
 
-// The same from a plane.
+// The key at the sample by a `DepthPlane`, or none where the triangle doesn't cover it.
 fn key_of_plane(t: &ScreenTri, x: u32, y: u32, pattern: Pattern, k: u32) -> Option<u32>
     requires x { x < MAX_SIDE }
     requires y { y < MAX_SIDE }

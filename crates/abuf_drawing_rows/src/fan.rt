@@ -27,7 +27,7 @@ fn halves_of(width: u32, height: u32) -> Option<[ScreenTri; 2]> {
     Some([upper, lower])
 }
 
-// Those of a square of 4 by 4 pixels.
+// The two halves of a square of 4 by 4 pixels.
 fn halves() -> Option<[ScreenTri; 2]> {
     halves_of(4, 4)
 }

@@ -81,7 +81,7 @@ fn twenty_films(alloc: Global) -> Result<Projected, Fail> {
     Ok(Projected { tris, paints })
 }
 
-// These are more layers than are found at once.
+// Twenty layers are more than the 16 that are found at once.
 #[test]
 fn the_nearest_of_twenty_films_shows(rt: HostRuntime) -> Result<(), Fail> {
     let alloc = rt.alloc();

@@ -157,7 +157,7 @@ fn is_fragment(tris: &[ScreenTri], word: u64, x: u32, y: u32, pattern: Pattern) 
     mask_at(&tris[prim], x, y, pattern) == (word % 65536) as u16
 }
 
-// So are all of these.
+// Each word is one of a fragment of the triangles in the pixel.
 fn are_fragments(tris: &[ScreenTri], words: &[u64], x: u32, y: u32, pattern: Pattern) -> bool
     requires x { x < 4096 }
     requires y { y < 4096 }
@@ -171,7 +171,7 @@ fn are_fragments(tris: &[ScreenTri], words: &[u64], x: u32, y: u32, pattern: Pat
     true
 }
 
-// So are the words of each list, in its pixel of the region.
+// Each word of each list is one of a fragment of the triangles in the pixel of that list.
 fn holds_fragments(
     alloc: Global,
     tris: &[ScreenTri],

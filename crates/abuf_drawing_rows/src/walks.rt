@@ -10,7 +10,7 @@ fn four_by_four() -> Region {
     Region::whole_image(4, 4)
 }
 
-// Its last tiles are 5 pixels wide and 3 high.
+// A region whose last tiles are 5 pixels wide and 3 high.
 fn odd() -> Region {
     Region::new(3, 2, 37, 27)
 }

@@ -10,7 +10,7 @@ use Rattle.abuf_frame.specs.Draws.{Adds}
 abbrev pub IsOwn : View → Entry → Type 0
 IsOwn v e = Contains v.entries e × (is_linked e.stage ≡ true)
 
--- it was told of before, at v, or it is Linked and the pass's own at the end, at w
+-- the entry was told of before, at v, or is Linked and the pass's own at the end, at w
 abbrev pub IsKnown : View → View → Entry → Type 0
 IsKnown v w e = Contains v.told e ⊎ IsOwn w e
 

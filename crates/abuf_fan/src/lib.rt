@@ -1,16 +1,16 @@
 //! Triangles drawn into the shared frame by many threads.
 //!
-//! `draw_all` draws every triangle of a list once, whatever the number of threads and however they run: the pass gets one new
-//! entry for each fragment of each triangle, and where none is lost, the pixels and words of the new entries are all these
-//! fragments in some order. Each worker has a pass of its own, split off from the caller's, and draws parts of 64 triangles
-//! whose numbers it takes from a `Desk` of `abuf_share` until there are no more. This crate gives the desk on.
+//! `draw_all` draws every triangle of a list once, whatever the number of threads and however they run. The pass gets one new
+//! entry for each fragment of each triangle. If none is lost, the pixels and words of the new entries are all these fragments in
+//! some order. Each worker has a pass of its own, split off from the caller's, and draws parts of 64 triangles whose numbers it
+//! takes from a `Desk` of `abuf_share` until there are no more. This crate exports the desk too.
 //!
 //! Once all turns are joined, the numbers drawn are those from 0 on, each once, and one of them is beyond the parts, so each part
 //! was drawn by exactly one worker. No worker knows what another drew before that.
 //!
 //! `most_fragments` tells beforehand how many fragments there are at most, so that a frame needn't have more nodes than that.
 //!
-//! That the workers run at the same time is not promised.
+//! Whether the workers run at the same time is not promised.
 #![tactic(auto)]
 
 mod drawing;

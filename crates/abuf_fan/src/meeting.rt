@@ -42,7 +42,7 @@ pub struct MeetingGate {
 }
 
 /// Looks for a flag, for so many turns at most. On a machine with more to do, whoever is to raise it needs the processor too, so
-/// that it is let go often.
+/// this thread often yields it.
 fn look_for(flag: &AtomicBool, turns: u32) -> bool {
     for turn in 0..turns {
         if flag.load(Ordering::SeqCst) {

@@ -43,7 +43,7 @@ fn sum_of(tris: &[ScreenTri], region: Region, pattern: Pattern, enough: u64) -> 
 /// About how many pixels may be asked of one thread: where there are no more, starting another takes longer.
 const LITTLE: u64 = 4194304;
 
-/// One thread soon has asked so many triangles about the tiles of the region.
+/// The triangles are so few that one thread soon has asked all about the tiles of the region.
 fn is_little(count: usize, region: Region) -> bool
     requires few { count ≤ MAX_PRIMITIVES }
     ensures { IsTrue result ↔ (count * (region.w * region.h + 64) ≤ LITTLE) }

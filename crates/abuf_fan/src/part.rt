@@ -39,7 +39,8 @@ fn draw_one(work: &Work, brush: &mut Brush, pass: &mut Pass, number: u32)
     brush.draw(work.frame, pass, triangle, number);
 }
 
-/// Draws the triangles of these numbers.
+/// Draws the triangles of these numbers. None of their fragments waits afterwards, so a gate sees from the credit of a pass what
+/// its worker has drawn.
 pub(crate) fn draw_part(work: &Work, pass: &mut Pass, numbers: &[u32])
     requires frame { pass.old.frame ≡ work.now.frame.now }
     requires numbers { All (λ n. n < length work.now.tris.now) numbers.now }

@@ -18,8 +18,8 @@ AreChained (e ∷ es) = (old_of e.stage ≡ first_of es) × AreChained es
 abbrev pub payload_in : Entry → ℕ
 payload_in e = payload_of e.stage
 
--- Those of the entries that stand in the list of the pixel form one chain, and these are its payloads. Where each number stands
--- once among the entries there is no second chain.
+-- The entries that stand in the list of the pixel form one chain, and these are its payloads. If each number stands once among the
+-- entries, there is no second chain.
 pub record IsListAt (p : ℕ) (es : List Entry) (payloads : List ℕ) : Type 0 where
   pub chain : List Entry
   pub all : IsPermutation chain (at_pixel p es)

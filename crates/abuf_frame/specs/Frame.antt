@@ -4,7 +4,7 @@ use Rattle.atomic_table.specs.Seated.{TableId}
 use Rattle.abuf_frame.specs.declared.view.Size.{Size}
 use Rattle.abuf_frame.specs.Words.{Sized}
 
--- its table, by which frames are told apart, and its size
+-- the table of a frame, by which frames are told apart, and its size
 pub record Shape : Type 0 where
   pub table : TableId
   pub pixels : ℕ

@@ -13,7 +13,7 @@ abbrev pub MayStep : Size → TableId → Seat (Unit {0}) View → ℕ → (ℕ 
 MayStep key table seat word f after shows = (seat.table_id ≡ table) × (word < table.words)
     × Allows (Lawful key) table.slots seat.id seat.me word f (λ found now. (now ≡ (after found, [])) × shows found)
 
--- the same of a store, where what is stored decides
+-- the seat may store this: like MayStep, where what is stored decides the outcome
 abbrev pub MayStore : Size → TableId → Seat (Unit {0}) View → ℕ → ℕ → View → Type 0 → Type 0
 MayStore key table seat word stored view shown = MayStep key table seat word (λ _. stored) (λ _. view) (λ _. shown)
 

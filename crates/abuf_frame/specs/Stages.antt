@@ -57,7 +57,7 @@ stands p (Swapped pixel payload old) = if pixel == p then 1 else 0
 stands p (Linked pixel payload old) = if pixel == p then 1 else 0
 stands p _ = 0
 
--- it stands in the list of the pixel, and its old head is the word h
+-- an entry of this stage stands in the list of the pixel, and its old head is the word h
 abbrev pub Precedes : Stage → ℕ → ℕ → Type 0
 Precedes (Swapped pixel payload old) p h = (pixel ≡ p) × (old ≡ h)
 Precedes (Linked pixel payload old) p h = (pixel ≡ p) × (old ≡ h)

@@ -47,7 +47,7 @@ stage_of n (e ∷ es) = if e.number == n then Some e.stage else stage_of n es
 abbrev pub linked_of : List Entry → List Entry
 linked_of es = filter (λ e. is_linked e.stage) es
 
--- those that stand in the list of the pixel
+-- the entries that stand in the list of the pixel
 abbrev pub at_pixel : ℕ → List Entry → List Entry
 at_pixel p es = filter (λ e. stands p e.stage == 1) es
 

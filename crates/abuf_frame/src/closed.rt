@@ -94,7 +94,7 @@ impl Closed {
     }
 
     /// A frame of as many pixels and nodes, whose lists are empty, with its whole pass, as `Frame::start` gives them. The words of
-    /// this one are let go first, so that their memory serves for it. After `NoMemory` there is no frame.
+    /// this one are freed first, so that their memory serves for it. After `NoMemory` there is no frame.
     pub fn reopen(self, alloc: Global) -> Result<(Frame, Pass), NoMemory>
         ensures { IfOk result (λ r. (r.0.pixels ≡ self.pixels) × (r.0.nodes ≡ self.nodes) × (r.1.frame ≡ r.0) × (r.1.view ≡ whole_view)) }
     {

@@ -79,14 +79,14 @@ impl Frame {
         Frame::start_from(alloc, &blank)
     }
 
-    /// The same from words that were laid out before, which are copied, so that no second block is taken.
+    /// Like [`start`](Frame::start), from words that were laid out before. They are copied, so that no second block is taken.
     pub fn start_from(alloc: Global, blank: &Blank) -> Result<(Frame, Pass), NoMemory>
         ensures { IfOk result (λ r. (r.0.pixels ≡ blank.now.pixels) × (r.0.nodes ≡ blank.now.nodes) × (r.1.frame ≡ r.0) × (r.1.view ≡ whole_view)) }
     {
         Frame::of_words(alloc, blank.words(), blank.pixels, blank.nodes)
     }
     /// Ends the drawing. The pass has to be whole, so that every other was joined into it, and settled. Each list is the walk
-    /// from its head, along the old heads that the entries keep. It takes constant time: the words stay where they are.
+    /// from its head, along the old heads that the entries keep. Closing takes constant time: the words stay where they are.
     pub fn close(self, pass: Pass) -> Closed
         requires frame { pass.frame ≡ self }
         requires whole { IsWhole pass.view }

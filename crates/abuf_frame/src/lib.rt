@@ -10,10 +10,11 @@
 //! them from the words that were drawn, by a `Reader` of its own.
 //!
 //! `specs/Lawful.antt` says what holds between any two steps of any number of threads, and each call here is proved to keep
-//! it. What the crates above need of it is in the contracts alone: of a pass its frame, its credit, its entries as pairs of
-//! pixel and payload (`Draws`), what it was told and what it has seen; of a closed frame that each list is a permutation of
-//! the payloads of the entries at its pixel, in the order of the walk along their old heads (`specs/Chains.antt`), and that no
-//! entry is lost where there are no more of them than nodes. No call waits, and none between `start` and `list` takes memory.
+//! it. What the crates above need of it is in the contracts alone. Of a pass they have its frame, its credit, its entries as
+//! pairs of pixel and payload (`Draws`), what it was told and what it has seen. Of a closed frame they have that each list is a
+//! permutation of the payloads of the entries at its pixel, in the order of the walk along their old heads
+//! (`specs/Chains.antt`). No entry is lost if there are no more of them than nodes. No call waits, and none between `start` and
+//! `list` takes memory.
 //!
 //! Not promised are which of two threads comes first, and so where their entries stand in a list, and which entries are linked
 //! where some are lost.

@@ -51,7 +51,7 @@ fn found_nodes(first: u64, count: u64, nodes: u64) -> u64
 }
 
 impl Pass {
-    /// Claims `count` numbers that follow each other, by one addition to the counter, and answers the first. No other pass
+    /// Claims `count` numbers that follow each other, by one addition to the counter, and returns the first. No other pass
     /// has them. Each is a new entry: Claimed where the frame has a node for it, and else Lost.
     pub fn claim(&mut self, frame: &Frame, count: u32) -> u64
         requires frame { self.old.frame ≡ frame.now }
@@ -81,7 +81,7 @@ impl Pass {
         fill_at::<Brand>(words, &mut self.seat, frame.pixels, number, pixel, payload);
     }
 
-    /// Exchanges the head of the pixel for a Filled entry, and answers the old head: 0 where the list was empty, and else
+    /// Exchanges the head of the pixel for a Filled entry, and returns the old head: 0 if the list was empty, and otherwise
     /// one more than the number of its first entry. The entry is Swapped then, and the list has it without its next.
     pub fn swap_head(&mut self, frame: &Frame, number: u64, pixel: u32) -> u64
         requires frame { self.old.frame ≡ frame.now }
@@ -93,7 +93,7 @@ impl Pass {
         swap_at::<Brand>(words, &mut self.seat, number, pixel)
     }
 
-    /// Stores the next of a Swapped entry, which is the old head that `swap_head` answered. The entry is Linked then.
+    /// Stores the next of a Swapped entry, which is the old head that `swap_head` returned. The entry is Linked then.
     pub fn link(&mut self, frame: &Frame, number: u64, old: u64)
         requires frame { self.old.frame ≡ frame.now }
         requires swapped { IsSwapped old (stage_of number self.old.view.entries) }

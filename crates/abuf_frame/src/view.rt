@@ -6,9 +6,9 @@ pub enum Stage {
     Claimed,
     /// The payload is stored.
     Filled { pixel: u32, payload: u64 },
-    /// It is the head of its pixel's list, or was; `old` is the head that it took the place of. Its next is not stored.
+    /// The number is the head of its pixel's list, or was; `old` is the head that it replaced. The node's next is not stored.
     Swapped { pixel: u32, payload: u64, old: u64 },
-    /// Its next is `old`.
+    /// The node's next is stored, and is `old`.
     Linked { pixel: u32, payload: u64, old: u64 },
     /// There is no node of this number.
     Lost,

@@ -8,6 +8,6 @@ pub record Taken : Type 0 where
   pub faults_old : ℕ
   pub faults_new : ℕ
 
--- The same, from what the sink's trait tells of it.
+-- What a sink had taken before a call and has taken after it, from what its trait tells of it.
 abbrev pub sink_change : {O : Type 0} → (O → Option (List ℕ)) → (O → ℕ) → O → O → Taken
 sink_change taken faults old new = record { old = taken old; new = taken new; faults_old = faults old; faults_new = faults new }

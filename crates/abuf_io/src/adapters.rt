@@ -17,7 +17,7 @@ pub struct ReadSource<R> {
 impl<R: Read> ReadSource<R> {
     ghost use Rattle.abuf_io.specs.Adapters.{reader_of, read_faults};
 
-    /// It has not failed yet. Takes no memory.
+    /// A source that has not failed yet. Takes no memory.
     pub fn new(inner: R) -> ReadSource<R>
         ensures reader { reader_of result ≡ inner }
         ensures faults { read_faults result ≡ 0 }
@@ -64,7 +64,7 @@ pub struct WriteSink<W> {
 impl<W: Write> WriteSink<W> {
     ghost use Rattle.abuf_io.specs.Adapters.{writer_of, write_faults};
 
-    /// It has not failed yet. Takes no memory.
+    /// A sink that has not failed yet. Takes no memory.
     pub fn new(inner: W) -> WriteSink<W>
         ensures writer { writer_of result ≡ inner }
         ensures faults { write_faults result ≡ 0 }

@@ -23,7 +23,7 @@ impl<'a, R: Files> FolderShelf<'a, R> {
     ghost use Rattle.std.specs.Prelude.{◌≡◌};
     ghost use Rattle.abuf_io.specs.Adapters.{folder_calls, folder_faults};
 
-    /// It has not been asked and has not failed yet. Takes no memory.
+    /// A shelf that has not been asked and has not failed yet. Takes no memory.
     pub fn new(rt: &'a R) -> FolderShelf<'a, R>
         ensures calls { folder_calls result ≡ 0 }
         ensures faults { folder_faults result ≡ 0 }

@@ -143,7 +143,7 @@ pub struct MemSink {
 impl MemSink {
     ghost use Rattle.abuf_io.specs.Memory.{sink_taken, sink_plan, sink_room, sink_faults};
 
-    /// It has taken nothing, and has room for `room` bytes, which it reserves.
+    /// A sink that has taken nothing, and has room for `room` bytes, which it reserves.
     pub fn new(alloc: Global, room: u32, plan: List<Step>) -> Result<MemSink, NoMemory>
         requires { IsPlan plan }
         ensures { IfOk result (λ sink. (sink_taken sink ≡ []) × (sink_room sink ≡ room) × (sink_plan sink ≡ plan) × (sink_faults sink ≡ 0)) }

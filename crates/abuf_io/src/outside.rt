@@ -21,7 +21,7 @@ pub trait Source {
     /// How often it has failed. It never falls.
     ghost faults: { Self → ℕ };
 
-    /// Puts the next bytes at the buffer's beginning, and answers how many. None in a buffer that
+    /// Puts the next bytes at the buffer's beginning, and returns how many. None in a buffer that
     /// isn't empty means the end. After `Failed` the bytes that are left are unchanged.
     fn read(&mut self, buf: &mut [u8]) -> Result<usize, Failed>
         ensures bound { ReadsAtMost result buf.new }
@@ -37,7 +37,7 @@ pub trait Sink {
     /// How often it has failed. It never falls.
     ghost faults: { Self → ℕ };
 
-    /// Takes some of the bytes, from the front, and answers how many. It takes none where some are
+    /// Takes some of the bytes, from the front, and returns how many. It takes none where some are
     /// offered only where the count of faults rose. After `Failed` it took none.
     fn write(&mut self, bytes: &[u8]) -> Result<usize, Failed>
         ensures bound { WritesAtMost result bytes.now }

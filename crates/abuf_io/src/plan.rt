@@ -5,9 +5,9 @@ ghost use Rattle.abuf_io.specs.Plans.{IsPlan, lets_some};
 /// What one call does.
 #[derive(Clone, Copy, Debug, PartialEq, Eq)]
 pub enum Step {
-    /// It gives or takes at most so many bytes, at least 1.
+    /// The call gives or takes at most so many bytes, at least 1.
     Take(u32),
-    /// It fails.
+    /// The call fails.
     Fail,
 }
 

@@ -30,7 +30,7 @@ search_from n c a (nothing ∷ before) = search_from n c a before
 abbrev pub search_library : List ℕ → List ℕ → Option Paint
 search_library n library = search_from n None None (reverse (map said (lines library)))
 
--- the same over libraries, of which the last comes first
+-- the paint of the last material of that name over libraries, of which the last comes first
 abbrev pub search_libraries : List ℕ → List (List ℕ) → Option Paint
 search_libraries n [] = None
 search_libraries n (library ∷ earlier) = first_of (search_library n library) (search_libraries n earlier)

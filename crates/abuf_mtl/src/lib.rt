@@ -2,7 +2,7 @@
 //!
 //! [`Materials`] stand for a list of libraries without a fault (`specs/StandsFor.antt`): the names of
 //! their `newmtl` lines, each with the paint of its last one (`specs/Material.antt`). [`read_mtl`] makes
-//! them stand for one library more, or answers that library's first fault (`specs/Fault.antt`) and
+//! them stand for one library more, or returns that library's first fault (`specs/Fault.antt`) and
 //! changes nothing.
 #![tactic(auto)]
 

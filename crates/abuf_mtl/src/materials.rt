@@ -60,7 +60,7 @@ impl Materials {
         }
     }
 
-    // The same materials once more, for a reader.
+    // A reader that begins with a copy of these materials.
     fn reader(&self, alloc: Global) -> Result<Reader, NoMemory>
         ensures same { IfOk result (λ r. zip r.names r.paints.items ≡ self.now) }
         ensures closed { IfOk result (λ r. r.begun ≡ None) }

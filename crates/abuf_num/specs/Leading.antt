@@ -29,7 +29,7 @@ abbrev pub behind_mark : List ℕ → Option (List ℕ)
 behind_mark [] = None
 behind_mark (b ∷ text) = Some text
 
--- it begins with a mark, if it has a byte
+-- the text begins with a mark, if it has a byte
 abbrev pub BeginsMarked : List ℕ → Type 0
 BeginsMarked [] = ⊤
 BeginsMarked (b ∷ text) = is_mark b ≡ true

@@ -13,10 +13,10 @@ use crate::size::size;
 pub enum NumFault {
     /// The text is no number.
     Form,
-    /// It is a number with more than 30 digits before its exponent, leading zeros counted, or with
+    /// The text is a number with more than 30 digits before its exponent, leading zeros counted, or with
     /// more than three digits in its exponent.
     Digits,
-    /// It is a number, and the result is past 2147483647 either way.
+    /// The text is a number, and the result is past 2147483647 either way.
     Range,
 }
 
@@ -205,7 +205,7 @@ fn with_sign(negative: bool, size: Option<u32>) -> Result<i64, NumFault>
     }
 }
 
-// The same as `scaled`, by the parts of the text, for numbers of every form.
+// `scaled` by the parts of the text, for numbers of every form.
 fn scaled_by_parts(text: &[u8], k: u32) -> Result<i64, NumFault>
     requires least { 1 ≤ k }
     requires most { k ≤ 65536 }

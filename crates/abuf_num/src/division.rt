@@ -9,7 +9,7 @@ fn is_short(n: i128) -> bool
     -9223372036854775808 < n && n < 9223372036854775808
 }
 
-// The same as `floor_div`, in 64 bits.
+// `floor_div` in 64 bits.
 fn short_floor_div(a: i64, b: i64) -> i64
     requires { pos 0 <ℤ b }
     ensures { result ≡ floor_div a b }
@@ -17,7 +17,7 @@ fn short_floor_div(a: i64, b: i64) -> i64
     a.div_euclid(b)
 }
 
-// The same as `floor_div`, in 128 bits.
+// `floor_div` in 128 bits.
 fn long_floor_div(n: i128, m: i128) -> i128
     requires { pos 0 <ℤ m }
     ensures { result ≡ floor_div n m }

@@ -1,4 +1,5 @@
-// Numbers at the start of a text, as exporters write them: of few digits. They are read in one pass, in 64 bits.
+// Numbers at the start of a text, as exporters write them: of few digits. They are read in one pass, in 64 bits, which also finds
+// the end of the token. A number of another form is for the caller to cut out and to read by `scaled`, which is slower.
 ghost use Rattle.std.specs.Prelude.{◌≡◌, ◌≤◌, ◌<◌, ◌+◌, ◌^◌, take, length, slice_index, IfSome, true, false, Ok, unsigned_abs};
 ghost use Rattle.std.specs.List.{list_all};
 ghost use Rattle.abuf_num.specs.declared.limits.TheConstants.{MAX_COORDINATE};

@@ -58,7 +58,7 @@ or_astray None None = None
 abbrev pub first_fault : List (List ℕ) → Option (ℕ × Why)
 first_fault lines = or_astray (fault_from [] lines) (astray_line (length (points_of lines)) (faces_of lines))
 
--- the same of the bytes of a file
+-- from the bytes of a file: its points, and then its faces, its names, its libraries and its first fault
 unfoldable pub points : List ℕ → List (List ℤ)
 points bytes = points_of (lines bytes)
 

@@ -14,7 +14,7 @@ pub record IsFace (points names : ℕ) (face : Face) : Type 0 where
   pub corners : All (λ corner. corner < points) face.corners
   pub name : IfSome face.name (λ n. n < names)
 
--- the same without its corners, as a reader has it before it knows the number of points
+-- the face has at least three corners, and its name is one of the names: what a reader knows before it has the number of points
 abbrev pub IsFan : ℕ → Face → Type 0
 IsFan names face = (3 ≤ length face.corners) × IfSome face.name (λ n. n < names)
 

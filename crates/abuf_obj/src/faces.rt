@@ -16,8 +16,8 @@ pub struct Row {
     name: Option<u32>,
 }
 
-/// Faces, with the corners of all of them in one list. A list of its own for each would be taken from memory that threads share, and
-/// they would wait for one another. Clauses see the list of the faces.
+/// Faces, with the corners of all of them in one list. If each face had a list of its own, the lists would take twice the memory,
+/// and threads that take them would wait for one another: four would read more slowly than one. Clauses see the list of the faces.
 #[derive(Drop)]
 pub struct Faces {
     corners: Vec<u32>,

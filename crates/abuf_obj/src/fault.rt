@@ -47,7 +47,7 @@ impl From<NoMemory> for ObjFault {
 }
 
 impl Why {
-    // This cause, at that line.
+    // The fault of this cause at a line.
     pub fn at(self, line: u32) -> ObjFault
         ensures { result ≡ Line line self }
     {

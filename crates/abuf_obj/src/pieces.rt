@@ -64,7 +64,7 @@ fn read_piece(
     Ok(reader)
 }
 
-/// The same on so many threads: what the second half begins with is told by the tally of the first.
+/// Reads a piece on so many threads, by halves: the tally of the first half tells what stands above the second.
 pub fn read_pieces<R: Threads + Sync>(
     rt: &R,
     alloc: Global,

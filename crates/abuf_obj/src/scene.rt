@@ -74,7 +74,7 @@ impl FlatObj {
         &self.libraries
     }
 
-    /// The same, with a list of corners for each face. An error means that memory ran out.
+    /// The scene with a list of corners for each face. An error means that memory ran out.
     pub fn into_obj(self, alloc: Global) -> Result<Obj, NoMemory>
         ensures { IfOk result (λ obj. obj ≡ self) }
     {

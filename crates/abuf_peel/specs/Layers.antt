@@ -69,7 +69,7 @@ taken offsets triangles paints s seen = record {
   colour = with_word paints (next_word offsets triangles s seen.from) seen.colour;
 }
 
--- The same, n times over.
+-- The sample takes its next primitive, n times over.
 abbrev pub taken_times : List (ℤ × ℤ) → List Triangle → List Paint → Sample → ℕ → Seen → Seen
 taken_times offsets triangles paints s zero seen = seen
 taken_times offsets triangles paints s (suc n) seen = taken_times offsets triangles paints s n (taken offsets triangles paints s seen)
@@ -117,16 +117,16 @@ pub record StandsFor (background : List ℕ) (triangles : List Triangle) (paints
   pub each : (j : ℕ) → j < count_of l.region l.pattern
       → seen_at l j ≡ after (offsets_of l.pattern) background triangles paints (sample_at l.region (size_of l.pattern) j) n
 
--- It stands for no step over whatever lists.
+-- The layer stands for no step, over whatever lists.
 abbrev pub StandsForNone : List ℕ → Peeled → Type 0
 StandsForNone background l = (triangles : List Triangle) (paints : List Paint) → StandsFor background triangles paints 0 l
 
--- It stands for one step more than before.
+-- The layer stands for one step more than before.
 abbrev pub OneStepMore : List Triangle → List Paint → Peeled → Peeled → Type 0
 OneStepMore triangles paints old new =
     (background : List ℕ) (n : ℕ) → StandsFor background triangles paints n old → StandsFor background triangles paints (suc n) new
 
--- Its colours are those of the lowest n primitives.
+-- The layer's colours are those of the lowest n primitives.
 abbrev pub HaveLayer : List ℕ → List Triangle → List Paint → ℕ → Peeled → Type 0
 HaveLayer background triangles paints n l =
     (j : ℕ) → j < count_of l.region l.pattern
@@ -145,6 +145,6 @@ pub record AreWhole (background : List ℕ) (triangles : List Triangle) (paints 
 abbrev pub sum_of_place : List (List ℕ) → ℕ → ℕ → PixelSum
 sum_of_place colours size place = summed (λ k. slice_index_or colours (place * size + k) []) size
 
--- Those of all pixels of a layer, by ascending place.
+-- The sums of all pixels of a layer, by ascending place.
 abbrev pub layer_sums : Peeled → List PixelSum
 layer_sums l = map (sum_of_place l.colours (size_of l.pattern)) (range_with_len 0 (l.region.w * l.region.h))

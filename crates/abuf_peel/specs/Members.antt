@@ -27,7 +27,7 @@ pub record Keep (offsets : List (ℤ × ℤ)) (triangles : List Triangle) (r : R
   pub known : All (λ n. n < length triangles) members
   pub each : (s : Sample) → IsSampleIn r offsets s → covering_among offsets triangles s members ≡ covering_among offsets triangles s among
 
--- So it is once one more is chosen among, whatever was before.
+-- One primitive more is chosen among, and none is left out that covers a sample of the region, whatever was chosen among before.
 abbrev pub KeepsOne : List (ℤ × ℤ) → List Triangle → Region → ℕ → List ℕ → List ℕ → Type 0
 KeepsOne offsets triangles r n old new = (among : List ℕ) → Keep offsets triangles r among old → Keep offsets triangles r (among ++ n ∷ []) new
 

@@ -18,7 +18,7 @@ pub record Sample : Type 0 where
 abbrev pub covering_among : List (ℤ × ℤ) → List Triangle → Sample → List ℕ → List ℕ
 covering_among offsets triangles s ns = filter (λ n. covers (triangle_at triangles n) offsets s.x s.y s.k) ns
 
--- Their words: the depth key there times 2^24, plus the primitive number.
+-- The words of those that cover the sample: the depth key there times 2^24, plus the primitive number.
 abbrev pub words_among : List (ℤ × ℤ) → List Triangle → Sample → List ℕ → List ℕ
 words_among offsets triangles s ns = map (layer_word offsets triangles s.x s.y s.k) (covering_among offsets triangles s ns)
 
@@ -32,15 +32,15 @@ abbrev pub least : List ℕ → Option ℕ
 least [] = None
 least (word ∷ words) = Some (lower_of word (least words))
 
--- Those of them that aren't below `from`.
+-- The words of these primitives in the sample that aren't below `from`.
 unfoldable pub left_among : List (ℤ × ℤ) → List Triangle → Sample → ℕ → List ℕ → List ℕ
 left_among offsets triangles s from ns = filter (reaches from) (words_among offsets triangles s ns)
 
--- The lowest of these, if there is one.
+-- The lowest word of these primitives in the sample that isn't below `from`, if there is one.
 unfoldable pub next_among : List (ℤ × ℤ) → List Triangle → Sample → ℕ → List ℕ → Option ℕ
 next_among offsets triangles s from ns = least (left_among offsets triangles s from ns)
 
--- The same of all primitives: the next one that the sample takes.
+-- The lowest word of all primitives that isn't below `from`: the next one that the sample takes.
 abbrev pub next_word : List (ℤ × ℤ) → List Triangle → Sample → ℕ → Option ℕ
 next_word offsets triangles s from = next_among offsets triangles s from (numbers triangles)
 

@@ -26,11 +26,11 @@ inserted below word (here ∷ rest) = min here (max below word) ∷ inserted her
 abbrev pub lowered : ℕ → ℕ → List ℕ → List ℕ
 lowered from word best = if reaches from word && nat_lt word (slice_index_or best 15 0) then inserted 0 word best else best
 
--- The same, where it is offered only to a sample that is covered;
+-- The lowest 16 words so far, once one more is offered, but only to a sample that is covered.
 abbrev pub offered : Bool → ℕ → ℕ → List ℕ → List ℕ
 offered covered from word best = if covered then lowered from word best else best
 
--- and where it is offered so many times.
+-- The lowest 16 words so far, once one more is offered so many times.
 abbrev pub offered_times : ℕ → ℕ → ℕ → List ℕ → List ℕ
 offered_times zero from word best = best
 offered_times (suc times) from word best = offered_times times from word (lowered from word best)
@@ -39,7 +39,7 @@ offered_times (suc times) from word best = offered_times times from word (lowere
 unfoldable pub word_of : Triangle → ℕ → List (ℤ × ℤ) → Sample → ℕ
 word_of t n offsets s = depth_word (depth_key t offsets s.x s.y s.k) n
 
--- The same at an index of a region's samples.
+-- The word of primitive number n at an index of a region's samples.
 abbrev pub word_at : Triangle → ℕ → Region → Pattern → ℕ → ℕ
 word_at t n r pattern j = word_of t n (offsets_of pattern) (sample_at r (size_of pattern) j)
 
@@ -59,7 +59,7 @@ word_in t n pattern h k = word_of t n (offsets_of pattern) (record { x = h.x; y 
 unfoldable pub has_at : Region → ℕ → ℕ → Hit → Bool
 has_at r size j h = (place_of r h.x h.y == j / size) && has_sample h (j % size)
 
--- It lies in the region, and has the mask of the triangle.
+-- The hit lies in the region, and has the mask of the triangle.
 pub record IsHitOf (t : Triangle) (r : Region) (offsets : List (ℤ × ℤ)) (h : Hit) : Type 0 where
   pub within : IsHitIn r h
   pub mask : h.fragment.mask ≡ mask t offsets h.x h.y

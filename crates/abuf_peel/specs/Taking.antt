@@ -10,7 +10,7 @@ use Rattle.abuf_resolve.specs.Words.{paint_of, prim_of, IsDepthWord}
 abbrev pub no_word : ℕ
 no_word = 2 ^ 64 - 1
 
--- It stands for the word of one of so many primitives, or for none.
+-- The number stands for the word of one of so many primitives, or for none.
 abbrev pub Finds : ℕ → Option ℕ → ℕ → Type 0
 Finds count None best = best ≡ no_word
 Finds count (Some word) best = (best ≡ word) × IsDepthWord count word
@@ -34,18 +34,18 @@ pub record FindsLowest (count : ℕ) (words best : List ℕ) : Type 0 where
 abbrev pub AreKnown : ℕ → List ℕ → Type 0
 AreKnown count words = All (λ word. (word ≡ no_word) ⊎ (prim_of word < count)) words
 
--- The word from which on primitives are left, once the primitive of this word is taken;
+-- The word from which on primitives are left, once the primitive of this word is taken.
 abbrev pub marked : ℕ → ℕ → ℕ
 marked best from = if best == no_word then from else best + 1
 
--- and the colour.
+-- The colour, once the primitive of this word is taken.
 abbrev pub painted : List Paint → ℕ → List ℕ → List ℕ
 painted paints best under = if best == no_word then under else laid_over under (paint_of paints best)
 
--- The same, once the primitives of several words are taken one after another;
+-- The word from which on primitives are left, once those of several words are taken one after another.
 abbrev pub marked_by : List ℕ → ℕ → ℕ
 marked_by words from = fold (λ mark word. marked word mark) from words
 
--- and the colour.
+-- The colour, once the primitives of several words are taken one after another.
 abbrev pub painted_by : List Paint → List ℕ → List ℕ → List ℕ
 painted_by paints words under = fold (λ colour word. painted paints word colour) under words

@@ -7,7 +7,7 @@ use Rattle.abuf_raster.specs.Triangle.{Triangle}
 use Rattle.abuf_picture.specs.Drawn.{IsPool}
 use Rattle.abuf_picture.specs.Picture.{IsFrameOf, total}
 
--- It serves for a drawing that needs so many nodes, in a region, into a pool of at most so many nodes.
+-- The kept frame serves for a drawing that needs so many nodes, in a region, into a pool of at most so many nodes.
 pub record Serves (r : Region) (needed nodes : ℕ) (kept : Ended) : Type 0 where
   pub pixels_are : kept.pixels ≡ r.w * r.h
   pub enough : needed ≤ kept.nodes

@@ -25,7 +25,7 @@ pub record Subject : Type 0 where
   pub background : List ℕ
   pub region : Region
 
--- That of primitives and of what they are drawn into.
+-- The subject of primitives and of what they are drawn into.
 abbrev pub subject : Primitives → Target → Subject
 subject p t = record {
   triangles = p.triangles.now;

@@ -16,7 +16,7 @@ pub struct Primitives<'a> {
 }
 
 impl<'a> Primitives<'a> {
-    /// Those of a scene that is on the screen.
+    /// The primitives of a scene that was projected to the screen.
     pub fn of(shown: &'a Projected) -> Primitives<'a>
         ensures triangles { result.triangles.now ≡ shown.now.tris }
         ensures paints { result.paints.now ≡ shown.now.paints }

@@ -22,7 +22,7 @@ fn serves(kept: &Closed, target: &Target, needed: u32) -> bool
     kept.pixels() == target.region.pixels() && needed <= nodes && nodes <= target.nodes
 }
 
-/// The kept frame, where it serves; else it is let go.
+/// The kept frame, if it serves; otherwise it is dropped.
 fn serving(kept: Option<Closed>, target: &Target, needed: u32) -> Option<Closed>
     ensures { IfSome result (Serves target.now.region needed target.now.nodes) }
 {
@@ -86,7 +86,8 @@ pub(crate) fn in_pool(primitives: &Primitives, target: &Target, closed: Closed) 
 
 /// As [`draw`](crate::draw) does, and hands back the frame with the nodes that it was made with, which are the target's, or fewer,
 /// where these are enough. A closed frame whose lists aren't needed any more may be handed in as `kept`: where it has as many
-/// pixels as the region, nodes enough, and no more than the target, it is reopened. Else it is let go before another is started.
+/// pixels as the region, nodes enough, and no more than the target, it is reopened. Otherwise it is dropped before another is
+/// started.
 pub fn redraw<R: Threads + Sync, G: Gate + Sync>(
     rt: &R,
     alloc: Global,

@@ -19,7 +19,7 @@ pub record AreBetween (reach : ℕ) (t : Triangle) (offsets : List (ℤ × ℤ))
 abbrev pub AreExtremes : {V : Type 0} → (V → ℤ) → ℕ → Triangle → List (ℤ × ℤ) → ℕ → Extremes V → Type 0
 AreExtremes number reach t offsets count e = AreBetween reach t offsets count (numbers_of number e.least) (numbers_of number e.greatest)
 
--- It has the values at the centre of pixel (0, 0), and bounds of the changes to all samples.
+-- The setup has the values at the centre of pixel (0, 0), and bounds of the changes to all samples.
 pub record IsSetup {V : Type 0} (number : V → ℤ) (reach : ℕ) (t : Triangle) (offsets : List (ℤ × ℤ)) (s : Setup V) : Type 0 where
   pub start : numbers_of number s.start ≡ values_at t (pixel_centre 0 0)
   pub samples : AreExtremes number reach t offsets (length offsets) s.samples

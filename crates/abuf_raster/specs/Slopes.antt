@@ -1,4 +1,4 @@
--- How the weighted depth of a triangle changes from place to place.
+-- How the weighted depth of a triangle changes from position to position.
 use Rattle.std.specs.Prelude.{ℕ, ℤ, pos, ◌+ℤ◌, ◌-ℤ◌, ◌*ℤ◌}
 use Rattle.abuf_raster.specs.Triangle.{Triangle}
 
@@ -10,6 +10,6 @@ slope a b c qa qb qc = (b -ℤ c) *ℤ pos qa +ℤ (c -ℤ a) *ℤ pos qb +ℤ (
 abbrev pub slope_across : Triangle → ℤ
 slope_across t = slope t.a.y t.b.y t.c.y t.qa t.qb t.qc
 
--- Its change over 1/256 pixel downwards.
+-- The change of the weighted depth over 1/256 pixel downwards.
 abbrev pub slope_down : Triangle → ℤ
 slope_down t = slope t.a.x t.c.x t.b.x t.qa t.qc t.qb

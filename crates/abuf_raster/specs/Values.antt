@@ -28,7 +28,7 @@ pub record Numbers : Type 0 where
   pub bc : ℤ
   pub ca : ℤ
 
--- The three numbers at a place, their changes, and how far they fall or rise.
+-- The three numbers at a position, their changes, and how far they fall or rise.
 abbrev pub values_at : Triangle → Point → Numbers
 values_at t s = record { ab = edge_value t.a t.b s; bc = edge_value t.b t.c s; ca = edge_value t.c t.a s }
 

@@ -69,7 +69,7 @@ fn lowered(z: i64, margin: u32) -> i64
     z + 127 - margin as i64
 }
 
-/// The same, for a margin behind it.
+/// The coordinate from which the pixel is told that ends with a margin behind it.
 fn raised(z: i64, margin: u32) -> i64
     requires z_small { unsigned_abs z < 2 ^ 45 }
     requires margin_small { margin ≤ 128 }
@@ -132,7 +132,7 @@ impl BoundingBox {
         }
     }
 
-    /// It has no pixel.
+    /// The box has no pixel.
     #[inline(always)]
     pub(crate) fn is_empty(self) -> bool
         ensures { IsTrue result ↔ ((self.left ≡ self.right) ⊎ (self.top ≡ self.bottom)) }

@@ -18,7 +18,7 @@ use crate::width::Width;
 use std::marker::Model;
 
 impl ScreenTri {
-    /// The triangle covers the sample at this place.
+    /// The triangle covers the sample at this position.
     fn covers_sample<V: Width>(&self, s: Point) -> bool
         requires wide { 2 ^ 22 ≤ V.reach }
         requires near { AreWithin V.reach self.now }

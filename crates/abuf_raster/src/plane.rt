@@ -64,7 +64,7 @@ pub(crate) struct Coefficients {
 impl Coefficients {
     ghost use Rattle.abuf_raster.specs.Plane.{IsPlane, sum_at, value_of, AreBoundsAt};
 
-    /// The coefficients for a triangle in positive order. None comes where its coordinates, its area or its slopes are too
+    /// The coefficients for a triangle in positive order. Returns `None` if its coordinates, its area or its slopes are too
     /// large for them.
     fn of(t: &ScreenTri) -> Option<Coefficients>
         ensures { IfSome result (λ p. IsPlane t.now p) }

@@ -43,7 +43,7 @@ impl TileHits {
         }
     }
 
-    /// Puts the hits of the next tile that has any to the front of `hits`, and answers how many these are. None comes where no
+    /// Puts the hits of the next tile that has any to the front of `hits`, and returns how many these are, or `None` if no
     /// hits are left.
     #[inline(always)]
     pub fn next_tile(&mut self, hits: &mut [Hit; 64]) -> Option<usize>

@@ -139,7 +139,7 @@ fn is_sequence(command: &Command, path: &[u8]) -> bool {
     }
 }
 
-// Also with memory refused at any one place.
+// Reading gives the job, or says that memory ran out, also if any one allocation is refused.
 #[test]
 fn answers_where_memory_runs_out(rt: HostRuntime) {
     let alloc = rt.alloc();

@@ -10,7 +10,7 @@ use Rattle.abuf_resolve.specs.declared.planes.Made.{Made}
 abbrev pub depth_range : Triangle → Bounds
 depth_range t = record { low = least_depth t; high = greatest_depth t }
 
--- It was worked out of these triangles: a plane of each, and the range of its depth values.
+-- What was worked out is that of these triangles: a plane of each, and the range of its depth values.
 pub record IsOf (triangles : List Triangle) (made : Made) : Type 0 where
   pub planes : made.planes.items ≡ triangles
   pub ranges : made.ranges.items ≡ map depth_range triangles

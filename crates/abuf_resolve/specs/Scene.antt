@@ -16,7 +16,7 @@ use Rattle.abuf_resolve.specs.Words.{frame_sums, pixel_sum, place_sum, sample_of
 abbrev pub IsFragmentOf : Scene → Pixel → ℕ → Type 0
 IsFragmentOf scene at = IsFragmentAt (offsets_of scene.pattern) scene.planes at.x at.y
 
--- So is this one's, and its bounds hold there.
+-- The word of the bounded fragment is one of a fragment of the scene in this pixel, and its bounds hold there.
 abbrev pub IsBoundedIn : Scene → Pixel → Bounded → Type 0
 IsBoundedIn scene at = IsBounded (offsets_of scene.pattern) scene.planes at.x at.y
 
@@ -57,7 +57,7 @@ abbrev pub sum_of_list : Scene → Region → ℕ → List ℕ → PixelSum
 sum_of_list scene r place words =
     pixel_sum (offsets_of scene.pattern) scene.background scene.planes scene.paints.now (r.x0 + place % r.w) (r.y0 + place / r.w) words
 
--- The same, from its list in a frame.
+-- The sums of the pixel at this place, from its list in a frame.
 abbrev pub sum_in : Scene → Region → List (List ℕ) → ℕ → PixelSum
 sum_in scene r lists place = place_sum (offsets_of scene.pattern) scene.background scene.planes scene.paints.now r lists place
 

@@ -24,11 +24,11 @@ sums_where p colours n = record {
       ∷ [];
 }
 
--- These are the colours of the samples that were added.
+-- The sums are those of the colours of the samples that were added.
 abbrev pub Holds : (ℕ → List ℕ) → Tally → Type 0
 Holds colours t = t.sums ≡ sums_where (λ k. not (in_set t.rest k)) colours t.samples
 
--- Those of the set that are left have this colour.
+-- The samples of the set that are left have this colour.
 abbrev pub HaveColour : (ℕ → List ℕ) → Tally → ℕ → List ℕ → Type 0
 HaveColour colours t set colour = (k : ℕ) → k < t.samples → in_set t.rest k ≡ true → in_set set k ≡ true → colours k ≡ colour
 

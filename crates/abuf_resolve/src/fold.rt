@@ -62,7 +62,7 @@ fn paint_of(word: u64, paints: &[Paint]) -> Paint
     paints[SampleWord(word).primitive() as usize]
 }
 
-/// That paint lets nothing through.
+/// The paint of the word's primitive lets nothing through.
 pub(crate) fn hides(word: u64, paints: &[Paint]) -> bool
     requires { IsDepthWord (length paints.now) word }
     ensures { result ≡ hides paints.now word }

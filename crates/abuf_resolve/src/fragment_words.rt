@@ -21,7 +21,7 @@ impl FragmentWord {
         self.0 >> 16
     }
 
-    /// Its coverage mask: bit k is set where it has sample k.
+    /// The coverage mask of the fragment: bit k is set where it has sample k.
     #[inline(always)]
     pub fn mask(self) -> u32
         ensures { result ≡ (unpacked self.0).mask }
@@ -29,7 +29,7 @@ impl FragmentWord {
         (self.0 & 0xffff) as u32
     }
 
-    /// It has sample k.
+    /// The fragment has sample k.
     #[inline(always)]
     pub fn covers(self, k: u32) -> bool
         requires { k < 16 }
@@ -71,7 +71,7 @@ impl SampleWord {
         self.0 & 0xffffff
     }
 
-    /// Its depth key.
+    /// The depth key of the fragment in the sample.
     #[inline(always)]
     pub fn depth_key(self) -> u64
         ensures { result ≡ self.0 / 2 ^ 24 }

@@ -2,15 +2,14 @@
 //!
 //! `over` is the operator of Porter and Duff in whole numbers. `sample_colour` folds the fragments of one sample, in the order
 //! of their words, over the background. `resolve` gives the sums over the samples for each pixel of a closed frame, on threads,
-//! with the fragments ordered in each sample by the depth there; the sums don't depend on the number of threads, nor on the
-//! order of the lists.
+//! with the fragments ordered in each sample by the depth there. The sums don't depend on the number of threads, nor on the order
+//! of the lists.
 //!
 //! `laws` ties that to the definition of a sample's colour, which speaks of the primitives alone. By `list_law` the words of
 //! all fragments at a pixel, given in any order, give the colour of each sample. By `words_law` and `sums_law` a frame into
 //! which all fragments of a region were drawn, in any order, resolves to the sums of the colours. By `pixel_law` the words of a
 //! pixel unpack to its fragments, and by `lengths_law` a list of such a frame is as long as there are primitives that cover a
-//! sample of its pixel.
-//! Only resolving and the planes take memory.
+//! sample of its pixel. Only resolving and the planes take memory.
 #![tactic(auto)]
 
 mod fold;

@@ -83,7 +83,8 @@ fn depth_range(t: &ScreenTri) -> Bounds
     }
 }
 
-/// What is worked out of the triangles.
+/// What is worked out of the triangles, on one thread. Several were slower: their lists would have to be copied together, into
+/// memory that the system clears first, and that takes longer than the planes.
 fn made_of(alloc: Global, tris: &[ScreenTri]) -> Result<Made, NoMemory>
     ensures { IfOk result (IsOf tris.now) }
 {

@@ -56,7 +56,7 @@ impl Tally {
         }
     }
 
-    /// Those of this set that are left have this colour, and are added.
+    /// Adds the samples of a set that are left, all of which have this colour.
     #[inline(always)]
     pub(crate) fn with(self, set: u32, colour: [u16; 3]) -> Tally
         requires { IsFair self }

@@ -119,7 +119,7 @@ fn most_bytes_of_a_scene(rt: HostRuntime) -> Result<(), Fail> {
     Ok(())
 }
 
-/// The same of a library.
+/// A library may have 67108864 bytes, and one more is refused.
 #[test]
 fn most_bytes_of_a_library(rt: HostRuntime) -> Result<(), Fail> {
     let alloc = rt.alloc();

@@ -3,13 +3,13 @@
 // The corners of a triangle that is left of and above the diagonal of a square of 8 by 8.
 const CORNERS: &[u8] = b"v -4 4 0\nv 4 4 0\nv -4 -4 0\n";
 
-/// That triangle.
+/// The triangle of these corners.
 pub(crate) const UPPER: &[u8] = b"v -4 4 0\nv 4 4 0\nv -4 -4 0\nf 1 2 3\n";
 
 // The other half of the square.
 const LOWER: &[u8] = b"v 4 4 0\nv 4 -4 0\nv -4 -4 0\nf 1 2 3\n";
 
-// Both halves.
+// The square of both halves.
 const SQUARE: &[u8] = b"v -4 4 0\nv 4 4 0\nv 4 -4 0\nv -4 -4 0\nf 1 2 4\nf 2 3 4\n";
 
 // The left half of what an image of 1 by 1 shows.
@@ -27,10 +27,10 @@ const SHARED_CUT: &[u8] = b"v -1 0 3\nv 0 0 3\nv 1 0 3\nv 0 1 5\nf 1 2 4\nf 2 3 
 // The corners of a triangle over all of an image of 1 by 1.
 const COVER: &[u8] = b"mtllib a.mtl\nv -8 8 0\nv 24 8 0\nv -8 -24 0\n";
 
-// That triangle, in a material of the first library.
+// The triangle of `COVER`, in a material of the first library.
 const RED: &[u8] = b"mtllib a.mtl\nv -8 8 0\nv 24 8 0\nv -8 -24 0\nusemtl red\nf 1 2 3\n";
 
-// The same in a material of either of two libraries.
+// The triangle of `COVER`, in a material of either of two libraries.
 const NAMED: &[u8] =
     b"mtllib a.mtl\nmtllib b.mtl\nv -8 8 0\nv 24 8 0\nv -8 -24 0\nusemtl m\nf 1 2 3\n";
 
@@ -105,7 +105,7 @@ f 1 2 3\n\
 usemtl green\n\
 f 4 5 6\n";
 
-// Their materials.
+// The materials of these faces.
 const OPAQUE: &[u8] = b"newmtl red\nKd 1 0 0\nnewmtl green\nKd 0 1 0\n";
 
 // A triangle over all of an image of 1 by 1, and half of it once more.

@@ -56,7 +56,7 @@ is_unknown look names face = is_none (paint_by look names face.name)
 abbrev pub unknown_by : Look → Obj → Option ℕ
 unknown_by look obj = option_map (λ face. face.line) (find (is_unknown look obj.names) obj.faces)
 
--- the same by the materials of a list of libraries
+-- by the materials of a list of libraries: the triangles, and then the line of the first face whose name has no material
 unfoldable pub triangles : List (List ℕ) → Obj → List Triangle
 triangles libraries obj = triangles_by (material libraries) obj
 

@@ -66,7 +66,7 @@ first_full plan triangles shots = position (nat_lt plan.nodes) (totals plan tria
 abbrev pub sound_count : Plan → List Triangle → List Shot → ℕ
 sound_count plan triangles shots = position_or_len (nat_lt plan.nodes) (totals plan triangles shots)
 
--- Those images.
+-- The images before the first full one, or all.
 abbrev pub sound_images : Plan → List Triangle → List Shot → List (List ℕ)
 sound_images plan triangles shots = take (sound_count plan triangles shots) (images plan triangles shots)
 

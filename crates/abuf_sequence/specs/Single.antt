@@ -23,19 +23,19 @@ fault_after before fault.Write = sequence.Write
 fault_after before fault.Memory = sequence.Memory before
 
 module _ (plan : Plan) (triangles : List Triangle) (shot : Shot) where
-  -- Its fragments are so many, and more than the nodes.
+  -- The fragments of the image are so many, and more than the nodes.
   pub record IsFull (fragments nodes : ℕ) : Type 0 where
     pub count : fragments ≡ total_of plan triangles shot
     pub more : plan.nodes < total_of plan triangles shot
     pub nodes_are : nodes ≡ plan.nodes
 
-  -- Its fragments have nodes, and these are the sums of its pixels.
+  -- The fragments of the image have nodes, and these are the sums of its pixels.
   pub record AreSums (sums : List PixelSum) : Type 0 where
     pub fit : total_of plan triangles shot ≤ plan.nodes
     pub are : sums ≡ sums_of plan triangles shot
     pub small : All (IsSmall (length (offsets_of plan.pattern))) sums
 
-  -- Its fragments have nodes, and these are its bytes.
+  -- The fragments of the image have nodes, and these are its bytes.
   pub record AreBytes (bytes : List ℕ) : Type 0 where
     pub fit : total_of plan triangles shot ≤ plan.nodes
     pub are : bytes ≡ image_of plan triangles shot

@@ -25,7 +25,7 @@ pub enum SequenceFault {
 /// Why an image isn't written.
 #[derive(Clone, Copy, Debug, PartialEq, Eq)]
 pub(crate) enum ImageFault {
-    /// It has so many fragments, and there are fewer nodes.
+    /// The image has so many fragments, and there are fewer nodes.
     Full { fragments: u64, nodes: u32 },
     /// The sink failed on the way.
     Write,

@@ -56,7 +56,7 @@ fn target_of(plan: &Plan, nodes: u32, threads: u32) -> Target
     }
 }
 
-/// The sums of the image's pixels, by so many threads, and the frame into which it was drawn. Its primitives are let go.
+/// The sums of the image's pixels, by so many threads, and the frame into which it was drawn. The primitives are dropped.
 #[tactic(auto, unfolding(crate::specs::Sequences::total_of, crate::specs::Sequences::sums_of))]
 fn sums_of<R: Threads + Sync>(
     rt: &R,

@@ -2,7 +2,7 @@
 //!
 //! [`read_path`] reads the shots, or names the first line that is refused (`specs/Paths.antt`). [`sequence`] draws the images of
 //! the shots, as many at once as there are threads and memory for, and writes them in order; `specs/Sequences.antt` says what the
-//! images are, which of them are written, and what is answered.
+//! images are, which of them are written, and what is returned.
 #![tactic(auto)]
 
 mod fault;

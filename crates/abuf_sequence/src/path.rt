@@ -17,20 +17,20 @@ use std::alloc::Global;
 pub struct Shot {
     /// A quaternion: each part from -1024 to 1024, and not all 0.
     pub turn: [i32; 4],
-    /// In units of 1/65536, each part at most 2147483647 either way.
+    /// The shift in units of 1/65536, each part at most 2147483647 either way.
     pub shift: [i64; 3],
 }
 
 /// Why a line of a path is refused. The first cause in this order counts.
 #[derive(Clone, Copy, Debug, PartialEq, Eq)]
 pub enum PathWhy {
-    /// It has tokens, and not seven.
+    /// The line has tokens, and not seven.
     WrongCount,
-    /// One of the first four isn't a number from -1024 to 1024 in its form, or all four are 0.
+    /// One of the first four tokens isn't a number from -1024 to 1024 in its form, or all four are 0.
     BadTurn,
-    /// One of the last three isn't a number that a shift may have.
+    /// One of the last three tokens isn't a number that a shift may have.
     BadNumber,
-    /// It would be image 4097.
+    /// The line would be the path's image 4097.
     TooMany,
 }
 

@@ -24,7 +24,7 @@ use std::thread::{Threads, map_vec};
 
 // What the images that are drawn at once may have together, so that the memory of a run stays below 2 GB. A frame takes 16 bytes a
 // node and 8 a pixel, twice while it is made, and an image 18 bytes a pixel: at most 1.2 GB for so many nodes and pixels. A frame
-// that is kept from an image before is let go before the next is made, so there is never more than one for an image. A primitive
+// that is kept from an image before is dropped before the next is made, so there is never more than one for an image. A primitive
 // takes about 130 bytes, and a triangle has at most two: at most 0.6 GB for so many triangles.
 const NODES_AND_PIXELS_AT_ONCE: u32 = 33554432;
 
@@ -40,7 +40,7 @@ fn images_at_once(plan: &Plan, triangles: usize) -> usize
     (plan.threads.min(frames) as usize).min(lists).max(1)
 }
 
-/// The frame that an image was drawn into. The image is let go.
+/// The frame that an image was drawn into. The image is dropped.
 fn frame_of(drawn: Option<Drawn>) -> Option<Closed> {
     match drawn {
         Some(drawn) => drawn.kept,
@@ -58,7 +58,7 @@ fn job_of(shot: Shot, written: Option<Drawn>) -> Job
     }
 }
 
-/// A job for each shot, with the frame of an image that was written before, as far as there are any. The images are let go.
+/// A job for each shot, with the frame of an image that was written before, as far as there are any. The images are dropped.
 fn jobs_of(alloc: Global, shots: &[Shot], written: Vec<Drawn>) -> Result<Vec<Job>, NoMemory>
     requires { All IsShot shots.now }
     ensures shots { IfOk result (λ jobs. map shot_of jobs.items ≡ shots.now) }
@@ -131,9 +131,9 @@ fn write_images<O: Sink>(drawn: &[Drawn], before: u32, out: &mut O) -> Result<()
     Ok(())
 }
 
-/// Draws the image of each shot, and writes it to `out` by one call, in order. As many images are drawn at once as there are threads,
-/// as far as memory goes; when they are written, what they used is let go before the next are begun, all but their frames, into which
-/// the next are drawn.
+/// Draws the image of each shot, and writes it to `out` by one call, in order. As many images are drawn at once as there are
+/// threads, as far as memory goes; when they are written, what they used is freed before the next are begun, all but their frames,
+/// into which the next are drawn.
 ///
 /// An image with more fragments than there are nodes ends the sequence, and so does a sink that fails, and memory that runs out;
 /// see [`SequenceFault`]. Without shots nothing is written.

@@ -69,7 +69,7 @@ impl Desk {
         Ok((Desk { table, parts }, Turn { seat }))
     }
 
-    /// Draws the next number, which no other turn has and which is above each that this turn had. None comes exactly where it
+    /// Draws the next number, which no other turn has and which is above each that this turn had. Returns `None` exactly if it
     /// is at or beyond the number of parts. A turn that has the whole endowment has the numbers from 0 on, each once.
     pub fn take(&self, turn: &mut Turn) -> Option<u32>
         requires desk { turn.old.table ≡ self.now.table }

@@ -6,7 +6,7 @@ use Rattle.std.specs.List.{slice_split, before_first, list_any}
 abbrev pub is_space : ℕ → Bool
 is_space b = b == 32 || (b == 9 || b == 13)
 
--- it has a byte
+-- the text has a byte
 abbrev pub is_some_text : List ℕ → Bool
 is_some_text text = nat_lt 0 (length text)
 

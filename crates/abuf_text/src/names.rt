@@ -73,7 +73,7 @@ impl Names {
         Ok(())
     }
 
-    /// The same names once more.
+    /// A copy of the names.
     pub fn copy(&self, alloc: Global) -> Result<Names, NoMemory>
         ensures { IfOk result (λ copy. copy ≡ self.now) }
     {

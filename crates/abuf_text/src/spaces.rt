@@ -11,7 +11,7 @@ pub fn is_space(b: u8) -> bool
     b == b' ' || b == b'\t' || b == b'\r'
 }
 
-// That place, or the end.
+// The place, or the end of the bytes if there is none.
 fn or_end(place: Option<usize>, bytes: &[u8]) -> usize
     ensures { result ≡ unwrap_or place (length bytes.now) }
 {
@@ -36,7 +36,7 @@ fn last_text(bytes: &[u8]) -> Option<usize>
     bytes.iter().rev().position(|b| !is_space(*b))
 }
 
-// How many rest stand in front.
+// How many blanks the bytes start with.
 fn spaces_in_front(bytes: &[u8]) -> usize
     ensures count { result ≡ position_or_len is_text bytes.now }
     ensures within { result ≤ length bytes.now }
@@ -44,7 +44,7 @@ fn spaces_in_front(bytes: &[u8]) -> usize
     or_end(first_text(bytes), bytes)
 }
 
-// How many rest stand at the end.
+// How many blanks the bytes end with.
 fn spaces_at_end(bytes: &[u8]) -> usize
     ensures count { result ≡ position_or_len is_text (reverse bytes.now) }
     ensures within { result ≤ length bytes.now }
@@ -80,7 +80,7 @@ pub fn split_token(bytes: &[u8]) -> (&[u8], &[u8])
     bytes.split_at(token_length(bytes))
 }
 
-/// All that follows the keyword, without rest at both ends.
+/// All that follows the keyword, without the blanks at both ends.
 pub fn rest(line: &[u8]) -> &[u8]
     ensures { result.now ≡ rest line.now }
 {

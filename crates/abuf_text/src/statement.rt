@@ -59,7 +59,7 @@ impl<'a> Statement<'a> {
         }
     }
 
-    /// The same tokens once more, for a caller that counts before it reads.
+    /// A second statement with the tokens that are left, for a caller that counts them before it reads.
     pub fn again(&self) -> Statement<'a>
         ensures { result ≡ self.now }
     {

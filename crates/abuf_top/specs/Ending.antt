@@ -55,7 +55,7 @@ abbrev pub HasFrame : Bool → Option Ended → Type 0
 HasFrame true closed = IsSome closed
 HasFrame false closed = IsNone closed
 
--- It is handed back where the output was written, where writing it failed, and where the pool was full.
+-- The frame is handed back where the output was written, where writing it failed, and where the pool was full.
 abbrev pub HandsBack : {T : Type 0} → Bool → Result T Stop → Option Ended → Type 0
 HandsBack one_frame (Err (stop.Refused r)) closed = IsNone closed
 HandsBack one_frame (Err stop.ReadFault) closed = IsNone closed

@@ -50,6 +50,6 @@ told shelf = told_by shelf.tells shelf.holds
 abbrev pub ReadFailed : SourceChange → ShelfChange → Type 0
 ReadFailed source shelf = Rose source.faults_old source.faults_new ⊎ Rose shelf.faults_old shelf.faults_new
 
--- That of faults of writing rose.
+-- A count of faults of writing rose.
 abbrev pub Failed : Taken → Type 0
 Failed sink = Rose sink.faults_old sink.faults_new

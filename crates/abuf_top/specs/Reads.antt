@@ -21,15 +21,15 @@ use Rattle.abuf_top.specs.declared.task.Task.{Task}
 abbrev pub AnswersAsHeld : {T : Type 0} → (Option Holdings → Option T) → (T → Type 0 → Type 0) → ShelfChange → Type 0
 AnswersAsHeld verdict answers shelf = IfSome (verdict (told shelf)) (λ v. answers v (Rose shelf.faults_old shelf.faults_new))
 
--- It calls the shelf at most so often, where that is told.
+-- The call calls the shelf at most so often, where that is told.
 abbrev pub CallsHeld : (Option Holdings → Option ℕ) → ShelfChange → Type 0
 CallsHeld fetches shelf = IfSome (fetches (told shelf)) (CallsAtMost shelf.calls_old shelf.calls_new shelf.faults_old shelf.faults_new)
 
--- It doesn't call the source.
+-- The call doesn't call the source.
 abbrev pub IsUncalled : SourceChange → Type 0
 IsUncalled source = (source.left_new ≡ source.left_old) × (source.faults_new ≡ source.faults_old)
 
--- It takes at most so many bytes from the source, from the front of what that has left, where that is told.
+-- The call takes at most so many bytes from the source, from the front of what that has left, where that is told.
 abbrev pub TakesAtMost : ℕ → SourceChange → Type 0
 TakesAtMost most source = (taken : List ℕ) × Consumes source.left_old source.left_new taken × (length taken ≤ most)
 

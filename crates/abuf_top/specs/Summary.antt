@@ -14,7 +14,7 @@ longest d = picture.longest d.triangles d.job.pattern (region_of d.job)
 abbrev pub values_in : Job → List ℕ → List ℕ
 values_in job bytes = drop (length (pam.header job.camera.width job.camera.height job.maxval)) bytes
 
--- Those of the image that is drawn.
+-- The bytes of the image that is drawn, after its header.
 unfoldable pub values : Drawing → List ℕ
 values d = values_in d.job (image d)
 

@@ -11,16 +11,16 @@ use Rattle.abuf_top.specs.declared.status.Status.{Status}
 use Rattle.abuf_top.specs.declared.status.Status.TheVariants as ended
 use Rattle.abuf_top.specs.declared.stop.Stop.{Stop}
 
--- It took a prefix of the bytes.
+-- The sink took a prefix of the bytes.
 abbrev pub TookPart : Taken → List ℕ → Type 0
 TookPart sink bytes = (count : ℕ) × Appends sink.old sink.new (take count bytes)
 
--- It took a prefix of the text and its line feed, and all of it where it didn't fail.
+-- The sink took a prefix of the text and its line feed, and all of it where it didn't fail.
 pub record TookLine (sink : Taken) (text : List ℕ) : Type 0 where
   pub part : TookPart sink (text ++ 10 ∷ [])
   pub whole : (Failed sink → ⊥) → Appends sink.old sink.new (text ++ 10 ∷ [])
 
--- It took all outputs, one after another.
+-- The sink took all outputs, one after another.
 abbrev pub TookAll : Taken → List (List ℕ) → Type 0
 TookAll sink outputs = Appends sink.old sink.new (concat outputs)
 
@@ -30,7 +30,7 @@ abbrev pub most_whole : Option Refused → ℕ → ℕ
 most_whole None n = n - 1
 most_whole (Some refused) n = n
 
--- It took some of the outputs, each of them whole.
+-- The sink took some of the outputs, each of them whole.
 abbrev pub TookSome : Taken → Verdict → Type 0
 TookSome sink v = (count : ℕ) × (count ≤ most_whole v.refusal (length v.outputs)) × Appends sink.old sink.new (concat (take count v.outputs))
 

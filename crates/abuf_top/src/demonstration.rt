@@ -28,7 +28,8 @@ fn library_shelf(alloc: Global, library: List<u8>) -> Result<SteadyShelf, NoMemo
     Ok(SteadyShelf::new(pairs))
 }
 
-/// The demonstration scene of so many triangles, read on so many threads.
+/// The demonstration scene of so many triangles, read on so many threads. Its text is read where it was made, since a source would
+/// copy it.
 pub fn demonstrate<R: Threads + Sync>(
     rt: &R,
     alloc: Global,

@@ -97,7 +97,7 @@ fn furnish<H: Shelf>(alloc: Global, obj: FlatObj, shelf: &mut H) -> Result<Loade
     Ok(Loaded { obj, materials })
 }
 
-// The scene that these bytes define. They are freed once they are read.
+// The scene that these bytes define. They are freed once they are read, so that what comes after can take their memory.
 fn read_list<R: Threads + Sync>(
     rt: &R,
     alloc: Global,

@@ -39,8 +39,8 @@ fn output_of<R: Threads + Sync, W: Resolve, G: Gate + Sync>(
     }
 }
 
-/// Draws the primitives and writes the output of the job's command by one call, unless a pool is full. Where all fragments are in one
-/// frame, its lists are resolved by the way that is handed in, and the image or the summary that is written comes from the lists of the
+/// Draws the primitives and writes the output of the job's command by one call, unless a pool is full. If all fragments are in one
+/// frame, its lists are resolved by the way that is handed in. The image or the summary that is written comes from the lists of the
 /// frame that is handed back: this function knows no more of the way than what it gives for lists.
 pub fn write_resolved<R: Threads + Sync, O: Sink, W: Resolve, G: Gate + Sync>(
     rt: &R,
@@ -69,7 +69,7 @@ pub fn write_resolved<R: Threads + Sync, O: Sink, W: Resolve, G: Gate + Sync>(
     Outcome { result, closed }
 }
 
-/// The same by compositing, which gives what the definition says.
+/// Draws and writes like [`write_resolved`], by `Compositing`, which gives what the definition says.
 pub fn write_output<R: Threads + Sync, O: Sink, G: Gate + Sync>(
     rt: &R,
     alloc: Global,

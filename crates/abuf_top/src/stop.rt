@@ -42,18 +42,18 @@ pub enum Refusal {
 /// A pool with fewer nodes than there are fragments.
 #[derive(Clone, Copy, Debug, PartialEq, Eq)]
 pub enum FullPool {
-    /// That of the whole image: how many fragments the scene has, and how many nodes the pool.
+    /// The pool of the whole image: how many fragments the scene has, and how many nodes the pool.
     Image {
         fragments: u64,
         nodes: u32,
     },
-    /// That of a band, counted from 1: how many fragments are in the band.
+    /// The pool of a band: the number of the band, from 1, and how many fragments are in it.
     Band {
         band: u32,
         fragments: u64,
         nodes: u32,
     },
-    /// That of an image of a sequence, counted from 1: how many fragments the image has.
+    /// The pool of an image of a sequence: the number of the image, from 1, and how many fragments it has.
     InSequence {
         image: u32,
         fragments: u64,

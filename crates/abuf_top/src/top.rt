@@ -21,7 +21,7 @@ use abuf_io::{Shelf, Sink, Source, write_all};
 use std::alloc::Global;
 use std::thread::Threads;
 
-/// What a run answers.
+/// What a run returns.
 #[derive(Drop)]
 pub struct Ran {
     /// The number of the run's [`Status`](crate::Status): that of the process, from 0 to 9; 1 never comes.
@@ -39,7 +39,7 @@ fn say<E: Sink>(err: &mut E, line: &[u8])
     let _ = write_all(err, line);
 }
 
-// Says how the run stopped, and answers its status.
+// Says how the run stopped, and returns its status.
 fn report<E: Sink>(alloc: Global, err: &mut E, stop: Stop) -> Status
     ensures { Reports stop result (sink_change E.taken E.faults err.old err.new) }
 {
@@ -79,7 +79,7 @@ fn report<E: Sink>(alloc: Global, err: &mut E, stop: Stop) -> Status
     }
 }
 
-// Says why the run stopped, where it did, and answers its status.
+// Says why the run stopped, where it did, and returns its status.
 fn tell<E: Sink>(alloc: Global, err: &mut E, ended: Result<(), Stop>) -> Status
     ensures { Tells ended result (sink_change E.taken E.faults err.old err.new) }
 {
@@ -145,9 +145,9 @@ pub fn run_with<R: Threads + Sync, S: Source, H: Shelf, O: Sink, E: Sink, G: Gat
 /// one call, or a text to `err` that says why not. `demo` draws a scene of its own, and calls neither `scene` nor `shelf`.
 /// `sequence` fetches a path before it reads the scene, and writes an image for each of its shots, each by one call.
 ///
-/// The status is 0 where all of the output was written; 2 where the words refuse, 3 the scene, 4 a library, 9 the path; 5 where
-/// the scene has more fragments than the pool has nodes, or than one has with bands or for an image of a sequence; 6 after a
-/// fault of reading, 7 after one of writing; 8 where memory ran out.
+/// The status is 0 if all of the output was written. It is 2 if the words are refused, 3 if the scene is, 4 if a library is, and 9
+/// if the path is. It is 5 if a pool is full: that of the whole image, of a band or of an image of a sequence. It is 6 after a read
+/// fault, 7 after a write fault, and 8 if memory ran out.
 pub fn run<R: Threads + Sync, S: Source, H: Shelf, O: Sink, E: Sink>(
     rt: &R,
     alloc: Global,

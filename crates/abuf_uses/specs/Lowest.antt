@@ -18,7 +18,7 @@ abbrev pub lowest_sum : List (ℤ × ℤ) → List ℕ → List Triangle → Lis
 lowest_sum offsets background triangles paints n r place =
     summed (lowest_colour offsets background triangles paints n (r.x0 + place % r.w) (r.y0 + place / r.w)) (length offsets)
 
--- Those of all pixels of the region, by ascending place.
+-- The sums over the samples of all pixels of the region, by ascending place.
 abbrev pub lowest_sums : List (ℤ × ℤ) → List ℕ → List Triangle → List Paint → ℕ → Region → List PixelSum
 lowest_sums offsets background triangles paints n r =
     map (lowest_sum offsets background triangles paints n r) (range_with_len 0 (r.w * r.h))

@@ -9,6 +9,6 @@ use Rattle.abuf_raster.specs.Triangle.{Triangle}
 abbrev pub mask_of_place : Triangle → List (ℤ × ℤ) → Region → ℕ → ℕ
 mask_of_place t offsets r place = mask t offsets (r.x0 + place % r.w) (r.y0 + place / r.w)
 
--- Those of all pixels of the region, by ascending place.
+-- The masks of all pixels of the region, by ascending place.
 abbrev pub masks : Triangle → List (ℤ × ℤ) → Region → List ℕ
 masks t offsets r = map (mask_of_place t offsets r) (range_with_len 0 (r.w * r.h))

@@ -1,4 +1,4 @@
--- The place of a point on the screen, in 1/256 pixel.
+-- The position of a point on the screen, in 1/256 pixel.
 use Rattle.std.specs.Prelude.{ℕ, ◌*◌, ℤ, pos, negsuc, neg_ℤ, ◌+ℤ◌, ◌-ℤ◌, ◌*ℤ◌, unsigned_abs}
 use Rattle.abuf_num.specs.declared.limits.TheConstants.{MAX_DEPTH}
 use Rattle.abuf_raster.specs.declared.point.Point.{Point}
@@ -7,7 +7,7 @@ use Rattle.abuf_num.specs.Division.{floor_div, round_div}
 use Rattle.abuf_view.specs.declared.eye.EyePoint.{EyePoint}
 use Rattle.abuf_view.specs.declared.near_plane.EyeTriangle.{EyeTriangle}
 
--- The place on the screen: x to the right and y downward from the upper left corner, both scaled by the height.
+-- The position on the screen: x to the right and y downward from the upper left corner, both scaled by the height.
 abbrev pub shown : ℕ → ℕ → ℤ → EyePoint → Point
 shown width height focal s = record {
   x = pos (128 * width) +ℤ round_div (pos (128 * height) *ℤ focal *ℤ s.x) (pos 65536 *ℤ s.w);

@@ -54,42 +54,42 @@ impl Camera {
         }
     }
 
-    /// The width of its image, in pixels.
+    /// The width of the camera's image, in pixels.
     pub fn width(&self) -> u32
         ensures { result ≡ self.now.width }
     {
         self.width
     }
 
-    /// The height of its image, in pixels.
+    /// The height of the camera's image, in pixels.
     pub fn height(&self) -> u32
         ensures { result ≡ self.now.height }
     {
         self.height
     }
 
-    /// The four parts of its turn, a quaternion.
+    /// The four parts of the camera's turn, a quaternion.
     pub fn turn(&self) -> [i32; 4]
         ensures { result ≡ self.now.turn.a ∷ self.now.turn.b ∷ self.now.turn.c ∷ self.now.turn.d ∷ [] }
     {
         [self.turn.a, self.turn.b, self.turn.c, self.turn.d]
     }
 
-    /// The three parts of its shift, in units of 1/65536.
+    /// The three parts of the camera's shift, in units of 1/65536.
     pub fn shift(&self) -> [i64; 3]
         ensures { result ≡ self.now.shift.x ∷ self.now.shift.y ∷ self.now.shift.z ∷ [] }
     {
         [self.shift.x, self.shift.y, self.shift.z]
     }
 
-    /// Its focal length, in units of 1/65536.
+    /// The focal length of the camera, in units of 1/65536.
     pub fn focal(&self) -> i64
         ensures { result ≡ self.now.focal }
     {
         self.lens.focal
     }
 
-    /// Its near distance, in units of 1/65536.
+    /// The near distance of the camera, in units of 1/65536.
     pub fn near(&self) -> i64
         ensures { result ≡ self.now.near }
     {

@@ -21,9 +21,10 @@ const LEAST_CHUNK: u64 = 4096;
 // The chunks' size is at most 2 to this power.
 const MOST_BITS: u32 = 31;
 
-/// What a camera sees of a scene's points: the eye, the points, and a table of those that it sees in short numbers. What isn't in the
-/// table is computed of the points, so it may lack any of them. It is cut into chunks, which workers make side by side: chunk n
-/// is for 2^bits points, from the point n * 2^bits on.
+/// What a camera sees of a scene's points: the eye, the points, and a table of those that it sees in short numbers. What isn't in
+/// the table is computed of the points, so it may lack any of them. It is cut into chunks, which workers make side by side: chunk n
+/// is for 2^bits points, from the point n * 2^bits on. The chunks stay apart, since joining them would take longer than the
+/// look-ups.
 #[derive(Drop)]
 pub struct PointTable<'a> {
     pub eye: Eye,

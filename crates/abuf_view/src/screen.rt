@@ -33,7 +33,7 @@ fn wide_size(height: u32, focal: i64, x: i64) -> i128
     product(scale, x)
 }
 
-// The same as `screen_part`, in 128 bits.
+// `screen_part` in 128 bits.
 fn wide_part(height: u32, focal: i64, x: i64, w: i64) -> i64
     requires height { height ≤ MAX_SIDE }
     requires focal { (pos 0 ≤ℤ focal) × (focal ≤ℤ pos 1048576) }
@@ -128,7 +128,7 @@ fn shown(screen: Screen, near_plane: NearPlane, s: EyePoint, reciprocal: Recipro
     }
 }
 
-// The same as `depth_value`, in 128 bits.
+// `depth_value` in 128 bits.
 fn wide_depth(near_plane: NearPlane, s: EyePoint) -> u32
     requires near_plane { IsNearPlane near_plane.norm near_plane.w }
     requires inside { near_plane.w ≤ℤ s.w }

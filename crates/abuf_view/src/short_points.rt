@@ -9,7 +9,7 @@ use crate::point::Point3;
 use crate::screen::corner;
 use abuf_raster::ScreenTri;
 
-/// A point on the screen: its place in 1/256 pixel, each coordinate below 2^31 either way, and its depth value.
+/// A point on the screen: its position in 1/256 pixel, each coordinate below 2^31 either way, and its depth value.
 #[derive(Clone, Copy)]
 pub struct ShortPoint {
     pub x: i32,
@@ -39,7 +39,7 @@ fn short_of(x: Option<i32>, y: Option<i32>, depth: u32) -> Option<ShortPoint>
     }
 }
 
-/// Where the eye sees a point of the scene. None comes where the point is behind the near plane, or so far beside the screen that
+/// Where the eye sees a point of the scene. Returns `None` if the point is behind the near plane, or so far beside the screen that
 /// its coordinates aren't short.
 pub fn short_point(eye: &Eye, point: [i64; 3]) -> Option<ShortPoint>
     requires eye { IsEye eye.now }

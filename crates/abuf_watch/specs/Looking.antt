@@ -7,19 +7,19 @@ use Rattle.abuf_frame.specs.Views.{due_of}
 use Rattle.abuf_frame.specs.Walks.{AllMet}
 use Rattle.abuf_watch.specs.declared.looks.Looks.{Looks}
 
--- It reached the end of the list.
+-- The walk reached the end of the list.
 abbrev pub is_whole : Walk → Bool
 is_whole w = w.cursor == 0
 
--- It stopped before the end, though the slice, which has room for so many payloads, wasn't full: it met a node that wasn't linked.
+-- The walk stopped before the end, though the slice, which has room for so many payloads, wasn't full: it met a node that wasn't linked.
 abbrev pub is_stopped : ℕ → Walk → Bool
 is_stopped room w = if w.cursor == 0 then false else nat_lt (length w.passed) room
 
--- It stopped before the end, and the slice was full.
+-- The walk stopped before the end, and the slice was full.
 abbrev pub is_short : ℕ → Walk → Bool
 is_short room w = if w.cursor == 0 then false else (if nat_lt (length w.passed) room then false else true)
 
--- These are the counts of the looks of each kind.
+-- The counts are those of the looks of each kind.
 pub record AreCounts (room : ℕ) (walks : List Walk) (looks : Looks) : Type 0 where
   pub whole : looks.whole ≡ count_by is_whole walks
   pub unlinked : looks.unlinked ≡ count_by (is_stopped room) walks

@@ -15,7 +15,7 @@ pub enum Stop {
     SceneTooLong,
     /// A line of the scene is at fault, or its face has no material.
     SceneLine { line: u32 },
-    /// This library, from 1 on, is missing, too long or at fault.
+    /// The library of this number, from 1, is missing, too long or at fault.
     Library { number: usize },
     /// The scene has more fragments than the pool has nodes.
     Full { fragments: u64, nodes: u32 },

@@ -7,7 +7,7 @@ use abuf_picture::{Primitives, Target};
 #[derive(Clone, Copy)]
 pub struct Watch<'a> {
     pub primitives: Primitives<'a>,
-    /// Its threads draw; the one that watches comes on top of them.
+    /// What is drawn into, and by how many threads; the thread that watches is one more.
     pub target: Target,
     /// The places in the region of the pixels that are looked at: at least one.
     pub places: &'a [u32],

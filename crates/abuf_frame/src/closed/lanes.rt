@@ -41,7 +41,7 @@ fn all_ended(at: &[u64; 8]) -> bool
     *at == [0; 8]
 }
 
-// Passes the node to which the word refers, if it isn't 0: puts its payload last in the list, and answers its next.
+// Passes the node to which the word refers, if it isn't 0: puts its payload last in the list, and returns its next.
 #[inline(always)]
 pub(crate) fn advance(
     words: &Still,
@@ -60,7 +60,7 @@ pub(crate) fn advance(
     Ok(words.word(node + 1))
 }
 
-// The same in each lane. No lane's loads wait for those of another.
+// Each lane passes one node, as by `advance`. No lane's loads wait for those of another.
 #[inline(always)]
 fn advance_all(
     words: &Still,

@@ -19,7 +19,7 @@ fn marked(word: u64, from: u64) -> u64
     if word == NO_WORD { from } else { word + 1 }
 }
 
-/// The same, once the primitives of the first `count` words are taken one after another.
+/// The word from which on primitives are left, once those of the first `count` words are taken one after another.
 fn marked_by(words: &[u64; 16], count: usize, from: u64) -> u64
     requires { count ≤ 16 }
     ensures { result ≡ marked_by (take count words.now) from }
@@ -43,7 +43,7 @@ fn painted(paints: &[Paint], word: u64, under: [u16; 3]) -> [u16; 3]
     }
 }
 
-/// The same, once the primitives of the first `count` words are taken one after another.
+/// The colour, once the primitives of the first `count` words are taken one after another.
 fn painted_by(paints: &[Paint], words: &[u64; 16], count: usize, under: [u16; 3]) -> [u16; 3]
     requires count { count ≤ 16 }
     requires known { AreKnown (length paints.now) words.now }

@@ -24,7 +24,7 @@ fn weighted(value: i128, q: u32) -> i128
     value * q as i128
 }
 
-/// How far the edge function of the edge from a to b changes at most where a place moves by half a pixel either way, weighted
+/// How far the edge function of the edge from a to b changes at most where a position moves by half a pixel either way, weighted
 /// by a difference of depth values.
 fn weighted_reach(a: Point, b: Point, p: u32, q: u32) -> i128
     requires near { IsWithin (2 ^ 45) a × IsWithin (2 ^ 45) b }
@@ -86,7 +86,7 @@ impl ScreenTri {
             + weighted_reach(self.a, self.b, self.qc, self.qa)
     }
 
-    /// Bounds of the quotients, from 0 to 16777215, of weighted depths that differ from that at a place by at most the spread.
+    /// Bounds of the quotients, from 0 to 16777215, of weighted depths that differ from that at a position by at most the spread.
     fn bounds_at(&self, place: Point, area: i128) -> (u32, u32)
         requires place { IsWithin (2 ^ 45) place }
         ensures rising { result.0 ≤ result.1 }

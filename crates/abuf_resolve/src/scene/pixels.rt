@@ -21,11 +21,11 @@ use std::alloc::Global;
 /// What a worker keeps from one pixel to the next, so that few of them take memory.
 #[derive(Drop)]
 pub(crate) struct Buffers {
-    /// The fragments of a pixel, with their bounds,
+    /// The fragments of a pixel, with their bounds.
     fragments: Vec<Bounded>,
-    /// their words in order,
+    /// The words of a pixel's fragments, in order.
     words: Vec<u64>,
-    /// and the words of one sample.
+    /// The words of one sample.
     keys: Vec<u64>,
 }
 
@@ -70,7 +70,7 @@ fn with_fragment(under: [u16; 3], word: u64, paints: &[Paint], k: u32) -> [u16; 
     }
 }
 
-/// Those of a set of samples that the fragment has, if it has sample k; else those that it hasn't.
+/// The samples of a set that the fragment has, if it has sample k; otherwise the samples of the set that it lacks.
 fn alike(set: u32, word: u64, k: u32) -> u32
     requires { k < 16 }
     ensures same { (j : ℕ) → j < 32 → in_set result j ≡ true → (in_set set j ≡ true) × (has_sample j word ≡ has_sample k word) }
@@ -83,7 +83,7 @@ fn alike(set: u32, word: u64, k: u32) -> u32
     }
 }
 
-/// Those of a set of samples that have the same fragments as sample k.
+/// The samples of a set that have exactly the fragments that sample k has.
 fn all_alike(set: u32, words: &[u64], k: u32) -> u32
     requires { k < 16 }
     ensures same { (j : ℕ) → j < 32 → in_set result j ≡ true → All (λ word. has_sample j word ≡ has_sample k word) words.now }
@@ -190,7 +190,7 @@ impl<'a, 'b> Scene<'a, 'b> {
         Ok(lay_all(self.background, keys, self.paints))
     }
 
-    /// The same, where the keys aren't asked for if the sample has one fragment or none.
+    /// The colour of sample k of a pixel, from its words in any order. If it has one fragment or none, no key is computed.
     fn colour_at(
         &self,
         keys: &mut Vec<u64>,

@@ -11,8 +11,8 @@ use crate::scene::{Pixel, Scene};
 use abuf_num::NoMemory;
 
 impl<'a, 'b> Scene<'a, 'b> {
-    /// Puts the word of a fragment in sample k last, which it has, unless it is known to be hidden there, and answers the least that is
-    /// then seen. The key isn't worked out where no key of the triangle reaches the least.
+    /// Puts the word of a fragment in sample k last, which it has, unless it is known to be hidden there, and returns the least
+    /// that is then seen. The key isn't worked out where no key of the triangle reaches the least.
     #[inline(always)]
     fn push_fragment(
         &self,
@@ -40,7 +40,7 @@ impl<'a, 'b> Scene<'a, 'b> {
     }
 
     /// The fragments that have sample k and may be seen there, as words of that sample, in the order of the list, with the least
-    /// that is seen: what an opaque one hides, which stands before it in the list, isn't even kept.
+    /// that is seen. A fragment isn't even kept if an opaque one that precedes it in the list hides it.
     pub(crate) fn gather_seen(
         &self,
         keys: &mut Vec<u64>,
