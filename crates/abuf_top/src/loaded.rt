@@ -43,7 +43,7 @@ impl Loaded {
         ensures cause { IfErr result (HasReadCause ⊥) }
         ensures own { IfOk result (IsTaskOf (Ok job)) }
     {
-        let shown = project_faces(
+        let projected = project_faces(
             rt,
             room,
             &self.obj,
@@ -52,6 +52,6 @@ impl Loaded {
             job.threads(),
         )?;
         drop(self);
-        Ok(Task::Draw(Drawing::new(job, what, shown)))
+        Ok(Task::Draw(Drawing::new(job, what, projected)))
     }
 }

@@ -26,6 +26,6 @@ pub fn seen_by<R: Threads + Sync>(
     let mut materials = Materials::new(alloc);
     read_mtl(alloc, library, &mut materials)?;
     let room = Room::new(alloc, obj.faces().len());
-    let shown = project_faces(rt, room, &obj, &materials, camera, 2)?;
-    Ok(shown)
+    let projected = project_faces(rt, room, &obj, &materials, camera, 2)?;
+    Ok(projected)
 }

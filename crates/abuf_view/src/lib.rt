@@ -3,6 +3,7 @@
 
 mod camera;
 mod checked_camera;
+mod chunks;
 mod eye;
 pub mod laws;
 mod near_plane;
@@ -13,7 +14,6 @@ mod primitive_lists;
 mod projection;
 mod quaternion;
 mod room;
-mod runs;
 mod scenes;
 mod screen;
 mod short_points;

@@ -31,7 +31,7 @@ impl Room {
         ensures tris { result.0 ≡ [] }
         ensures paints { result.1 ≡ [] }
     {
-        match PrimitiveLists::with_room(alloc, count) {
+        match PrimitiveLists::with_capacity(alloc, count) {
             Ok(lists) => Room { alloc, lists },
             Err(NoMemory) => Room {
                 alloc,

@@ -60,6 +60,6 @@ pub fn load<R: Threads + Sync, S: Source, H: Shelf>(
     let bytes = read_all(alloc, source, MAX_BYTES)?;
     let obj = read_obj_on_threads(rt, alloc, bytes.as_slice(), job.threads())?;
     let materials = read_libraries(alloc, shelf, obj.libraries().as_slice())?;
-    let shown = project_faces(rt, room, &obj, &materials, job.camera(), job.threads())?;
-    Ok(shown)
+    let projected = project_faces(rt, room, &obj, &materials, job.camera(), job.threads())?;
+    Ok(projected)
 }

@@ -6,7 +6,7 @@ use Rattle.abuf_scene.specs.Triangles.{triangles_of}
 use Rattle.abuf_scene.specs.Lookup.{look_up}
 use Rattle.abuf_scene.specs.declared.triangles.Triangle.{Triangle}
 use Rattle.abuf_view.specs.declared.near_plane.EyeTriangle.{EyeTriangle}
-use Rattle.abuf_view.specs.Eye.{clipped_by, shown_by}
+use Rattle.abuf_view.specs.Eye.{clipped_by, on_screen_by}
 use Rattle.abuf_view.proofs.Fans.{next_made}
 use Rattle.abuf_view.proofs.Together.{next_known}
 use Rattle.abuf_view.proofs.primitive_lists.faces.project_into.Goals as goal
@@ -26,6 +26,6 @@ loop-face-preserved c =
     record {
       fine = All-tail P face later (subst (All P) is before.fine);
       known = next_known look obj.names face left later is done.known ∙ before.known;
-      tris = next_made (λ (t : Triangle). map (shown_by eye) (clipped_by eye t)) (triangles_of look obj) c.args.faces left later face _ _ is done.tris before.tris;
+      tris = next_made (λ (t : Triangle). map (on_screen_by eye) (clipped_by eye t)) (triangles_of look obj) c.args.faces left later face _ _ is done.tris before.tris;
       paints = next_made (λ (t : Triangle). map (λ (k : EyeTriangle). t.paint) (clipped_by eye t)) (triangles_of look obj) c.args.faces left later face _ _ is done.paints before.paints;
     }
