@@ -13,8 +13,8 @@ from collections import Counter
 
 # The parts, and what the names of their functions hold; the first that fits counts.
 PARTS = {
-    "starting": r"abuf_frame::(frame::.*(start|words)|blank)|atomic_table::.*of_words|abuf_picture::(re)?drawing|abuf_fan::(most|order)|abuf_raster::upper_bound",
-    "projecting": r"abuf_view::|abuf_scene::(assembly|fans|triangles)|abuf_num::division|abuf_top::loaded",
+    "starting": r"abuf_frame::(frame::.*(start|words)|initial_words)|atomic_table::.*of_words|abuf_picture::(re)?drawing|abuf_fan::(bound|order)|abuf_raster::upper_bound",
+    "projecting": r"abuf_view::|abuf_scene::(assembly|triangle_fans|triangles)|abuf_num::division|abuf_top::loaded",
     "reading": r"abuf_(cli|io|text|obj|mtl|scene|num)::|abuf_top::(load|prepare|libraries|demonstration)|bstr::|clap::|std_coll",
     "drawing": r"abuf_(fan|draw|peel)::|abuf_raster::(?!plane)|abuf_frame::pass",
     "resolving": r"abuf_(resolve|band)::|abuf_raster::plane|abuf_picture::resolving|abuf_frame::|::sort::|std::thread::fork",

@@ -43,7 +43,7 @@ fn band_sums<R: Threads + Sync>(
 pub fn render_bands<R: Threads + Sync>(
     rt: &R,
     alloc: Global,
-    shown: &Projected,
+    projected: &Projected,
     width: u32,
     height: u32,
     pattern: Pattern,
@@ -57,9 +57,9 @@ pub fn render_bands<R: Threads + Sync>(
     requires threads { (1 ≤ threads) × (threads ≤ MAX_THREADS) }
     requires bands { (1 ≤ bands) × (bands ≤ height) }
     ensures { let image : Banded = record { width = width; height = height; pattern = pattern; background = background; bands = bands; nodes = nodes } in
-        IsAnswer shown.now.tris shown.now.paints image result }
+        IsAnswer projected.now.tris projected.now.paints image result }
 {
-    let primitives = Primitives::of(shown);
+    let primitives = Primitives::of(projected);
     let mut sums = Vec::with_capacity(alloc, (width * height) as usize)?;
     for band in 0..bands {
         let target = Target {

@@ -7,7 +7,7 @@ use Rattle.abuf_cli.specs.Commands.{app_of_command, command_named, is_given, mat
 use Rattle.abuf_cli.specs.Values.{size_of, pattern_of, threads_of, nodes_of, turn_of, shift_of, focal_of, near_of, background_of, maxval_of, bands_of, at_of, number_of, path_of}
 use Rattle.abuf_cli.specs.declared.parsing.CommandName.{CommandName}
 use Rattle.abuf_cli.specs.declared.parsing.CommandName.TheVariants.{Render, Pick, Demo, Sequence}
-use Rattle.abuf_cli.specs.declared.values.Size.{Size}
+use Rattle.abuf_cli.specs.declared.values.ImageSize.{ImageSize}
 use Rattle.abuf_cli.specs.Job.{Job}
 use Rattle.abuf_cli.specs.declared.settings.Pose.{Pose}
 use Rattle.abuf_view.specs.declared.camera.Lens.{Lens}
@@ -80,7 +80,7 @@ abbrev pub sequence_of : List ℕ → Result Command WordFault
 sequence_of text = need opt.Path (path_of text) (λ name. Ok (command.Sequence name))
 
 -- The command of this name, where the image has this size. Its value has to be given, so that no text stands by default.
-abbrev pub command_of : CommandName → Size → List Row → Result Command WordFault
+abbrev pub command_of : CommandName → ImageSize → List Row → Result Command WordFault
 command_of Render size rows = Ok (command.Draw what.Render)
 command_of Pick size rows = need opt.At (at_of size (text_of opt.At rows)) (λ pixel. Ok (command.Draw (what.Pick pixel.x pixel.y)))
 command_of Demo size rows = need opt.Number (number_of (text_of opt.Number rows)) (λ number. Ok (command.Draw (what.Demo number)))

@@ -4,28 +4,28 @@ use Rattle.std.specs.Str.{bytes_eq}
 use Rattle.abuf_num.specs.Paints.{channel}
 use Rattle.abuf_num.specs.Texts.{whole_number, scaled_number}
 use Rattle.abuf_num.specs.declared.limits.TheConstants.{MAX_COORDINATE, MAX_NODES, MAX_PIXELS, MAX_SIDE, MAX_THREADS}
-use Rattle.abuf_view.specs.Turns.{turn_part, turn_from}
+use Rattle.abuf_view.specs.Turns.{turn_component, turn_from}
 use Rattle.abuf_cli.specs.Splits.{split_once, three_texts, four_texts}
-use Rattle.abuf_cli.specs.declared.values.Size.{Size}
-use Rattle.abuf_cli.specs.declared.values.Pixel.{Pixel}
+use Rattle.abuf_cli.specs.declared.values.ImageSize.{ImageSize}
+use Rattle.abuf_cli.specs.declared.values.PixelPosition.{PixelPosition}
 use Rattle.abuf_cli.specs.declared.values.Triple.{Triple}
 use Rattle.abuf_raster.specs.declared.pattern.Pattern.{Pattern}
 use Rattle.abuf_raster.specs.declared.pattern.Pattern.TheVariants.{One, Two, Four, Eight, Sixteen}
 
 -- A width and a height of 1 to 4096 pixels, whose product is at most 4194304.
-abbrev pub size_within : ℕ → ℕ → Option Size
+abbrev pub size_within : ℕ → ℕ → Option ImageSize
 size_within width height =
     if nat_le 1 width && (nat_le width MAX_SIDE && (nat_le 1 height && (nat_le height MAX_SIDE && nat_le (width * height) MAX_PIXELS)))
     then Some (record { width = width; height = height }) else None
 
 -- The size of a width and a height, where both are numbers.
-abbrev pub size_from : Option ℕ → Option ℕ → Option Size
+abbrev pub size_from : Option ℕ → Option ℕ → Option ImageSize
 size_from None height = None
 size_from (Some width) None = None
 size_from (Some width) (Some height) = size_within width height
 
 -- `WxH`, each one to four digits; the first `x` (120) divides.
-abbrev pub size_of : List ℕ → Option Size
+abbrev pub size_of : List ℕ → Option ImageSize
 size_of text = option_and_then (λ parts. size_from (whole_number 4 parts.0) (whole_number 4 parts.1)) (split_once 120 text)
 
 -- `1`, `2`, `4`, `8` or `16`.
@@ -52,7 +52,7 @@ nodes_of text = counted 1 MAX_NODES (whole_number 7 text)
 
 -- `a,b,c,d`.
 abbrev pub turn_of : List ℕ → Option (List ℤ)
-turn_of text = option_and_then (λ t. turn_from (turn_part t.0) (turn_part t.1) (turn_part t.2) (turn_part t.3)) (four_texts text)
+turn_of text = option_and_then (λ t. turn_from (turn_component t.0) (turn_component t.1) (turn_component t.2) (turn_component t.3)) (four_texts text)
 
 -- Three numbers, where there are all three.
 abbrev pub triple_from : Option ℤ → Option ℤ → Option ℤ → Option Triple
@@ -100,17 +100,17 @@ abbrev pub bands_of : ℕ → List ℕ → Option ℕ
 bands_of height text = counted 1 height (whole_number 4 text)
 
 -- The pixel x from the left and y from the top, where it is within an image of this size.
-abbrev pub pixel_within : Size → ℕ → ℕ → Option Pixel
+abbrev pub pixel_within : ImageSize → ℕ → ℕ → Option PixelPosition
 pixel_within size x y = if nat_lt x size.width && nat_lt y size.height then Some (record { x = x; y = y }) else None
 
 -- The pixel of two numbers, where both are numbers.
-abbrev pub pixel_from : Size → Option ℕ → Option ℕ → Option Pixel
+abbrev pub pixel_from : ImageSize → Option ℕ → Option ℕ → Option PixelPosition
 pixel_from size None y = None
 pixel_from size (Some x) None = None
 pixel_from size (Some x) (Some y) = pixel_within size x y
 
 -- `X,Y`, each one to four digits, a pixel within an image of this size; the first comma (44) divides.
-abbrev pub at_of : Size → List ℕ → Option Pixel
+abbrev pub at_of : ImageSize → List ℕ → Option PixelPosition
 at_of size text = option_and_then (λ parts. pixel_from size (whole_number 4 parts.0) (whole_number 4 parts.1)) (split_once 44 text)
 
 -- One to six digits, 1 to 200000.

@@ -9,7 +9,7 @@ ghost use Rattle.abuf_cli.specs.Jobs.{sequence_of, command_of, job_of, of_matche
 
 use crate::parsing::{CommandName, command_named, matches_of, text_of};
 use crate::settings::{Settings, camera_of};
-use crate::values::{Pixel, Size, at_of, number_of};
+use crate::values::{ImageSize, PixelPosition, at_of, number_of};
 use abuf_num::List;
 use abuf_raster::Pattern;
 use abuf_view::Camera;
@@ -60,7 +60,7 @@ pub enum Opt {
     Threads,
     /// `--nodes`, the fragments that the pool has room for, from 1 to 8388608. 4194304 by default.
     Nodes,
-    /// `--turn a,b,c,d`, a quaternion: each part from -1024 to 1024, and not all 0. 1,0,0,0 by default.
+    /// `--turn a,b,c,d`, a quaternion: each component from -1024 to 1024, and not all 0. 1,0,0,0 by default.
     Turn,
     /// `--move x,y,z`, a shift in lengths of the scene: at most 2147483647/65536 either way. 0,0,-4 by default.
     Shift,
@@ -235,7 +235,7 @@ fn sequence_of(alloc: Global, name: &[u8]) -> Result<Command, WordFault>
 fn command_of(
     alloc: Global,
     name: CommandName,
-    size: Size,
+    size: ImageSize,
     matches: &ArgMatches,
 ) -> Result<Command, WordFault>
     ensures answer { Answers (command_of name size (rows_of (found_of matches.now))) result }
@@ -245,7 +245,7 @@ fn command_of(
     match name {
         CommandName::Render => Ok(Command::Draw(What::Render)),
         CommandName::Pick => match at_of(size, text_of(matches, Opt::At).as_bytes()) {
-            Some(Pixel { x, y }) => Ok(Command::Draw(What::Pick { x, y })),
+            Some(PixelPosition { x, y }) => Ok(Command::Draw(What::Pick { x, y })),
             None => Err(WordFault::Value { option: Opt::At }),
         },
         CommandName::Demo => match number_of(text_of(matches, Opt::Number).as_bytes()) {

@@ -8,8 +8,8 @@ ghost use Rattle.abuf_cli.specs.Poses.{IsPose};
 use crate::job::{Opt, Storage, WordFault};
 use crate::parsing::{CommandName, given_text, is_given, text_of};
 use crate::values::{
-    Size, background_of, bands_of, focal_of, maxval_of, near_of, nodes_of, pattern_of, shift_of,
-    size_of, threads_of, turn_of,
+    ImageSize, background_of, bands_of, focal_of, maxval_of, near_of, nodes_of, pattern_of,
+    shift_of, size_of, threads_of, turn_of,
 };
 use abuf_raster::Pattern;
 use abuf_view::{Camera, Lens};
@@ -71,14 +71,14 @@ fn lens_of(matches: &ArgMatches) -> Result<Lens, WordFault>
 }
 
 /// The camera of this size, pose and lens. What they keep to is Camera's own invariant, in parts.
-pub fn camera_of(size: Size, pose: Pose, lens: Lens) -> Camera
+pub fn camera_of(size: ImageSize, pose: Pose, lens: Lens) -> Camera
     requires size { IsSize size.width size.height }
     requires pose { IsPose pose }
     requires lens { IsLens lens.focal lens.near }
     ensures value { result ≡ camera size.width size.height pose.turn pose.shift lens.focal lens.near }
     ensures sound { IsCamera result }
 {
-    Camera::of_parts(size.width, size.height, pose.turn, pose.shift, lens)
+    Camera::new_unchecked(size.width, size.height, pose.turn, pose.shift, lens)
 }
 
 impl Storage {
@@ -124,7 +124,7 @@ impl Storage {
 /// What the options ask for.
 #[derive(Clone, Copy)]
 pub struct Settings {
-    pub size: Size,
+    pub size: ImageSize,
     pub pattern: Pattern,
     pub threads: u32,
     pub nodes: u32,

@@ -3,7 +3,7 @@ ghost use Rattle.std.specs.Prelude.{◌≡◌, ◌==◌, option_map, position};
 ghost use Rattle.abuf_cli.specs.Splits.{split_once, three_texts, four_texts};
 
 // Where the first such byte stands.
-fn place_of(text: &[u8], byte: u8) -> Option<usize>
+fn find_byte(text: &[u8], byte: u8) -> Option<usize>
     ensures { result ≡ position (λ b. b == byte) text.now }
 {
     text.iter().position(|b| *b == byte)
@@ -13,7 +13,7 @@ fn place_of(text: &[u8], byte: u8) -> Option<usize>
 pub fn split_once(text: &[u8], byte: u8) -> Option<(&[u8], &[u8])>
     ensures { option_map (λ p. (p.0.now, p.1.now)) result ≡ split_once byte text.now }
 {
-    match place_of(text, byte) {
+    match find_byte(text, byte) {
         Some(place) => Some((&text[..place], &text[place + 1..])),
         None => None,
     }

@@ -13,14 +13,14 @@ use abuf_view::turn_from;
 
 /// A width and a height, in pixels.
 #[derive(Clone, Copy)]
-pub struct Size {
+pub struct ImageSize {
     pub width: u32,
     pub height: u32,
 }
 
-/// The place of a pixel, from the left and from the top, both from 0.
+/// The position of a pixel, from the left and from the top, both from 0.
 #[derive(Clone, Copy)]
-pub struct Pixel {
+pub struct PixelPosition {
     pub x: u32,
     pub y: u32,
 }
@@ -34,7 +34,7 @@ pub struct Triple {
 }
 
 // A width and a height within the limits.
-fn size_within(width: u32, height: u32) -> Option<Size>
+fn size_within(width: u32, height: u32) -> Option<ImageSize>
     requires width { width < 10 ^ 4 }
     requires height { height < 10 ^ 4 }
     ensures value { result ≡ size_within width height }
@@ -46,14 +46,14 @@ fn size_within(width: u32, height: u32) -> Option<Size>
         && height <= MAX_SIDE
         && width * height <= MAX_PIXELS
     {
-        Some(Size { width, height })
+        Some(ImageSize { width, height })
     } else {
         None
     }
 }
 
 /// `WxH`.
-pub fn size_of(text: &[u8]) -> Option<Size>
+pub fn size_of(text: &[u8]) -> Option<ImageSize>
     ensures value { result ≡ size_of text.now }
     ensures within { IfSome result (λ s. IsSize s.width s.height) }
 {
@@ -197,19 +197,19 @@ pub fn bands_of(height: u32, text: &[u8]) -> Option<u32>
 }
 
 // The pixel at this place, within an image of this size.
-fn pixel_within(size: Size, x: u32, y: u32) -> Option<Pixel>
+fn pixel_within(size: ImageSize, x: u32, y: u32) -> Option<PixelPosition>
     ensures value { result ≡ pixel_within size x y }
     ensures within { IfSome result (λ p. (p.x < size.width) × (p.y < size.height)) }
 {
     if x < size.width && y < size.height {
-        Some(Pixel { x, y })
+        Some(PixelPosition { x, y })
     } else {
         None
     }
 }
 
 /// `X,Y`, a pixel of an image of this size.
-pub fn at_of(size: Size, text: &[u8]) -> Option<Pixel>
+pub fn at_of(size: ImageSize, text: &[u8]) -> Option<PixelPosition>
     ensures value { result ≡ at_of size text.now }
     ensures within { IfSome result (λ p. (p.x < size.width) × (p.y < size.height)) }
 {

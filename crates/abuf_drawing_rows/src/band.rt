@@ -31,14 +31,14 @@ fn a_pool_for_one_row_draws_four_bands(rt: HostRuntime) -> Result<(), Fail> {
     let alloc = rt.alloc();
     let upper = ScreenTri::new([0, 1024, 0], [0, 0, 1024], [0; 3]).ok_or("upper")?;
     let lower = ScreenTri::new([1024, 1024, 0], [0, 1024, 1024], [0; 3]).ok_or("lower")?;
-    let shown = in_white(alloc, Vec::from_array(alloc, [upper, lower])?)?;
-    let enough = render_bands(&rt, alloc, &shown, 4, 4, Pattern::One, [0; 3], 4, 2, 4);
+    let projected = in_white(alloc, Vec::from_array(alloc, [upper, lower])?)?;
+    let enough = render_bands(&rt, alloc, &projected, 4, 4, Pattern::One, [0; 3], 4, 2, 4);
     let sums = enough.ok().ok_or("sums")?;
     assert_eq!(rt; sums.as_slice().len(), 16);
     for sum in sums.as_slice() {
         assert_eq!(rt; sum.channels, [65535; 3]);
     }
-    let short = render_bands(&rt, alloc, &shown, 4, 4, Pattern::One, [0; 3], 3, 2, 4);
+    let short = render_bands(&rt, alloc, &projected, 4, 4, Pattern::One, [0; 3], 3, 2, 4);
     let fault = short.err().ok_or("fault")?;
     let full = BandFault::Full {
         band: 1,
@@ -53,8 +53,8 @@ fn a_pool_for_one_row_draws_four_bands(rt: HostRuntime) -> Result<(), Fail> {
 fn bands_that_have_nodes_are_passed(rt: HostRuntime) -> Result<(), Fail> {
     let alloc = rt.alloc();
     let lower = ScreenTri::new([1024, 1024, 0], [0, 1024, 1024], [0; 3]).ok_or("lower")?;
-    let shown = in_white(alloc, Vec::from_array(alloc, [lower])?)?;
-    let short = render_bands(&rt, alloc, &shown, 4, 4, Pattern::One, [0; 3], 3, 2, 4);
+    let projected = in_white(alloc, Vec::from_array(alloc, [lower])?)?;
+    let short = render_bands(&rt, alloc, &projected, 4, 4, Pattern::One, [0; 3], 3, 2, 4);
     let fault = short.err().ok_or("fault")?;
     let full = BandFault::Full {
         band: 4,

@@ -3,7 +3,7 @@ ghost use Rattle.std.specs.Prelude.{◌≡◌, ◌≤◌};
 ghost use Rattle.abuf_num.specs.declared.limits.TheConstants.{MAX_THREADS};
 ghost use Rattle.abuf_raster.specs.Region.{IsImageSize, whole_image};
 
-use abuf_fan::{Gate, MeetingGate, draw_all, most_fragments};
+use abuf_fan::{Gate, MeetingGate, draw_all, max_fragments};
 use abuf_frame::{Frame, Pass};
 use abuf_raster::{Pattern, Region, ScreenTri};
 use std::alloc::Global;
@@ -37,12 +37,12 @@ fn halves() -> Option<[ScreenTri; 2]> {
 fn no_fewer_than_the_fragments(rt: HostRuntime) -> Result<(), Fail> {
     let halves = halves().ok_or("no triangle")?;
     for threads in 1..4 {
-        let most = most_fragments(&rt, &halves, square(), Pattern::One, threads, 1000);
+        let most = max_fragments(&rt, &halves, square(), Pattern::One, threads, 1000);
         assert!(rt; 16 <= most && most <= 32, "by {threads} threads");
-        let few = most_fragments(&rt, &halves, square(), Pattern::One, threads, 8);
+        let few = max_fragments(&rt, &halves, square(), Pattern::One, threads, 8);
         assert!(rt; 8 <= few && few <= most, "by {threads} threads");
     }
-    assert!(rt; most_fragments(&rt, &[], square(), Pattern::Eight, 64, 1000) == 0);
+    assert!(rt; max_fragments(&rt, &[], square(), Pattern::Eight, 64, 1000) == 0);
     Ok(())
 }
 
@@ -160,7 +160,7 @@ fn a_gate_tells_other_calls(rt: HostRuntime) -> Result<(), Fail> {
 #[test]
 fn workers_in_turn_have_not_met(rt: HostRuntime) -> Result<(), Fail> {
     let alloc = rt.alloc();
-    let gate = MeetingGate::of_turns(alloc, 2, 1, 1000)?;
+    let gate = MeetingGate::with_loads(alloc, 2, 1, 1000)?;
     let (frame, mut pass) = Frame::start(alloc, 1, 2)?;
     gate.pass_by(0, &pass);
     pass.insert(&frame, 0, 7);

@@ -57,8 +57,8 @@ fn two_halves_make_a_square(rt: HostRuntime) -> Result<(), Fail> {
     let mut paints = List::new(alloc);
     paints.push(WHITE)?;
     paints.push(WHITE)?;
-    let shown = Projected { tris, paints };
-    let sums = peel(&rt, alloc, &shown, 4, 4, Pattern::One, [0; 3], 2)?;
+    let projected = Projected { tris, paints };
+    let sums = peel(&rt, alloc, &projected, 4, 4, Pattern::One, [0; 3], 2)?;
     assert_eq!(rt; sums.as_slice().len(), 16);
     for sum in sums.as_slice() {
         assert_eq!(rt; sum.channels, [65535; 3]);
@@ -85,8 +85,8 @@ fn twenty_films(alloc: Global) -> Result<Projected, Fail> {
 #[test]
 fn the_nearest_of_twenty_films_shows(rt: HostRuntime) -> Result<(), Fail> {
     let alloc = rt.alloc();
-    let shown = twenty_films(alloc)?;
-    let sums = peel(&rt, alloc, &shown, 1, 1, Pattern::One, [0; 3], 1)?;
+    let projected = twenty_films(alloc)?;
+    let sums = peel(&rt, alloc, &projected, 1, 1, Pattern::One, [0; 3], 1)?;
     assert_eq!(rt; sums.as_slice().len(), 1);
     assert_eq!(rt; sums.as_slice()[0].channels, [1000, 0, 0]);
     Ok(())

@@ -47,9 +47,9 @@ fn a_square_is_drawn_looked_at_and_resolved(rt: HostRuntime) -> Result<(), Fail>
     for sum in resolved.sums.as_slice() {
         assert_eq!(rt; sum.channels, [65535; 3]);
     }
-    let sight = draw_and_look(&rt, alloc, &primitives, &target, 0, &OpenGate)?;
-    assert_eq!(rt; sight.entries, 16);
-    assert_eq!(rt; sight.words.len(), 1);
+    let pixel_view = draw_and_look(&rt, alloc, &primitives, &target, 0, &OpenGate)?;
+    assert_eq!(rt; pixel_view.entries, 16);
+    assert_eq!(rt; pixel_view.words.len(), 1);
     Ok(())
 }
 

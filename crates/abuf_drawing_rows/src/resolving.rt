@@ -8,7 +8,7 @@ ghost use Rattle.abuf_resolve.specs.Words.{IsFragmentAt, AreFragmentLists};
 use abuf_frame::{Closed, Frame};
 use abuf_num::{NoMemory, Paint, PixelSum};
 use abuf_raster::{Fragment, Pattern, Region, ScreenTri, depth_at, mask_at, pack};
-use abuf_resolve::{Planes, Resolved, Scene, over, resolve, resolve_counted};
+use abuf_resolve::{Planes, Resolved, Shading, over, resolve, resolve_counted};
 use std::alloc::Global;
 use std::test::Fail;
 use std::thread::Threads;
@@ -228,13 +228,13 @@ fn resolved<R: Threads + Sync>(
     let sums = resolve(
         rt, alloc, &closed, region, tris, paints, pattern, WHITE, threads,
     )?;
-    let scene = Scene {
+    let shading = Shading {
         planes: Planes::new(alloc, tris)?,
         paints,
         pattern,
         background: WHITE,
     };
-    let all = resolve_counted(rt, alloc, &closed, region, &scene, threads)?;
+    let all = resolve_counted(rt, alloc, &closed, region, &shading, threads)?;
     if sums.as_slice() != all.sums.as_slice() {
         return Err("two answers".into());
     }

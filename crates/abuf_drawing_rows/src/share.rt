@@ -1,7 +1,7 @@
 // Calls by number on threads, and a desk.
 ghost use Rattle.std.specs.Prelude.{◌≡◌, ◌≤◌};
 ghost use Rattle.abuf_num.specs.declared.limits.TheConstants.{MAX_THREADS};
-ghost use Rattle.abuf_share.specs.declared.desk.TheConstants.{MAX_PARTS};
+ghost use Rattle.abuf_share.specs.declared.desk.TheConstants.{MAX_NUMBERS};
 
 use abuf_num::NoMemory;
 use abuf_share::{Desk, map_numbered};
@@ -21,7 +21,7 @@ fn by_number<R: Threads + Sync + Abort>(
     count: u32,
     threads: u32,
 ) -> Result<(), Fail>
-    requires count { count ≤ MAX_PARTS }
+    requires count { count ≤ MAX_NUMBERS }
     requires threads { (1 ≤ threads) × (threads ≤ MAX_THREADS) }
 {
     let found = map_numbered(

@@ -2,7 +2,7 @@
 ghost use Rattle.std.specs.Prelude.{◌<◌};
 
 use abuf_raster::{
-    Fragment, Hit, Pattern, Region, ScreenTri, TileHits, TileWalk, count_hits, mask_at, most_hits,
+    Fragment, Hit, Pattern, Region, ScreenTri, TileHits, TileWalk, count_hits, mask_at, max_hits,
 };
 use std::test::Fail;
 
@@ -134,15 +134,15 @@ fn a_walk_over_a_part_of_a_vast_triangle(rt: HostRuntime) -> Result<(), Fail> {
 #[test]
 fn no_fewer_than_the_hits(rt: HostRuntime) -> Result<(), Fail> {
     let t = ScreenTri::new([0, 1024, 0], [0, 0, 1024], [0; 3]).ok_or("t")?;
-    let most = most_hits(&t, odd(), Pattern::One);
+    let most = max_hits(&t, odd(), Pattern::One);
     assert!(rt; most <= 2, "of the 16 pixels 2 are in the region");
-    let most = most_hits(&t, four_by_four(), Pattern::Eight);
+    let most = max_hits(&t, four_by_four(), Pattern::Eight);
     assert!(rt; 10 <= most && most <= 16);
     let around = ScreenTri::new([-90000, 90000, 0], [-50000, -50000, 90000], [0; 3]);
     let around = around.ok_or("around")?;
-    assert_eq!(rt; most_hits(&around, odd(), Pattern::One), 999);
+    assert_eq!(rt; max_hits(&around, odd(), Pattern::One), 999);
     let line = ScreenTri::new([0, 5000, 10000], [0, 2500, 5000], [0; 3]).ok_or("line")?;
-    assert_eq!(rt; most_hits(&line, odd(), Pattern::Sixteen), 0);
+    assert_eq!(rt; max_hits(&line, odd(), Pattern::Sixteen), 0);
     Ok(())
 }
 

@@ -4,8 +4,8 @@ use Rattle.std.proofs.lemmas.List.{length-map, drop_all}
 use Rattle.abuf_raster.specs.Region.{Region}
 use Rattle.abuf_raster.specs.Triangle.{Triangle}
 use Rattle.abuf_raster.specs.Hits.{all_fragments, fragments, hits, placed}
-use Rattle.abuf_fan.specs.Most.{IsMost}
-use Rattle.abuf_fan.proofs.Parts.{next_of, all_fragments-append}
+use Rattle.abuf_fan.specs.Bound.{IsBound}
+use Rattle.abuf_fan.proofs.Chunks.{next_of, all_fragments-append}
 
 module _ (os : List (ℤ × ℤ)) (r : Region) where
   -- one triangle more has at most as many fragments more as it has hits
@@ -25,7 +25,7 @@ module _ (os : List (ℤ × ℤ)) (r : Region) where
   most_done ts i n l = ap (λ (us : List Triangle). length (all_fragments us n os r)) (drop_all i ts l)
 
   -- the triangles before a place, and those from there on
-  pub most_both : (ts us : List Triangle) (enough m n : ℕ) → IsMost ts os r enough m → IsMost us os r enough n → IsMost (ts ++ us) os r enough (m + n)
+  pub most_both : (ts us : List Triangle) (enough m n : ℕ) → IsBound ts os r enough m → IsBound us os r enough n → IsBound (ts ++ us) os r enough (m + n)
   most_both ts us enough m n f g first =
       let a = ap (λ (xs : List (ℕ × ℕ)). length xs) (all_fragments-append os r ts us first) in
       let b = length-append (all_fragments ts first os r) (all_fragments us (first + length ts) os r) in

@@ -1,4 +1,4 @@
-pub mod Parts
+pub mod Chunks
 pub mod Growing
 pub mod Taken
 pub mod Serving

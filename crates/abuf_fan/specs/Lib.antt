@@ -1,5 +1,5 @@
-pub mod Parts
+pub mod Chunks
 pub mod Grows
 pub mod Workers
-pub mod Most
+pub mod Bound
 pub mod Order

@@ -8,37 +8,37 @@ ghost use Rattle.abuf_fan.specs.Grows.{Grows};
 ghost use Rattle.abuf_fan.specs.Workers.{CanServe, HaveServed, Parted, credit_for};
 ghost use denote.Param.Send.{IsSync};
 
+use crate::chunk::{chunk_of, draw_chunk};
 use crate::gate::Gate;
 use crate::order::order_of;
-use crate::part::{draw_part, part_of};
 use crate::work::{Work, Workers};
 use abuf_frame::{Frame, Pass};
 use abuf_num::NoMemory;
 use abuf_raster::{Pattern, Region, ScreenTri};
-use abuf_share::{Desk, MAX_PARTS, Turn};
+use abuf_share::{Desk, MAX_NUMBERS, Turn};
 use std::alloc::Global;
 use std::thread::{Threads, join_mut};
 
-/// The second call of the gate, where the worker has drawn no part before.
+/// The second call of the gate, where the worker has drawn no chunk before.
 fn pass_by_again<G: Gate>(gate: &G, worker: u32, pass: &Pass, next: u32) {
     if next == 0 {
         gate.pass_by(worker, pass);
     }
 }
 
-/// Takes parts from the desk and draws them, until none is left.
-fn draw_parts<G: Gate>(gate: &G, worker: u32, work: &Work, pass: &mut Pass, turn: &mut Turn)
+/// Takes chunks from the desk and draws them, until none is left.
+fn draw_chunks<G: Gate>(gate: &G, worker: u32, work: &Work, pass: &mut Pass, turn: &mut Turn)
     requires can { CanServe work.now 1 turn.old pass.old }
     ensures served { HaveServed work.now turn.old turn.new pass.old pass.new }
 {
     gate.pass_by(worker, pass);
-    // One above the last part drawn, and 0 before the first.
+    // One above the last chunk drawn, and 0 before the first.
     let mut next = 0;
-    while let Some(part) = work.desk.take(turn) {
-        let numbers = part_of(work.order, part);
-        draw_part(work, pass, numbers);
+    while let Some(chunk) = work.desk.take(turn) {
+        let numbers = chunk_of(work.order, chunk);
+        draw_chunk(work, pass, numbers);
         pass_by_again(gate, worker, pass, next);
-        next = part + 1;
+        next = chunk + 1;
     }
     pass_by_again(gate, worker, pass, next);
 }
@@ -56,7 +56,7 @@ fn lend(work: &Work, pass: &mut Pass, left: u32, right: u32) -> Pass
     pass.split(work.frame, right as u64 * each)
 }
 
-/// Draws parts by these workers: each half of them on a thread of its own, the right one by a pass and a turn that are split
+/// Draws chunks by these workers: each half of them on a thread of its own, the right one by a pass and a turn that are split
 /// off, and joined when both halves have returned.
 fn draw_workers<R: Threads + Sync, G: Gate + Sync>(
     rt: &R,
@@ -70,12 +70,12 @@ fn draw_workers<R: Threads + Sync, G: Gate + Sync>(
     ensures served { HaveServed work.now turn.old turn.new pass.old pass.new }
 {
     if workers.count == 1 {
-        draw_parts(gate, workers.first, work, pass, turn);
+        draw_chunks(gate, workers.first, work, pass, turn);
         return;
     }
     let (left, right) = workers.halves();
     let mut other = lend(work, pass, left.count, right.count);
-    let mut other_turn = turn.split(work.desk, right.count as u64 * (MAX_PARTS + 1) as u64);
+    let mut other_turn = turn.split(work.desk, right.count as u64 * (MAX_NUMBERS + 1) as u64);
     join_mut(
         rt,
         &mut ||

@@ -1,13 +1,13 @@
 // What is drawn, and by which workers.
 ghost use Rattle.std.specs.Prelude.{◌≡◌, ◌+◌, ◌-◌, ◌*◌, ◌/◌, ◌≤◌, length};
 ghost use Rattle.abuf_num.specs.declared.limits.TheConstants.{MAX_PRIMITIVES, MAX_THREADS};
-ghost use Rattle.abuf_fan.specs.Parts.{IsOrder, parts_of};
+ghost use Rattle.abuf_fan.specs.Chunks.{IsOrder, chunks_of};
 
 use abuf_frame::Frame;
 use abuf_raster::{Pattern, Region, ScreenTri};
 use abuf_share::Desk;
 
-/// What all workers of a drawing share: the frame, the desk from which they take the numbers of parts, and what is drawn.
+/// What all workers of a drawing share: the frame, the desk from which they take the numbers of chunks, and what is drawn.
 #[derive(Clone, Copy)]
 pub(crate) struct Work<'a> {
     pub(crate) frame: &'a Frame,
@@ -20,7 +20,7 @@ pub(crate) struct Work<'a> {
     pub(crate) ghost fits: { region.w * region.h ≤ frame.now.pixels },
     pub(crate) ghost few: { length tris.now ≤ MAX_PRIMITIVES },
     pub(crate) ghost each: { IsOrder (length tris.now) order.now },
-    pub(crate) ghost parts: { desk.now.parts ≡ parts_of (length order.now) },
+    pub(crate) ghost chunks: { desk.now.limit ≡ chunks_of (length order.now) },
 }
 
 /// Workers whose numbers follow each other.

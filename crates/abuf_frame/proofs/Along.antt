@@ -6,7 +6,7 @@ use Rattle.std.proofs.lemmas.List.{length-map, drop_more, set_at}
 use Rattle.atomic_table.specs.Table.{Me, Allows}
 use Rattle.abuf_frame.specs.declared.view.Walk.{Walk}
 use Rattle.abuf_frame.specs.declared.view.View.{View}
-use Rattle.abuf_frame.specs.declared.view.Size.{Size}
+use Rattle.abuf_frame.specs.declared.view.FrameSize.{FrameSize}
 use Rattle.abuf_frame.specs.declared.look.Look.TheVariants.{All, More, Unlinked}
 use Rattle.abuf_frame.specs.Chains.{IsListAt}
 use Rattle.abuf_frame.specs.Look.{Looked, ShowsList, Written}
@@ -60,7 +60,7 @@ full_list pixel nodes v old out here count me g away full whole settled = let l 
 
 module _ (pixel nodes : ℕ) (v : View) (old out : List ℕ) (here count : ℕ) (me : Me (Unit {0}) View) (g : Going pixel nodes v old out here count me) (away : here ≢ 0) where
   -- A load of the payload at the cursor, which is noted, is allowed.
-  pub may_note : (k : Size) (slots id : ℕ) → Allows (Lawful k) slots id me (payload_word k.pixels (here - 1)) (λ n. n) (λ found now. (now ≡ (walked_on (noting found) me.0, [])) × Unit {0})
+  pub may_note : (k : FrameSize) (slots id : ℕ) → Allows (Lawful k) slots id me (payload_word k.pixels (here - 1)) (λ n. n) (λ found now. (now ≡ (walked_on (noting found) me.0, [])) × Unit {0})
   may_note k slots id = subst (λ (i : ℕ). Allows (Lawful k) slots id me (payload_word k.pixels (i - 1)) (λ n. n) (λ found now. (now ≡ (walked_on (noting found) me.0, [])) × Unit {0})) g.cursor_is
       (looks_payload k slots id me (ap (λ (m : Me (Unit {0}) View). m.1) g.is) v.walks g.walk (ap (λ (m : Me (Unit {0}) View). m.0.walks) g.is) (λ e. away (sym g.cursor_is ∙ e)))
 
@@ -83,7 +83,7 @@ module _ (pixel nodes : ℕ) (v : View) (old out : List ℕ) (here count : ℕ) 
     has_noted = subst LastHasNoted (sym last1) (subst (λ (T : Type 0). T) (sym (on_last_is (λ (w : Walk). IsNoted w.noted) v.walks (noting y g.walk))) tt)
 
     -- A load of the next of that node is allowed.
-    pub may_go : (k : Size) (slots id : ℕ) → k.nodes < mark
+    pub may_go : (k : FrameSize) (slots id : ℕ) → k.nodes < mark
         → Allows (Lawful k) slots id m1 (next_word k.pixels (here - 1)) (λ n. n) (λ found now. (now ≡ (walked_on (going found) m1.0, [])) × OnLast (λ (w : Walk). Shown k.nodes m1.0 w found) m1.0.walks)
     may_go k slots id few = subst (λ (i : ℕ). Allows (Lawful k) slots id m1 (next_word k.pixels (i - 1)) (λ n. n) (λ found now. (now ≡ (walked_on (going found) m1.0, [])) × OnLast (λ (w : Walk). Shown k.nodes m1.0 w found) m1.0.walks)) g.cursor_is
         (looks_next k slots id m1 (ap (λ (m : Me (Unit {0}) View). m.1) is1) v.walks (noting y g.walk) last1 (λ e. away (sym g.cursor_is ∙ e)) y refl few)

@@ -14,7 +14,7 @@ use Rattle.abuf_frame.specs.declared.view.Stage.{Stage}
 use Rattle.abuf_frame.specs.declared.view.Stage.TheVariants.{Claimed, Lost}
 use Rattle.abuf_frame.specs.declared.view.Entry.{Entry}
 use Rattle.abuf_frame.specs.declared.view.View.{View}
-use Rattle.abuf_frame.specs.declared.view.Size.{Size}
+use Rattle.abuf_frame.specs.declared.view.FrameSize.{FrameSize}
 use Rattle.abuf_num.specs.Counting.{below, times}
 use Rattle.abuf_frame.specs.Views.{Below, endowment, loose, number_of, numbers, whole_view}
 use Rattle.abuf_frame.specs.Lawful.{Agree, AreWalks, Lawful, Told}
@@ -49,8 +49,8 @@ one_view : (P : ℕ → View → Type 0) (v : View) → P 0 v → (j : ℕ) (u :
 one_view P v h zero u e = subst (P 0) (some-injective v u e) h
 one_view P v h (suc j) u e = absurd (some-ne-none u (sym e))
 
--- Blank words with one whole view are lawful.
-pub starts : (k : Size) (words : List ℕ) → length words ≡ 1 + k.pixels + 2 * k.nodes → ((i : ℕ) → i < 1 + k.pixels → slice_index words i ≡ 0)
+-- The initial words with one whole view are lawful.
+pub starts : (k : FrameSize) (words : List ℕ) → length words ≡ 1 + k.pixels + 2 * k.nodes → ((i : ℕ) → i < 1 + k.pixels → slice_index words i ≡ 0)
     → ((n : ℕ) → n < k.nodes → slice_index words (next_word k.pixels n) ≡ mark) → Lawful k (opening words [] whole_view)
 starts k words wide zeros marks = record {
   stage = first_stage k.nodes;
@@ -103,7 +103,7 @@ times_new nodes n first (suc count) = let r = times_new nodes n (first + 1) coun
     let same : (first + 1) + count ≡ first + suc count = omega arith in let e : below n ((first + 1) + count) ≡ below n (first + suc count) = ap (λ (x : ℕ). below n x) same in omega arith
 
 -- what the counter leaves
-pub room : (k : Size) (s : St) → Lawful k s → (id : ℕ) (v : View) → get_elem? s.views id ≡ some v → v.credit + slice_index s.words 0 ≤ 2 ^ 60
+pub room : (k : FrameSize) (s : St) → Lawful k s → (id : ℕ) (v : View) → get_elem? s.views id ≡ some v → v.credit + slice_index s.words 0 ≤ 2 ^ 60
 room k s r id v at = let b = sum_both (λ (u : View). u.credit) (λ (u : View). length u.entries) s.views in let c = sum_le (λ (u : View). u.credit) s.views id v at in let d = r.counted in let e = r.endowed in omega arith
 
 -- What holds of all other views and of a new one holds after one was replaced by it.
@@ -111,7 +111,7 @@ pub views_set : (P : View → Type 0) (vs : List View) (id : ℕ) (w : View) →
 views_set P vs id w mine others j u e = ⊎_elim (λ (t : (j ≡ id) × (w ≡ u)). subst P t.1 mine) (λ (t : (j ≢ id) × (get_elem? vs j ≡ some u)). others j u t.0 t.1) (at_set vs id j w u e)
 
 -- A number that nobody has claimed is at its first stage.
-pub unclaimed : (k : Size) (s : St) (r : Lawful k s) (n : ℕ) → slice_index s.words 0 ≤ n → r.stage n ≡ first_stage k.nodes n
+pub unclaimed : (k : FrameSize) (s : St) (r : Lawful k s) (n : ℕ) → slice_index s.words 0 ≤ n → r.stage n ≡ first_stage k.nodes n
 unclaimed k s r n l = ⊎_elim (λ (h : n < k.nodes). r.fresh n l h ∙ sym (first_claimed k.nodes n h)) (λ (h : k.nodes ≤ n). r.lost n h ∙ sym (first_lost k.nodes n h)) (cases_lt n k.nodes)
 
 -- After a claim a view has the numbers of before and those claimed.
@@ -121,7 +121,7 @@ numbers_claimed nodes first count n v = let e = map-append number_of v.entries (
     let u = times_new nodes n first count in let z = ap (times n) e in omega arith
 
 -- A claim keeps the state lawful.
-claim_state : (k : Size) (s : St) (r : Lawful k s) (id count c : ℕ) (v : View) → get_elem? s.views id ≡ some v → count ≤ v.credit → slice_index s.words 0 ≡ c
+claim_state : (k : FrameSize) (s : St) (r : Lawful k s) (id count c : ℕ) (v : View) → get_elem? s.views id ≡ some v → count ≤ v.credit → slice_index s.words 0 ≡ c
     → Lawful k record { words = set s.words 0 (c + count); homes = s.homes; views = set s.views id (claimed k.nodes c count v) }
 claim_state k s r id count c v at fits is = let w : View = claimed k.nodes c count v in let wide = r.wide in
     let here : get_or (set s.words 0 (c + count)) 0 0 ≡ c + count = get_or-set_same s.words 0 (c + count) 0 (omega arith) in
@@ -153,11 +153,11 @@ all_standing P [] h = tt
 all_standing P (e ∷ es) h = (h e.number (let t = ap (λ (b : Bool). cond {A = ℕ} b 1 0) (eq-eqb e.number e.number refl) in omega arith), all_standing P es (λ n l. h n (omega arith)))
 
 -- The entries of each view are below the counter.
-pub all_below : (k : Size) (s : St) → Lawful k s → (id : ℕ) (v : View) → get_elem? s.views id ≡ some v → Below (slice_index s.words 0) v.entries
+pub all_below : (k : FrameSize) (s : St) → Lawful k s → (id : ℕ) (v : View) → get_elem? s.views id ≡ some v → Below (slice_index s.words 0) v.entries
 all_below k s r id v at = all_standing (λ n. n < slice_index s.words 0) v.entries (λ n l. let t = sum_le (λ (u : View). times n (numbers u)) s.views id v at in let o = r.once n in below_from n (slice_index s.words 0) (omega arith))
 
 -- A pass with enough credit may claim.
-pub claims : (k : Size) (slots id count : ℕ) (me : Me (Unit {0}) View) → me.1 ≡ [] → count ≤ me.0.credit
+pub claims : (k : FrameSize) (slots id count : ℕ) (me : Me (Unit {0}) View) → me.1 ≡ [] → count ≤ me.0.credit
     → Allows (Lawful k) slots id me 0 (λ n. (n + count) % 2 ^ 64) (λ found now. (now ≡ (claimed k.nodes found count me.0, [])) × ((found + count ≤ 2 ^ 60) × Below found me.0.entries))
 claims k slots id count me bare fits s r deep at small = let c : ℕ = slice_index s.words 0 in let m = room k s r id me.0 at in
     let whole : c + count ≡ (c + count) % 2 ^ 64 = omega arith in (

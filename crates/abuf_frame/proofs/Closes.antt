@@ -5,7 +5,7 @@ use lib.ListN.{get_elem?}
 use Rattle.std.proofs.lemmas.List.FromFn.{get_or-map-range_with_len, length-map-range_with_len}
 use Rattle.atomic_table.specs.Table.{Final, Seen}
 use Rattle.abuf_frame.specs.declared.view.View.{View}
-use Rattle.abuf_frame.specs.declared.view.Size.{Size}
+use Rattle.abuf_frame.specs.declared.view.FrameSize.{FrameSize}
 use Rattle.abuf_frame.specs.declared.view.Walk.{Walk}
 use Rattle.abuf_frame.proofs.Looks.{seen_end}
 use Rattle.abuf_frame.specs.Chains.{IsListAt}
@@ -30,12 +30,12 @@ pub lists_length : (words : List ℕ) (pixels nodes first count : ℕ) → lengt
 lists_length words pixels nodes first count = length-map-range_with_len (λ q. payloads_from words pixels nodes (slice_index words (head_word q))) first count
 
 -- what a closed frame promises, of the words that lie under it and the view of the pass that closed it
-abbrev pub Good : Size → View → List ℕ → Type 0
+abbrev pub Good : FrameSize → View → List ℕ → Type 0
 Good k v ws = Kept ws k.pixels k.nodes × (lost v.entries ≡ length v.entries - k.nodes) × AllSeen (lists_from ws k.pixels k.nodes 0 k.pixels) v.walks
     × ((p : ℕ) → p < k.pixels → IsListAt p v.entries (slice_index_or (lists_from ws k.pixels k.nodes 0 k.pixels) p []))
     × ((p : ℕ) → p < k.pixels → (l : List ℕ) → IsListAt p v.entries l → l ≡ slice_index_or (lists_from ws k.pixels k.nodes 0 k.pixels) p [])
 
-module _ (k : Size) (id : ℕ) (v : View) (whole : IsWhole v) (settled : IsSettled v) (sized : Sized k.pixels k.nodes) (sound : AllInRange k.pixels k.nodes v.entries) where
+module _ (k : FrameSize) (id : ℕ) (v : View) (whole : IsWhole v) (settled : IsSettled v) (sized : Sized k.pixels k.nodes) (sound : AllInRange k.pixels k.nodes v.entries) where
   -- the words of the last state of a frame that a whole, settled pass closes
   module _ (s : St) (h : Seen (Lawful k) id v s) where
     -- A pixel's list, the walk from its head, gives the payloads of its chain.

@@ -14,7 +14,7 @@ use Rattle.abuf_frame.specs.declared.view.Stage.{Stage}
 use Rattle.abuf_frame.specs.declared.view.Stage.TheVariants.{Claimed, Filled, Swapped, Linked, Lost}
 use Rattle.abuf_frame.specs.declared.view.Entry.{Entry}
 use Rattle.abuf_frame.specs.declared.view.View.{View}
-use Rattle.abuf_frame.specs.declared.view.Size.{Size}
+use Rattle.abuf_frame.specs.declared.view.FrameSize.{FrameSize}
 use Rattle.abuf_num.specs.Counting.{below, times}
 use Rattle.abuf_frame.specs.Chains.{AreChained, IsListAt, payload_in}
 use Rattle.abuf_frame.specs.Views.{at_pixel, endowment, loose, lost, number_of, numbers}
@@ -193,7 +193,7 @@ lost_all pixels nodes [] a = refl
 lost_all pixels nodes (e ∷ es) a = let r = lost_all pixels nodes es a.1 in let one = lost_one pixels nodes e.number e.stage a.0 in
     omega (arith, count_by-cons (λ (f : Entry). is_lost f.stage) e es, sum_by-cons (over nodes) e.number (map number_of es))
 
-module _ (k : Size) (s : St) (r : Lawful k s) where
+module _ (k : FrameSize) (s : St) (r : Lawful k s) where
   -- A number that precedes a head has a node,
   pub node_in : (p n h : ℕ) → Precedes (r.stage n) p h → n < k.nodes
   node_in p n h a = ⊎_elim (λ (g : n < k.nodes). g) (λ (g : k.nodes ≤ n). absurd (subst (λ y. Precedes y p h) (r.lost n g) a)) (cases_lt n k.nodes)
@@ -224,7 +224,7 @@ module _ (k : Size) (s : St) (r : Lawful k s) where
   carried p [] f = refl
   carried p (n ∷ ns) f = let a = carries_after k.pixels (slice_index s.words (payload_word k.pixels n)) (r.stage n) p (head_of ns) f.0 (r.payload n) in let b = carried p ns f.1 in λ i. a i ∷ b i
 
-module _ (k : Size) (s : St) (r : Lawful k s) (id : ℕ) (v : View) (at : get_elem? s.views id ≡ some v) (whole : endowment v ≡ 2 ^ 60) where
+module _ (k : FrameSize) (s : St) (r : Lawful k s) (id : ℕ) (v : View) (at : get_elem? s.views id ≡ some v) (whole : endowment v ≡ 2 ^ 60) where
   -- If all other views have no entries, a sum over the views is what f is of this one.
   empty : (f : View → ℕ) → ((u : View) → length u.entries ≡ 0 → f u ≡ 0) → sum_by f s.views ≡ f v
   empty f h = sum_only f endowment (λ u e. h u (omega arith)) s.views id v at (r.endowed ∙ sym whole)

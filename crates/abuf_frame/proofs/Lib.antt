@@ -12,5 +12,5 @@ pub mod Draws
 pub mod Eight
 pub mod Crosses
 pub mod Wrapping
-pub mod Blanks
+pub mod Initial
 pub mod Losing

@@ -15,7 +15,7 @@ use Rattle.abuf_frame.specs.declared.view.Entry.{Entry}
 use Rattle.abuf_frame.specs.declared.view.Passed.{Passed}
 use Rattle.abuf_frame.specs.declared.view.Walk.{Walk}
 use Rattle.abuf_frame.specs.declared.view.View.{View}
-use Rattle.abuf_frame.specs.declared.view.Size.{Size}
+use Rattle.abuf_frame.specs.declared.view.FrameSize.{FrameSize}
 use Rattle.abuf_frame.specs.Chains.{IsListAt}
 use Rattle.abuf_frame.specs.Closing.{IsSuffix}
 use Rattle.abuf_frame.specs.Draws.{pairs, payloads_at}
@@ -68,7 +68,7 @@ all_front : (stage : ℕ → Stage) (chain : ℕ → List ℕ) (pixels : ℕ) (w
 all_front stage chain pixels [] w a = (tt, a.0)
 all_front stage chain pixels (x ∷ xs) w a = let r = all_front stage chain pixels xs w a.1 in ((a.0, r.0), r.1)
 
-module _ (k : Size) (s : St) (r : Lawful k s) where
+module _ (k : FrameSize) (s : St) (r : Lawful k s) where
   -- The head of a chain refers to a node, or to none.
   head_small : (p : ℕ) (ns : List ℕ) → Follows r.stage p ns → head_of ns ≤ k.nodes
   head_small p [] f = omega arith
@@ -159,7 +159,7 @@ paid_map : (stage : ℕ → Stage) (xs : List Passed) → AllPaid stage xs → m
 paid_map stage [] p = refl
 paid_map stage (x ∷ xs) p = let r = paid_map stage xs p.1 in λ i. p.0 i ∷ r i
 
-module _ (k : Size) (s : St) (r : Lawful k s) (id : ℕ) (v : View) (at : get_elem? s.views id ≡ some v) (w : Walk) (o : IsWalk r.stage r.chain k.pixels w) (due : w.due ≡ due_of w.pixel v) (whole : IsWhole v) (settled : IsSettled v) where
+module _ (k : FrameSize) (s : St) (r : Lawful k s) (id : ℕ) (v : View) (at : get_elem? s.views id ≡ some v) (w : Walk) (o : IsWalk r.stage r.chain k.pixels w) (due : w.due ≡ due_of w.pixel v) (whole : IsWhole v) (settled : IsSettled v) where
   -- a whole, settled pass has passed nodes from the head on
   from_head : r.chain w.pixel ≡ map node_of w.passed ++ o.rest
   from_head = o.suffix ∙ ap (λ (l : List ℕ). l ++ (map node_of w.passed ++ o.rest)) (none_in o.before (λ n. ⊎_elim (λ (h : 0 < times n o.before). absurd (none n h)) (λ (h : times n o.before ≤ 0). omega arith) (cases_lt 0 (times n o.before))))
@@ -199,7 +199,7 @@ pub sees_whole : (v : View) (w : Walk) → SeesList v w → SeesWhole v w
 sees_whole v w l whole settled = let a = l whole settled in (a.1, subst (λ (xs : List ℕ). IsPermutation xs (payloads_at w.pixel (pairs v.entries))) a.3 (list_pairs w.pixel v.entries a.0 settled a.2), a.4)
 
 -- Once the pass is whole and settled, a walk sees the list of its pixel.
-pub sees_list : (k : Size) (s : St) (r : Lawful k s) (id : ℕ) (v : View) → get_elem? s.views id ≡ some v → (w : Walk) → IsWalk r.stage r.chain k.pixels w → w.due ≡ due_of w.pixel v → SeesList v w
+pub sees_list : (k : FrameSize) (s : St) (r : Lawful k s) (id : ℕ) (v : View) → get_elem? s.views id ≡ some v → (w : Walk) → IsWalk r.stage r.chain k.pixels w → w.due ≡ due_of w.pixel v → SeesList v w
 sees_list k s r id v at w o due whole settled = let p : ℕ = w.pixel in let pay : ℕ → ℕ = λ n. payload_of (r.stage n) in (
   map pay (r.chain p),
   map pay o.rest,
@@ -224,7 +224,7 @@ all_met stage w paid (e ∷ es) t h = let one = ap (λ (b : Bool). cond {A = ℕ
 )
 
 -- a walk that has reached the end has passed a suffix of its list
-pub seen_end : (k : Size) (s : St) (r : Lawful k s) (w : Walk) (o : IsWalk r.stage r.chain k.pixels w) → w.cursor ≡ 0 → IsSuffix (map payload_at w.passed) (map (λ n. payload_of (r.stage n)) (r.chain w.pixel))
+pub seen_end : (k : FrameSize) (s : St) (r : Lawful k s) (w : Walk) (o : IsWalk r.stage r.chain k.pixels w) → w.cursor ≡ 0 → IsSuffix (map payload_at w.passed) (map (λ n. payload_of (r.stage n)) (r.chain w.pixel))
 seen_end k s r w o zero_is = let t : List ℕ = map node_of w.passed in let pay : ℕ → ℕ = λ n. payload_of (r.stage n) in (
   map pay o.before,
   ap (map pay) (o.suffix ∙ ap (λ (l : List ℕ). o.before ++ (t ++ l)) (ended o.rest (sym o.stands_at ∙ zero_is)) ∙ ap (λ (l : List ℕ). o.before ++ l) (append-nil t)) ∙ (map-append pay o.before t
@@ -239,7 +239,7 @@ pub record Shown (nodes : ℕ) (v : View) (w : Walk) (found : ℕ) : Type 0 wher
   pub linked : IsWhole v → IsSettled v → found ≢ mark
   pub lists : w.due ≡ due_of w.pixel v → SeesList v (going found w)
 
-module _ (k : Size) (slots id : ℕ) (me : Me (Unit {0}) View) (bare : me.1 ≡ []) where
+module _ (k : FrameSize) (slots id : ℕ) (me : Me (Unit {0}) View) (bare : me.1 ≡ []) where
   -- A load of a head, which begins a walk, is allowed.
   pub looks_head : (p : ℕ) → p < k.pixels → Allows (Lawful k) slots id me (head_word p) (λ n. n) (λ found now. (now ≡ (with_walk (new_walk p found me.0) me.0, [])) × ((found ≤ k.nodes) × (found ≡ 0 → AllMet (new_walk p found me.0)) × SeesList me.0 (new_walk p found me.0)))
   looks_head p on s r deep at small = let found : ℕ = slice_index s.words (head_word p) in let w : Walk = new_walk p found me.0 in let v' : View = with_walk w me.0 in let o = walks_new k s r id p me.0 at on in (

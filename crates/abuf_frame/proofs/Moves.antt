@@ -12,7 +12,7 @@ use Rattle.abuf_frame.specs.declared.view.Entry.{Entry}
 use Rattle.abuf_frame.specs.declared.view.Passed.{Passed}
 use Rattle.abuf_frame.specs.declared.view.Walk.{Walk}
 use Rattle.abuf_frame.specs.declared.view.View.{View}
-use Rattle.abuf_frame.specs.declared.view.Size.{Size}
+use Rattle.abuf_frame.specs.declared.view.FrameSize.{FrameSize}
 use Rattle.abuf_num.specs.Counting.{below, times}
 use Rattle.abuf_frame.specs.Views.{endowment, number_of, numbers, stage_of}
 use Rattle.abuf_frame.specs.Lawful.{Agree, AreWalks, Follows, Lawful, Told}
@@ -117,7 +117,7 @@ walks_put stage stage' chain chain' pixels grow keep (w ∷ ws) a = let o = a.0 
   walks_put stage stage' chain chain' pixels grow keep ws a.1,
 )
 
-module _ (k : Size) (s : St) (r : Lawful k s) (id n : ℕ) (v : View) (at : get_elem? s.views id ≡ some v) (y : Stage) (has : stage_of n v.entries ≡ Some y) (there : is_lost y ≡ false) (under_way : is_linked y ≡ false) where
+module _ (k : FrameSize) (s : St) (r : Lawful k s) (id n : ℕ) (v : View) (at : get_elem? s.views id ≡ some v) (y : Stage) (has : stage_of n v.entries ≡ Some y) (there : is_lost y ≡ false) (under_way : is_linked y ≡ false) where
   -- The number has the stage that was found.
   is_here : r.stage n ≡ y
   is_here = sym (found (λ m x. x ≡ r.stage m) n v.entries y (r.agree id v at) has)
@@ -222,7 +222,7 @@ module _ (k : Size) (s : St) (r : Lawful k s) (id n : ℕ) (v : View) (at : get_
       (λ q m l. r.exact q m l ∙ sym (put_same (stands q) r.stage n m x' (sym (ap (stands q) now))))
       (λ q l. ([], refl)) (λ q m l h. put_same payload_of r.stage n m x' (sym (ap payload_of now)))
 
-module _ (k : Size) (slots id n : ℕ) (me : Me (Unit {0}) View) (bare : me.1 ≡ []) where
+module _ (k : FrameSize) (slots id n : ℕ) (me : Me (Unit {0}) View) (bare : me.1 ≡ []) where
   -- A pass may fill a number that it has claimed.
   pub fills : (p z : ℕ) → stage_of n me.0.entries ≡ Some Claimed → p < k.pixels
       → Allows (Lawful k) slots id me (payload_word k.pixels n) (λ _. z) (λ _ now. (now ≡ (moved n (filled p z) me.0, [])) × Unit {0})

@@ -12,7 +12,7 @@ use Rattle.abuf_frame.specs.declared.view.Stage.{Stage}
 use Rattle.abuf_frame.specs.declared.view.Entry.{Entry}
 use Rattle.abuf_frame.specs.declared.view.Walk.{Walk}
 use Rattle.abuf_frame.specs.declared.view.View.{View}
-use Rattle.abuf_frame.specs.declared.view.Size.{Size}
+use Rattle.abuf_frame.specs.declared.view.FrameSize.{FrameSize}
 use Rattle.abuf_num.specs.Counting.{times}
 use Rattle.abuf_frame.specs.Views.{Below, endowment, linked_of, number_of, numbers, spent_view}
 use Rattle.abuf_frame.specs.Lawful.{Agree, AreWalks, Lawful, Told}
@@ -29,7 +29,7 @@ pub told_linked : (stage : ℕ → Stage) (es : List Entry) → Agree stage es �
 told_linked stage es a = all-filter _ (λ (e : Entry). is_linked e.stage) es a
 
 -- the same words, and other views
-module _ (k : Size) (s : St) (r : Lawful k s) where
+module _ (k : FrameSize) (s : St) (r : Lawful k s) where
   -- A state stays lawful with other views of the same numbers, entries and endowment.
   other_views : (vs : List View) → ((n : ℕ) → sum_by (λ v. times n (numbers v)) vs ≡ sum_by (λ v. times n (numbers v)) s.views) → sum_by (λ v. length v.entries) vs ≡ sum_by (λ v. length v.entries) s.views
       → sum_by endowment vs ≡ sum_by endowment s.views → ((j : ℕ) (v : View) → get_elem? vs j ≡ some v → Agree r.stage v.entries × Told r.stage v.told × (v.seen ≤ slice_index s.words 0) × AreWalks r.stage r.chain k.pixels v.walks)
@@ -64,7 +64,7 @@ module _ (k : Size) (s : St) (r : Lawful k s) where
   fits j v at = (r.agree j v at, r.told j v at, r.seen j v at, r.walked j v at)
 
 -- A view may be split.
-pub splits : (k : Size) (id credit : ℕ) (v : View) → credit ≤ v.credit → Splits (Lawful k) id v (split_left credit v) (split_right credit v)
+pub splits : (k : FrameSize) (id credit : ℕ) (v : View) → credit ≤ v.credit → Splits (Lawful k) id v (split_left credit v) (split_right credit v)
 splits k id credit v enough s r at = let l : View = split_left credit v in let w : View = split_right credit v in let vs : List View = set s.views id l in let mine = fits k s r id v at in
     other_views k s r (vs ++ w ∷ [])
     (λ n. let a = sum_by-append (λ (u : View). times n (numbers u)) vs (w ∷ []) in let b = sum_set (λ (u : View). times n (numbers u)) s.views id v l at in omega arith)
@@ -74,7 +74,7 @@ splits k id credit v enough s r at = let l : View = split_left credit v in let w
     (λ (h : w ≡ u). subst (Fits k s r) h (tt, all-append _ (linked_of v.entries) v.told (told_linked r.stage v.entries mine.0) mine.1, mine.2, tt)) (at_snoc vs w u j e))
 
 -- Two views may be joined.
-pub joins : (k : Size) (id other : ℕ) (v w : View) → Joins (Lawful k) id v other w (united v w) spent_view
+pub joins : (k : FrameSize) (id other : ℕ) (v w : View) → Joins (Lawful k) id v other w (united v w) spent_view
 joins k id other v w s r at apart at' = let b : View = united v w in let vs : List View = set s.views id b in
     let was : get_elem? s.views other ≡ some w = ⊎_elim (λ (x : (other ≡ id) × (b ≡ w)). absurd (apart x.0)) (λ (x : (other ≢ id) × (get_elem? s.views other ≡ some w)). x.1) (at_set s.views id other b w at') in
     let mine = fits k s r id v at in let theirs = fits k s r other w was in let len = length-append v.entries w.entries in
@@ -87,12 +87,12 @@ joins k id other v w s r at apart at' = let b : View = united v w in let vs : Li
     (λ j u _. views_set (Fits k s r) s.views id b (all-append _ v.entries w.entries mine.0 theirs.0, all-append _ v.told w.told mine.1 theirs.1, (let x = mine.2 in let y = theirs.2 in omega arith), all-append _ v.walks w.walks mine.3 theirs.3) (λ i x _. fits k s r i x) j u))
 
 -- What was told of is below the counter.
-told_below : (k : Size) (s : St) (r : Lawful k s) (es : List Entry) → Told r.stage es → Below (slice_index s.words 0) es
+told_below : (k : FrameSize) (s : St) (r : Lawful k s) (es : List Entry) → Told r.stage es → Below (slice_index s.words 0) es
 told_below k s r es t = all_more _ (λ e h. ⊎_elim (λ (g : e.number < slice_index s.words 0). g)
     (λ (g : slice_index s.words 0 ≤ e.number). absurd (true≢false (sym h.1 ∙ (ap is_linked (h.0 ∙ unclaimed k s r e.number g) ∙ at_first (λ y. is_linked y ≡ false) refl refl k.nodes e.number)))) (cases_lt e.number (slice_index s.words 0))) es t
 
 -- a load of the word i, after which the view is w, which has the same entries, told entries and credit
-pub looks : (k : Size) (s : St) (r : Lawful k s) (id i : ℕ) (me : Me (Unit {0}) View) (w : View) → get_elem? s.views id ≡ some me.0 → w.credit ≡ me.0.credit → w.entries ≡ me.0.entries → w.told ≡ me.0.told → w.seen ≤ slice_index s.words 0 → AreWalks r.stage r.chain k.pixels w.walks
+pub looks : (k : FrameSize) (s : St) (r : Lawful k s) (id i : ℕ) (me : Me (Unit {0}) View) (w : View) → get_elem? s.views id ≡ some me.0 → w.credit ≡ me.0.credit → w.entries ≡ me.0.entries → w.told ≡ me.0.told → w.seen ≤ slice_index s.words 0 → AreWalks r.stage r.chain k.pixels w.walks
     → Lawful k (stepped s i (slice_index s.words i) id me.1 w keeps)
 looks k s r id i me w at credit entries told seen walked = let v = me.0 in let mine = fits k s r id v at in let len = ap (λ (es : List Entry). length es) entries in
     subst (λ (ws : List ℕ). Lawful k record { words = ws; homes = s.homes; views = set s.views id w }) (sym (set-get_or s.words i 0))
@@ -103,7 +103,7 @@ looks k s r id i me w at credit entries told seen walked = let v = me.0 in let m
     (views_set (Fits k s r) s.views id w (subst (Agree r.stage) (sym entries) mine.0, subst (Told r.stage) (sym told) mine.1, seen, walked) (λ j u _. fits k s r j u)))
 
 -- A load of the counter is allowed, and shows what is below it.
-pub counts : (k : Size) (slots id : ℕ) (me : Me (Unit {0}) View) → me.1 ≡ []
+pub counts : (k : FrameSize) (slots id : ℕ) (me : Me (Unit {0}) View) → me.1 ≡ []
     → Allows (Lawful k) slots id me 0 (λ n. n) (λ found now. (now ≡ (having_seen found me.0, [])) × ((me.0.seen ≤ found) × Below found me.0.entries × Below found me.0.told × (endowment me.0 ≡ 2 ^ 60 → found ≡ length me.0.entries)))
 counts k slots id me bare s r deep at small = let c : ℕ = slice_index s.words 0 in (
   having_seen c me.0,
@@ -114,7 +114,7 @@ counts k slots id me bare s r deep at small = let c : ℕ = slice_index s.words 
 )
 
 -- a load that shows the bound of the endowment
-pub weighs : (k : Size) (slots id : ℕ) (me : Me (Unit {0}) View) → me.1 ≡ []
+pub weighs : (k : FrameSize) (slots id : ℕ) (me : Me (Unit {0}) View) → me.1 ≡ []
     → Allows (Lawful k) slots id me 0 (λ n. n) (λ found now. (now ≡ (me.0, [])) × (endowment me.0 ≤ 2 ^ 60))
 weighs k slots id me bare s r deep at small = (
   me.0,

@@ -24,7 +24,7 @@ use Rattle.std.specs.contracts.alloc.Global.{the_row as Global}
 use Rattle.std.specs.contracts.impls.GlobalAllocator.TheImpl.{ghosts}
 use Rattle.atomic_table.specs.contracts.owned.Closed as Closed
 use Rattle.atomic_table.proofs.owned.Closed.TheLaws as closed
-use Rattle.abuf_frame.specs.contracts.still.SyncTable as Sync
+use Rattle.abuf_frame.specs.contracts.frozen_words.SyncTable as Sync
 
 -- The type of the table.
 abbrev pub Table : RattleType

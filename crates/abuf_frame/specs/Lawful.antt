@@ -10,7 +10,7 @@ use Rattle.abuf_frame.specs.declared.view.Stage.TheVariants.{Claimed, Lost}
 use Rattle.abuf_frame.specs.declared.view.Entry.{Entry}
 use Rattle.abuf_frame.specs.declared.view.Walk.{Walk}
 use Rattle.abuf_frame.specs.declared.view.View.{View}
-use Rattle.abuf_frame.specs.declared.view.Size.{Size}
+use Rattle.abuf_frame.specs.declared.view.FrameSize.{FrameSize}
 use Rattle.abuf_num.specs.Counting.{times, below}
 use Rattle.abuf_frame.specs.Words.{head_word, payload_word, next_word}
 use Rattle.abuf_frame.specs.Stages.{is_linked, is_lost, stands, Precedes, Stores, next_of}
@@ -33,7 +33,7 @@ Follows stage p (n ∷ ns) = Precedes (stage n) p (head_of ns) × Follows stage 
 abbrev pub AreWalks : (ℕ → Stage) → (ℕ → List ℕ) → ℕ → List Walk → Type 0
 AreWalks stage chain pixels ws = AllByRecursion (IsWalk stage chain pixels) ws
 
-pub record Lawful (k : Size) (s : State (Unit {0}) View) : Type 0 where
+pub record Lawful (k : FrameSize) (s : State (Unit {0}) View) : Type 0 where
   -- Each number has a stage, whichever pass has its entry. A number with a node that nobody has claimed yet counts as Claimed.
   pub stage : ℕ → Stage
   -- Each pixel has a list of nodes, the newest first.

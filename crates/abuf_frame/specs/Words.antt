@@ -23,11 +23,11 @@ abbrev pub Sized : ℕ → ℕ → Type 0
 Sized pixels nodes = (1 ≤ pixels) × (pixels ≤ MAX_PIXELS) × (1 ≤ nodes) × (nodes ≤ MAX_NODES)
 
 -- the words at the start: nothing is claimed, every list is empty, no node is linked, and the payloads are 0
-abbrev pub IsBlank : ℕ → ℕ → List ℕ → Type 0
-IsBlank pixels nodes words = (length words ≡ 1 + pixels + 2 * nodes) × ((i : ℕ) → i < 1 + pixels → slice_index words i ≡ 0)
+abbrev pub IsInitial : ℕ → ℕ → List ℕ → Type 0
+IsInitial pixels nodes words = (length words ≡ 1 + pixels + 2 * nodes) × ((i : ℕ) → i < 1 + pixels → slice_index words i ≡ 0)
     × ((n : ℕ) → n < nodes → slice_index words (next_word pixels n) ≡ mark)
     × ((n : ℕ) → n < nodes → slice_index words (payload_word pixels n) ≡ 0)
 
 -- the words of so many nodes at the start
-abbrev pub AreBlank : ℕ → List ℕ → Type 0
-AreBlank count words = (length words ≡ 2 * count) × ((n : ℕ) → n < count → slice_index words (2 * n) ≡ 0) × ((n : ℕ) → n < count → slice_index words (2 * n + 1) ≡ mark)
+abbrev pub AreInitial : ℕ → List ℕ → Type 0
+AreInitial count words = (length words ≡ 2 * count) × ((n : ℕ) → n < count → slice_index words (2 * n) ≡ 0) × ((n : ℕ) → n < count → slice_index words (2 * n + 1) ≡ mark)

@@ -6,9 +6,9 @@ ghost use Rattle.abuf_frame.specs.Views.{whole_view};
 pub(crate) mod lanes;
 
 use crate::frame::Frame;
+use crate::frozen_words::FrozenWords;
 use crate::pass::Pass;
-use crate::reader::Reader;
-use crate::still::Still;
+use crate::reader::ListReader;
 use abuf_num::NoMemory;
 use std::alloc::Global;
 use std::marker::Model;
@@ -16,7 +16,7 @@ use std::marker::Model;
 /// A frame that is drawn: its lists don't change any more. A `&Closed` may be shared between threads.
 #[derive(Drop)]
 pub struct Closed {
-    pub(crate) words: Still,
+    pub(crate) words: FrozenWords,
     pub(crate) pixels: u32,
     // How many nodes the words have, which is the most that a walk can pass.
     pub(crate) table_nodes: u32,
@@ -110,10 +110,10 @@ impl Closed {
     }
 
     /// A reader of the lists, which has read none yet.
-    pub fn reader<'a>(&'a self, alloc: Global) -> Reader<'a>
+    pub fn reader<'a>(&'a self, alloc: Global) -> ListReader<'a>
         ensures frame { result.frame ≡ self.now }
         ensures list { result.list ≡ [] }
     {
-        Reader::new(self, alloc)
+        ListReader::new(self, alloc)
     }
 }

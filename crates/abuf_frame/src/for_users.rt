@@ -59,7 +59,7 @@ impl Pass {
 
 impl Closed {
     /// The payloads of the pixel's fragments, in the order of the walk from its head: the entry that was swapped in last
-    /// stands first, whatever the order of the links. The cost grows with the list. Whoever reads many lists takes a `Reader`.
+    /// stands first, whatever the order of the links. The cost grows with the list. Whoever reads many lists takes a `ListReader`.
     pub fn list(&self, alloc: Global, pixel: u32) -> Result<List<u64>, NoMemory>
         requires { pixel < self.now.pixels }
         ensures { IfOk result (λ l. l ≡ list_at self.now pixel) }

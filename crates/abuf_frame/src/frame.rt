@@ -4,14 +4,14 @@ ghost use Rattle.abuf_frame.specs.Chains.{IsListAt};
 ghost use Rattle.abuf_frame.specs.Closing.{AllSeen, list_at};
 ghost use Rattle.abuf_frame.specs.Draws.{pairs, payloads_at};
 ghost use Rattle.abuf_frame.specs.Views.{IsSettled, IsWhole, lost, whole_view};
-ghost use Rattle.abuf_frame.specs.Words.{IsBlank, Sized};
+ghost use Rattle.abuf_frame.specs.Words.{IsInitial, Sized};
 
-use crate::blank::Blank;
 use crate::closed::Closed;
+use crate::frozen_words::FrozenWords;
+use crate::initial_words::InitialWords;
 use crate::pass::Pass;
-use crate::rule::Lists;
-use crate::still::Still;
-use crate::view::{Size, View};
+use crate::rule::FrameRule;
+use crate::view::{FrameSize, View};
 use abuf_num::NoMemory;
 use atomic_table::Table;
 use std::alloc::Global;
@@ -23,7 +23,7 @@ pub const WHOLE: u64 = 1 << 60;
 /// A list of fragments for each pixel, in one table of words that many threads change by atomic steps. A `&Frame` may be shared
 /// between threads.
 pub struct Frame {
-    pub(crate) table: Table<(), View, Size, Lists, Global>,
+    pub(crate) table: Table<(), View, FrameSize, FrameRule, Global>,
     pub(crate) pixels: u32,
     pub(crate) nodes: u32,
 }
@@ -47,10 +47,10 @@ impl Frame {
         nodes: u32,
     ) -> Result<(Frame, Pass), NoMemory>
         requires sized { Sized pixels nodes }
-        requires blank { IsBlank pixels nodes words.now }
+        requires initial_words { IsInitial pixels nodes words.now }
         ensures { IfOk result (λ r. (r.0.pixels ≡ pixels) × (r.0.nodes ≡ nodes) × (r.1.frame ≡ r.0) × (r.1.view ≡ whole_view)) }
     {
-        let size = Size { pixels, nodes };
+        let size = FrameSize { pixels, nodes };
         let (table, seat) = Table::of_words(alloc, words, &size)?;
         let frame = Frame {
             table,
@@ -75,15 +75,24 @@ impl Frame {
         requires { Sized pixels nodes }
         ensures { IfOk result (λ r. (r.0.pixels ≡ pixels) × (r.0.nodes ≡ nodes) × (r.1.frame ≡ r.0) × (r.1.view ≡ whole_view)) }
     {
-        let blank = Blank::new(alloc, pixels, nodes)?;
-        Frame::start_from(alloc, &blank)
+        let initial_words = InitialWords::new(alloc, pixels, nodes)?;
+        Frame::start_from(alloc, &initial_words)
     }
 
     /// Like [`start`](Frame::start), from words that were laid out before. They are copied, so that no second block is taken.
-    pub fn start_from(alloc: Global, blank: &Blank) -> Result<(Frame, Pass), NoMemory>
-        ensures { IfOk result (λ r. (r.0.pixels ≡ blank.now.pixels) × (r.0.nodes ≡ blank.now.nodes) × (r.1.frame ≡ r.0) × (r.1.view ≡ whole_view)) }
+    pub fn start_from(
+        alloc: Global,
+        initial_words: &InitialWords,
+    ) -> Result<(Frame, Pass), NoMemory>
+        ensures { IfOk result (λ r. (r.0.pixels ≡ initial_words.now.pixels) × (r.0.nodes ≡ initial_words.now.nodes)
+            × (r.1.frame ≡ r.0) × (r.1.view ≡ whole_view)) }
     {
-        Frame::of_words(alloc, blank.words(), blank.pixels, blank.nodes)
+        Frame::of_words(
+            alloc,
+            initial_words.words(),
+            initial_words.pixels,
+            initial_words.nodes,
+        )
     }
     /// Ends the drawing. The pass has to be whole, so that every other was joined into it, and settled. Each list is the walk
     /// from its head, along the old heads that the entries keep. Closing takes constant time: the words stay where they are.
@@ -114,7 +123,7 @@ impl Frame {
             nodes: _,
         } = pass;
         Closed {
-            words: Still::new(table.close_with(seat)),
+            words: FrozenWords::new(table.close_with(seat)),
             pixels,
             table_nodes: nodes,
             nodes,

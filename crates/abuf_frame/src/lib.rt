@@ -7,7 +7,7 @@
 //! A number that has no node is lost, and the counter runs on, so that it tells how many nodes would have been enough. Threads
 //! draw at the same time by passes that are split off and joined again; others may `count` and `look` while they draw. A whole,
 //! settled pass closes the frame, which takes constant time, and a `Closed` frame has the lists. Threads share it, and each reads
-//! them from the words that were drawn, by a `Reader` of its own.
+//! them from the words that were drawn, by a `ListReader` of its own.
 //!
 //! `specs/Lawful.antt` says what holds between any two steps of any number of threads, and each call here is proved to keep
 //! it. What the crates above need of it is in the contracts alone. Of a pass they have its frame, its credit, its entries as
@@ -20,21 +20,21 @@
 //! where some are lost.
 #![tactic(auto)]
 
-mod blank;
 mod closed;
 mod for_users;
 mod frame;
+mod frozen_words;
+mod initial_words;
 mod look;
 mod pass;
 mod reader;
 mod rule;
 mod steps;
-mod still;
 mod view;
 
-pub use blank::Blank;
 pub use closed::{Closed, Full};
 pub use frame::Frame;
+pub use initial_words::InitialWords;
 pub use look::Look;
 pub use pass::Pass;
-pub use reader::Reader;
+pub use reader::ListReader;

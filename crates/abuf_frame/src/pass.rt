@@ -13,7 +13,7 @@ ghost use Rattle.abuf_frame.specs.declared.view.Walk.{Walk};
 
 use crate::frame::Frame;
 use crate::look::{Look, look_along};
-use crate::steps::{FrameSeat, Union, claim_at, count_at, fill_at, link_at, split_at, swap_at};
+use crate::steps::{FrameSeat, ViewJoin, claim_at, count_at, fill_at, link_at, split_at, swap_at};
 use std::marker::{Brand, Model};
 
 /// The token of one drawer. It belongs to one frame, may be moved to another thread, and can't be dropped: it ends by being
@@ -201,7 +201,7 @@ impl Pass {
             nodes: _,
         } = other;
         let words = &frame.table.shared;
-        words.join_seat::<Union>(&mut self.seat, seat);
+        words.join_seat::<ViewJoin>(&mut self.seat, seat);
         // One more load tells that the endowment is at most the whole.
         count_at::<Brand>(words, &mut self.seat);
         self.credit += credit;

@@ -29,7 +29,7 @@ impl Buffers {
 /// read in their order; any order gives the same lists. Each thread takes a reader of its own. Contracts see the frame, and the
 /// list that was read last.
 #[derive(Drop)]
-pub struct Reader<'a> {
+pub struct ListReader<'a> {
     closed: &'a Closed,
     // Whether the buffers hold the lists of the eight pixels from `first` on.
     is_held: bool,
@@ -39,7 +39,7 @@ pub struct Reader<'a> {
     lane: usize,
 }
 
-impl<'a> Model for Reader<'a> {
+impl<'a> Model for ListReader<'a> {
     ghost use Rattle.std.specs.Prelude.{◌<◌, ◌≡◌, [], IsTrue, length, map, slice_index_or, vec_items};
     ghost use Rattle.abuf_frame.specs.Reading.{HoldsEight, Reading};
 
@@ -47,15 +47,16 @@ impl<'a> Model for Reader<'a> {
 
     ghost view = { λ r. record { frame = r.closed.now; list = slice_index_or (map vec_items r.buffers.lists) r.lane [] } };
 
-    ghost invariant = { λ r. (r.lane < 8) × (length r.buffers.lists ≡ 8) × (IsTrue r.is_held → HoldsEight r.closed.now r.first (map vec_items r.buffers.lists)) };
+    ghost invariant = { λ r. (r.lane < 8) × (length r.buffers.lists ≡ 8)
+        × (IsTrue r.is_held → HoldsEight r.closed.now r.first (map vec_items r.buffers.lists)) };
 }
 
-impl<'a> Reader<'a> {
-    pub(crate) fn new(closed: &'a Closed, alloc: Global) -> Reader<'a>
+impl<'a> ListReader<'a> {
+    pub(crate) fn new(closed: &'a Closed, alloc: Global) -> ListReader<'a>
         ensures frame { result.frame ≡ closed.now }
         ensures list { result.list ≡ [] }
     {
-        Reader {
+        ListReader {
             closed,
             is_held: false,
             first: 0,

@@ -1,10 +1,10 @@
 // The rule of the table: its state is lawful.
-use crate::view::{Size, View};
+use crate::view::{FrameSize, View};
 use atomic_table::TableRule;
 
-pub struct Lists;
+pub struct FrameRule;
 
-impl TableRule<(), View, Size> for Lists {
+impl TableRule<(), View, FrameSize> for FrameRule {
     ghost use Rattle.abuf_frame.specs.Lawful.{Lawful};
     ghost use Rattle.abuf_frame.specs.Views.{whole_view};
 

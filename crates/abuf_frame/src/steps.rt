@@ -6,12 +6,12 @@ ghost use Rattle.abuf_frame.specs.Steps.{split_left, split_right};
 ghost use Rattle.abuf_frame.specs.Walks.{LastHasNoted};
 ghost use Rattle.abuf_frame.specs.Words.{head_word, next_word, payload_word};
 
-use crate::rule::Lists;
-use crate::view::{Size, View};
+use crate::rule::FrameRule;
+use crate::view::{FrameSize, View};
 use atomic_table::{Join, Play, Seat, Shared, Split};
 use std::marker::{Brand, PhantomData};
 
-pub type Words = Shared<(), View, Size, Lists>;
+pub type Words = Shared<(), View, FrameSize, FrameRule>;
 
 pub type FrameSeat = Seat<(), View>;
 
@@ -92,21 +92,21 @@ pub(crate) fn link_at<N: Aim>(
 }
 
 /// How much credit a split moves.
-pub trait Part {
+pub trait Moved {
     ghost use Rattle.std.specs.Prelude.{ℕ};
 
     ghost credit: { ℕ };
 }
 
-impl Part for Brand {
+impl Moved for Brand {
     ghost credit = { 0 };
 }
 
-pub struct SplitOff<N> {
-    part: PhantomData<N>,
+pub struct ViewSplit<N> {
+    moved: PhantomData<N>,
 }
 
-impl<N: Part> Split<View> for SplitOff<N> {
+impl<N: Moved> Split<View> for ViewSplit<N> {
     ghost use Rattle.abuf_frame.specs.Steps.{split_left, split_right};
 
     ghost left = { λ v. split_left N.credit v };
@@ -114,9 +114,9 @@ impl<N: Part> Split<View> for SplitOff<N> {
     ghost right = { λ v. split_right N.credit v };
 }
 
-pub struct Union;
+pub struct ViewJoin;
 
-impl Join<View> for Union {
+impl Join<View> for ViewJoin {
     ghost use Rattle.abuf_frame.specs.Steps.{united};
     ghost use Rattle.abuf_frame.specs.Views.{spent_view};
 
@@ -126,12 +126,12 @@ impl Join<View> for Union {
 }
 
 /// A split: a load of the counter.
-pub(crate) fn split_at<N: Part>(words: &Words, seat: &mut FrameSeat, _credit: u64) -> FrameSeat
+pub(crate) fn split_at<N: Moved>(words: &Words, seat: &mut FrameSeat, _credit: u64) -> FrameSeat
     requires { MaySplit words.now.key words.now.table_id seat.old (split_left N.credit seat.old.me.0) (split_right N.credit seat.old.me.0) }
     ensures left { HasView seat.old seat.new (split_left N.credit seat.old.me.0) }
     ensures right { (result.table_id ≡ seat.old.table_id) × (result.me ≡ (split_right N.credit seat.old.me.0, [])) }
 {
-    words.split_seat::<SplitOff<N>>(seat)
+    words.split_seat::<ViewSplit<N>>(seat)
 }
 
 /// A load of the counter.

@@ -1,4 +1,4 @@
-// What contracts see in a pass. No value of these types but `Size` is ever made: a clause reads an array of them as a list.
+// What contracts see in a pass. No value of these types but `FrameSize` is ever made: a clause reads an array of them as a list.
 
 /// How far an entry has come.
 pub enum Stage {
@@ -54,7 +54,7 @@ pub struct View {
 
 /// The number of pixels and of nodes, which the rule reads.
 #[derive(Drop)]
-pub struct Size {
+pub struct FrameSize {
     pub pixels: u32,
     pub nodes: u32,
 }

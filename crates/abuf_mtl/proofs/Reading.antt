@@ -15,14 +15,14 @@ use Rattle.abuf_mtl.specs.declared.keyword.Keyword.{Keyword}
 use Rattle.abuf_mtl.specs.declared.keyword.Keyword.TheVariants as keyword
 use Rattle.abuf_mtl.specs.declared.fault.MtlFault.{MtlFault}
 use Rattle.abuf_mtl.specs.declared.fault.MtlFault.TheVariants.{Line, Memory}
-use Rattle.abuf_mtl.specs.declared.reader.Reader.{Reader}
+use Rattle.abuf_mtl.specs.declared.reader.MtlReader.{MtlReader}
 use Rattle.abuf_mtl.proofs.Searching.{SaidSo, said_more}
 
 abbrev pub texts : List (Bor (List ℕ)) → List (List ℕ)
 texts lines = map (λ line. line.now) lines
 
 -- `before` was read, `after` follows, and together they are `all`
-pub record HasRead (start : Reader) (before after all : List (List ℕ)) (number : ℕ) (r : Reader) : Type 0 where
+pub record HasRead (start : MtlReader) (before after all : List (List ℕ)) (number : ℕ) (r : MtlReader) : Type 0 where
   pub together : before ++ after ≡ all
   pub count : number ≡ length before
   pub fault : fault_from start.names before after ≡ fault_from start.names [] all
@@ -31,7 +31,7 @@ pub record HasRead (start : Reader) (before after all : List (List ℕ)) (number
   pub so : SaidSo (look start) (look r) (current r) (reverse (map said before))
 
 -- at the start of a library nothing has been read
-pub started : (start : Reader) (all : List (List ℕ)) → start.begun ≡ None → HasRead start [] all all 0 start
+pub started : (start : MtlReader) (all : List (List ℕ)) → start.begun ≡ None → HasRead start [] all all 0 start
 started start all closed = record {
   together = refl;
   count = refl;
@@ -68,29 +68,29 @@ is_open-more : (before : List (List ℕ)) (line : List ℕ) → is_open (before 
 is_open-more before line =
     ap (λ (ns : List (List ℕ)). nat_lt 0 (length ns)) (names_on-more before line) ∙ is_open-by (names_on before) (keyword_of (statement line)) (rest line)
 
--- where something is found at a place, there is a place
-some_place : (f : ℕ → List ℕ) (place : Option ℕ) (n : List ℕ) → option_map f place ≡ Some n → is_some place ≡ true
-some_place f None n is = absurd (let e : None ≡ Some n = is in cc)
-some_place f (Some k) n is = refl
+-- where something is found at an index, there is an index
+some_index : (f : ℕ → List ℕ) (index : Option ℕ) (n : List ℕ) → option_map f index ≡ Some n → is_some index ≡ true
+some_index f None n is = absurd (let e : None ≡ Some n = is in cc)
+some_index f (Some k) n is = refl
 
 -- a `Kd` line leaves a material open exactly where one was
-begun-colour : (old new : Reader) (c : Option (List ℕ)) → Says old new (said_colour c) → is_some new.begun ≡ is_some old.begun
-begun-colour old new None says = ap (λ (r : Reader). is_some r.begun) says
-begun-colour old new (Some c) says = some_place _ new.begun says.n says.after ∙ sym (some_place _ old.begun says.n says.before)
+begun-colour : (old new : MtlReader) (c : Option (List ℕ)) → Says old new (said_colour c) → is_some new.begun ≡ is_some old.begun
+begun-colour old new None says = ap (λ (r : MtlReader). is_some r.begun) says
+begun-colour old new (Some c) says = some_index _ new.begun says.n says.after ∙ sym (some_index _ old.begun says.n says.before)
 
 -- and so does a `d` line
-begun-alpha : (old new : Reader) (a : Option ℕ) → Says old new (said_alpha a) → is_some new.begun ≡ is_some old.begun
-begun-alpha old new None says = ap (λ (r : Reader). is_some r.begun) says
-begun-alpha old new (Some a) says = some_place _ new.begun says.n says.after ∙ sym (some_place _ old.begun says.n says.before)
+begun-alpha : (old new : MtlReader) (a : Option ℕ) → Says old new (said_alpha a) → is_some new.begun ≡ is_some old.begun
+begun-alpha old new None says = ap (λ (r : MtlReader). is_some r.begun) says
+begun-alpha old new (Some a) says = some_index _ new.begun says.n says.after ∙ sym (some_index _ old.begun says.n says.before)
 
 -- a line of each kind leaves a material open as its kind says
-begun-by : (old new : Reader) (word : Keyword) (values : List (List ℕ)) (text : List ℕ) → Says old new (said_by word values text) → is_some new.begun ≡ opened (is_some old.begun) word
-begun-by old new keyword.Material values text says = some_place _ new.begun text says.1
+begun-by : (old new : MtlReader) (word : Keyword) (values : List (List ℕ)) (text : List ℕ) → Says old new (said_by word values text) → is_some new.begun ≡ opened (is_some old.begun) word
+begun-by old new keyword.Material values text says = some_index _ new.begun text says.1
 begun-by old new keyword.Colour values text says = begun-colour old new (colour_of values) says
 begun-by old new keyword.Alpha values text says = begun-alpha old new (alpha_of values) says
-begun-by old new keyword.Other values text says = ap (λ (r : Reader). is_some r.begun) says
+begun-by old new keyword.Other values text says = ap (λ (r : MtlReader). is_some r.begun) says
 
-module _ (start : Reader) (before after all : List (List ℕ)) (number : ℕ) (old : Reader) (line : List ℕ) (read : HasRead start before (line ∷ after) all number old) where
+module _ (start : MtlReader) (before after all : List (List ℕ)) (number : ℕ) (old : MtlReader) (line : List ℕ) (read : HasRead start before (line ∷ after) all number old) where
   -- what is wrong with the next line is the same by the reader and by the lines before
   here : why old.names (is_some old.begun) line ≡ why (with_names start.names (names_on before)) (is_open before) line
   here = ap (λ (ns : List (List ℕ)). why ns (is_some old.begun) line) read.names ∙ ap (λ b. why (with_names start.names (names_on before)) b line) read.begun
@@ -103,7 +103,7 @@ module _ (start : Reader) (before after all : List (List ℕ)) (number : ℕ) (o
       sym read.fault ∙ rw is (rw (← read.count) (rw h.0 refl))
 
   -- a line that is taken is one line more that has been read
-  pub read-more : (new : Reader) → TakesLine line old new → HasRead start (before ++ line ∷ []) after all (number + 1) new
+  pub read-more : (new : MtlReader) → TakesLine line old new → HasRead start (before ++ line ∷ []) after all (number + 1) new
   read-more new takes = record {
     together = append_assoc before (line ∷ []) after ∙ read.together;
     count = omega (arith, read.count, length-append before (line ∷ []));
@@ -118,7 +118,7 @@ module _ (start : Reader) (before after all : List (List ℕ)) (number : ℕ) (o
   }
 
 -- once no line follows, all have been read
-pub read-all : (start : Reader) (before all : List (List ℕ)) (number : ℕ) (r : Reader) → HasRead start before [] all number r → ReadsAll all start r
+pub read-all : (start : MtlReader) (before all : List (List ℕ)) (number : ℕ) (r : MtlReader) → HasRead start before [] all number r → ReadsAll all start r
 read-all start before all number r read =
     let same : before ≡ all = sym (append-nil before) ∙ read.together in
     record {

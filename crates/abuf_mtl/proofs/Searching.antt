@@ -5,7 +5,7 @@ use Rattle.abuf_mtl.specs.Material.{search_from, paint_of, first_of}
 use Rattle.abuf_mtl.specs.Reading.{Look, with_colour, with_alpha, Says, Changes, look, current}
 use Rattle.abuf_num.specs.declared.plain.Paint.{Paint}
 use Rattle.abuf_mtl.specs.Said.{Said, name, colour, alpha, nothing}
-use Rattle.abuf_mtl.specs.declared.reader.Reader.{Reader}
+use Rattle.abuf_mtl.specs.declared.reader.MtlReader.{MtlReader}
 
 -- the name whose section the lines, last first, end in
 abbrev pub current_of : List Said → Option (List ℕ)
@@ -80,7 +80,7 @@ changed true key before n c a change start same is test =
     rw (f.with_met None None, f.with_met c a, same f.paint) refl
 changed false key before n c a change start same is test = ap (λ (o : Option Paint). first_of o start) (sym (past key before n c a is test))
 
-module _ (start : Look) (old new : Reader) (before : List Said) (so : SaidSo start (look old) (current old) before) where
+module _ (start : Look) (old new : MtlReader) (before : List Said) (so : SaidSo start (look old) (current old) before) where
   -- what a line changes of the open name's paint is what the search meets in it
   changed_by : (c : Option (List ℕ)) (a : Option ℕ) (change : Paint → Paint) → ((p : Paint) → override c a p ≡ change p) → Changes change old new
       → ((key : List ℕ) → look new key ≡ first_of (search_from key c a before) (start key)) × (current new ≡ current_of before)
@@ -100,4 +100,4 @@ module _ (start : Look) (old new : Reader) (before : List Said) (so : SaidSo sta
       let p = changed_by (Some x) None (with_colour x) (λ p. refl) h in record { each = p.0; open_name = p.1 }
   said_more (alpha x) h =
       let p = changed_by None (Some x) (with_alpha x) (λ p. refl) h in record { each = p.0; open_name = p.1 }
-  said_more nothing h = record { each = λ key. ap (λ (r : Reader). look r key) h ∙ so.each key; open_name = ap current h ∙ so.open_name }
+  said_more nothing h = record { each = λ key. ap (λ (r : MtlReader). look r key) h ∙ so.each key; open_name = ap current h ∙ so.open_name }

@@ -12,7 +12,7 @@ use Rattle.abuf_mtl.specs.Reading.{ReadsAll}
 use Rattle.abuf_mtl.specs.StandsFor.{StandsFor, StandForSome, IsSound}
 use Rattle.abuf_num.specs.declared.plain.Paint.{Paint}
 use Rattle.abuf_mtl.specs.declared.fault.MtlFault.{MtlFault}
-use Rattle.abuf_mtl.specs.declared.reader.Reader.{Reader}
+use Rattle.abuf_mtl.specs.declared.reader.MtlReader.{MtlReader}
 use Rattle.abuf_mtl.proofs.Paints.{lookup-zip}
 
 -- the names beside the paints are the names
@@ -38,7 +38,7 @@ names_of-more libraries library =
 material-more : (libraries : List (List ℕ)) (library n : List ℕ) → material (libraries ++ library ∷ []) n ≡ first_of (search_library n library) (material libraries n)
 material-more libraries library n = ap (search_libraries n) (reverse-append libraries (library ∷ []))
 
-module _ (libraries : List (List ℕ)) (old : Reader) (same : length old.paints.items ≡ length old.names) (stands : StandsFor libraries (zip old.names old.paints.items)) where
+module _ (libraries : List (List ℕ)) (old : MtlReader) (same : length old.paints.items ≡ length old.names) (stands : StandsFor libraries (zip old.names old.paints.items)) where
   -- the reader begins with the names of the libraries
   names_same : old.names ≡ names_of libraries
   names_same = sym (keys-zip old.names old.paints.items same) ∙ stands.names
@@ -52,7 +52,7 @@ module _ (libraries : List (List ℕ)) (old : Reader) (same : length old.paints.
   no-fault library h = subst (λ (ns : List (List ℕ)). fault_from ns [] (lines library) ≡ None) names_same h
 
   -- where it takes all lines, the materials stand for one library more
-  pub stands-more : (library : List ℕ) (new : Reader) → length new.paints.items ≡ length new.names → ReadsAll (lines library) old new → StandsFor (libraries ++ library ∷ []) (zip new.names new.paints.items)
+  pub stands-more : (library : List ℕ) (new : MtlReader) → length new.paints.items ≡ length new.names → ReadsAll (lines library) old new → StandsFor (libraries ++ library ∷ []) (zip new.names new.paints.items)
   stands-more library new longer reads = record {
     sound = sound-push [] libraries library stands.sound (subst (λ (ns : List (List ℕ)). fault_from ns [] (lines library) ≡ None) names_same reads.sound);
     names = keys-zip new.names new.paints.items longer ∙ reads.names ∙ ap (λ (ns : List (List ℕ)). with_names ns (names_on (lines library))) names_same ∙ sym (names_of-more libraries library);
@@ -67,7 +67,7 @@ unfolding StandForSome
 none-stand = ([], record { sound = tt; names = refl; paints = λ name. refl })
 
 -- and where one library more is read, there is a longer list.
-pub some-more : (old : Reader) → length old.paints.items ≡ length old.names → StandForSome (zip old.names old.paints.items)
-    → (library : List ℕ) (new : Reader) → length new.paints.items ≡ length new.names → ReadsAll (lines library) old new → StandForSome (zip new.names new.paints.items)
+pub some-more : (old : MtlReader) → length old.paints.items ≡ length old.names → StandForSome (zip old.names old.paints.items)
+    → (library : List ℕ) (new : MtlReader) → length new.paints.items ≡ length new.names → ReadsAll (lines library) old new → StandForSome (zip new.names new.paints.items)
 unfolding StandForSome
 some-more old same some library new longer reads = (some.0 ++ library ∷ [], stands-more some.0 old same some.1 library new longer reads)

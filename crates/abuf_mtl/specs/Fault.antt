@@ -4,7 +4,7 @@ use Rattle.abuf_num.specs.declared.limits.TheConstants.{MAX_MATERIALS}
 use Rattle.abuf_text.specs.Lines.{lines}
 use Rattle.abuf_text.specs.Statement.{statement, arguments}
 use Rattle.abuf_text.specs.Rest.{rest}
-use Rattle.abuf_text.specs.Names.{place_of, with_names}
+use Rattle.abuf_text.specs.Names.{index_of, with_names}
 use Rattle.abuf_mtl.specs.Said.{keyword_of, colour_of, alpha_of}
 use Rattle.abuf_mtl.specs.declared.keyword.Keyword.{Keyword}
 use Rattle.abuf_mtl.specs.declared.keyword.Keyword.TheVariants as keyword
@@ -39,7 +39,7 @@ is_open lines = nat_lt 0 (length (names_on lines))
 -- what is wrong with the name of a `newmtl` line, where these names are there: there are at most MAX_MATERIALS
 abbrev pub name_why : List (List ℕ) → List ℕ → Option MtlWhy
 name_why names name =
-    if nat_lt 0 (length name) then (if is_some (place_of name names) || nat_lt (length names) MAX_MATERIALS then None else Some why_.TooMany)
+    if nat_lt 0 (length name) then (if is_some (index_of name names) || nat_lt (length names) MAX_MATERIALS then None else Some why_.TooMany)
     else Some why_.NoName
 
 -- what is wrong with a `Kd` or a `d` line, by whether a material is open and whether its numbers can be read

@@ -26,8 +26,8 @@ share_from (Ok value) = Some (channel value)
 share_from (Err fault) = None
 
 -- a number, of which 1 counts as 65535, clamped to 0 to 65535
-abbrev pub share_of : List ℕ → Option ℕ
-share_of text = share_from (scaled text 65535)
+abbrev pub fraction_of : List ℕ → Option ℕ
+fraction_of text = share_from (scaled text 65535)
 
 -- a colour, if each channel can be read: red, green and blue
 abbrev pub colour_from : Option ℕ → Option ℕ → Option ℕ → Option (List ℕ)
@@ -44,14 +44,14 @@ grey (Some value) = Some (value ∷ value ∷ value ∷ [])
 -- the colour of a `Kd` line: three numbers, or one that stands for all three; further tokens aren't read
 abbrev pub colour_of : List (List ℕ) → Option (List ℕ)
 colour_of [] = None
-colour_of (value ∷ []) = grey (share_of value)
+colour_of (value ∷ []) = grey (fraction_of value)
 colour_of (red ∷ green ∷ []) = None
-colour_of (red ∷ green ∷ blue ∷ more) = colour_from (share_of red) (share_of green) (share_of blue)
+colour_of (red ∷ green ∷ blue ∷ more) = colour_from (fraction_of red) (fraction_of green) (fraction_of blue)
 
 -- the alpha of a `d` line: one number; further tokens aren't read
 abbrev pub alpha_of : List (List ℕ) → Option ℕ
 alpha_of [] = None
-alpha_of (value ∷ more) = share_of value
+alpha_of (value ∷ more) = fraction_of value
 
 -- what a line says: a material of this name begins, or the material that is open has this colour or this
 -- alpha, or nothing

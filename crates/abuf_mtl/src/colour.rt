@@ -1,13 +1,13 @@
 // The numbers of a `Kd` or a `d` line.
 ghost use Rattle.std.specs.Prelude.{◌≡◌};
-ghost use Rattle.abuf_mtl.specs.Said.{share_of, colour_of, colour_from, grey, alpha_of};
+ghost use Rattle.abuf_mtl.specs.Said.{fraction_of, colour_of, colour_from, grey, alpha_of};
 
 use abuf_num::{channel, scaled};
 use abuf_text::Statement;
 
 // A number from 0 to 1 as a channel; other numbers are clamped.
-fn share(text: &[u8]) -> Option<u16>
-    ensures { result ≡ share_of text.now }
+fn fraction(text: &[u8]) -> Option<u16>
+    ensures { result ≡ fraction_of text.now }
 {
     match scaled(text, 65535) {
         Ok(value) => Some(channel(value)),
@@ -41,10 +41,10 @@ pub fn colour(mut arguments: Statement) -> Option<[u16; 3]>
         return None;
     };
     let Some(green) = arguments.next() else {
-        return one(share(red));
+        return one(fraction(red));
     };
     match arguments.next() {
-        Some(blue) => three(share(red), share(green), share(blue)),
+        Some(blue) => three(fraction(red), fraction(green), fraction(blue)),
         None => None,
     }
 }
@@ -54,7 +54,7 @@ pub fn alpha(mut arguments: Statement) -> Option<u16>
     ensures { result ≡ alpha_of arguments.entry }
 {
     match arguments.next() {
-        Some(value) => share(value),
+        Some(value) => fraction(value),
         None => None,
     }
 }

@@ -8,7 +8,7 @@ ghost use Rattle.abuf_mtl.specs.Reading.{ReadsAll};
 ghost use Rattle.abuf_mtl.specs.StandsFor.{StandsFor, StandForSome, find_paint};
 
 use crate::fault::MtlFault;
-use crate::reader::Reader;
+use crate::reader::MtlReader;
 use abuf_num::{NoMemory, Paint};
 use abuf_text::{Lines, Names};
 use std::alloc::Global;
@@ -55,19 +55,19 @@ impl Materials {
         ensures material { (libraries : Items (Items ℕ)) → StandsFor libraries self.now → result ≡ material libraries name.now }
     {
         match self.names.find(name) {
-            Some(place) => Some(self.paints[place as usize]),
+            Some(index) => Some(self.paints[index as usize]),
             None => None,
         }
     }
 
     // A reader that begins with a copy of these materials.
-    fn reader(&self, alloc: Global) -> Result<Reader, NoMemory>
+    fn reader(&self, alloc: Global) -> Result<MtlReader, NoMemory>
         ensures same { IfOk result (λ r. zip r.names r.paints.items ≡ self.now) }
         ensures closed { IfOk result (λ r. r.begun ≡ None) }
         ensures stand { StandForSome self.now }
     {
-        Ok(Reader {
-            names: self.names.copy(alloc)?,
+        Ok(MtlReader {
+            names: self.names.try_clone(alloc)?,
             paints: self.paints.as_slice().to_vec(alloc)?,
             begun: None,
         })
@@ -83,7 +83,7 @@ pub fn materials_law(materials: &Materials)
 }
 
 // Takes the lines of a library, up to the first with a fault.
-fn read_lines(alloc: Global, bytes: &[u8], reader: &mut Reader) -> Result<(), MtlFault>
+fn read_lines(alloc: Global, bytes: &[u8], reader: &mut MtlReader) -> Result<(), MtlFault>
     requires short { length bytes.now < 2 ^ 32 - 1 }
     requires closed { reader.old.begun ≡ None }
     ensures fault { IfErr result (TellsFirst (fault_from reader.old.names [] (lines bytes.now))) }
@@ -109,7 +109,7 @@ pub fn read_mtl(alloc: Global, bytes: &[u8], into: &mut Materials) -> Result<(),
 {
     let mut reader = into.reader(alloc)?;
     read_lines(alloc, bytes, &mut reader)?;
-    let Reader {
+    let MtlReader {
         names,
         paints,
         begun: _,

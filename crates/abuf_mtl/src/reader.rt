@@ -11,9 +11,9 @@ use abuf_num::{NoMemory, Paint, WHITE};
 use abuf_text::{Names, rest};
 use std::alloc::Global;
 
-// Names with their paints, and the place of the material that is open.
+// Names with their paints, and the index of the material that is open.
 #[derive(Drop)]
-pub struct Reader {
+pub struct MtlReader {
     pub names: Names,
     pub paints: Vec<Paint>,
     pub begun: Option<usize>,
@@ -22,10 +22,10 @@ pub struct Reader {
     ghost begun_is: { IsOpen names begun },
 }
 
-impl Reader {
+impl MtlReader {
     ghost use Rattle.std.specs.Prelude.{◌≡◌, ◌<◌, ◌++◌, ◌∷◌, [], List as Items, ℕ, IfErr, OnOk, Some, None, is_some, length};
     ghost use Rattle.abuf_num.specs.declared.limits.TheConstants.{MAX_MATERIALS};
-    ghost use Rattle.abuf_text.specs.Names.{place_of};
+    ghost use Rattle.abuf_text.specs.Names.{index_of};
     ghost use Rattle.abuf_mtl.specs.Said.{said_colour, said_alpha};
     ghost use Rattle.abuf_mtl.specs.Fault.{why, name_why, number_why, TellsWhy};
     ghost use Rattle.abuf_mtl.specs.Reading.{TakesBy, TakesLine, Says, Changes, with_colour, with_alpha, look, current, StartsName};
@@ -42,8 +42,8 @@ impl Reader {
             });
         }
         match self.names.find(name) {
-            Some(place) => {
-                self.begin_again(place as usize, name);
+            Some(index) => {
+                self.begin_existing(index as usize, name);
                 Ok(())
             }
             None if self.names.len() < MAX_MATERIALS => {
@@ -58,50 +58,50 @@ impl Reader {
     }
 
     // The material of a name that is there begins anew.
-    fn begin_again(&mut self, place: usize, name: &[u8])
-        requires { place_of name.now self.old.names ≡ Some place }
+    fn begin_existing(&mut self, index: usize, name: &[u8])
+        requires { index_of name.now self.old.names ≡ Some index }
         ensures starts { StartsName (look self.old) (look self.new) name.now }
         ensures current { current self.new ≡ Some name.now }
         ensures names { self.new.names ≡ self.old.names }
     {
-        self.paints[place] = WHITE;
-        self.begun = Some(place);
+        self.paints[index] = WHITE;
+        self.begun = Some(index);
     }
 
     // The material of a new name begins.
     fn begin_new(&mut self, alloc: Global, name: &[u8]) -> Result<(), NoMemory>
-        requires new { place_of name.now self.old.names ≡ None }
+        requires new { index_of name.now self.old.names ≡ None }
         requires few { length self.old.names < MAX_MATERIALS }
         ensures starts { OnOk result (StartsName (look self.old) (look self.new) name.now) }
         ensures current { OnOk result (current self.new ≡ Some name.now) }
         ensures names { OnOk result (self.new.names ≡ self.old.names ++ name.now ∷ []) }
     {
-        let place = self.names.len();
+        let index = self.names.len();
         self.paints.reserve(1)?;
         self.names.push(alloc, name)?;
         self.paints.push_reserved(WHITE);
-        self.begun = Some(place);
+        self.begun = Some(index);
         Ok(())
     }
 
     // The open material has this colour.
-    fn set_colour(&mut self, place: usize, colour: [u16; 3])
-        requires { self.old.begun ≡ Some place }
+    fn set_colour(&mut self, index: usize, colour: [u16; 3])
+        requires { self.old.begun ≡ Some index }
         ensures changes { Changes (with_colour colour) self.old self.new }
         ensures names { self.new.names ≡ self.old.names }
     {
-        let paint = self.paints[place];
-        self.paints[place] = Paint { colour, ..paint };
+        let paint = self.paints[index];
+        self.paints[index] = Paint { colour, ..paint };
     }
 
     // The open material has this alpha.
-    fn set_alpha(&mut self, place: usize, alpha: u16)
-        requires { self.old.begun ≡ Some place }
+    fn set_alpha(&mut self, index: usize, alpha: u16)
+        requires { self.old.begun ≡ Some index }
         ensures changes { Changes (with_alpha alpha) self.old self.new }
         ensures names { self.new.names ≡ self.old.names }
     {
-        let paint = self.paints[place];
-        self.paints[place] = Paint { alpha, ..paint };
+        let paint = self.paints[index];
+        self.paints[index] = Paint { alpha, ..paint };
     }
 
     fn take_colour(&mut self, line: u32, colour: Option<[u16; 3]>) -> Result<(), MtlFault>
@@ -119,8 +119,8 @@ impl Reader {
                 line,
                 why: MtlWhy::BadNumber,
             }),
-            (Some(place), Some(colour)) => {
-                self.set_colour(place, colour);
+            (Some(index), Some(colour)) => {
+                self.set_colour(index, colour);
                 Ok(())
             }
         }
@@ -141,8 +141,8 @@ impl Reader {
                 line,
                 why: MtlWhy::BadNumber,
             }),
-            (Some(place), Some(alpha)) => {
-                self.set_alpha(place, alpha);
+            (Some(index), Some(alpha)) => {
+                self.set_alpha(index, alpha);
                 Ok(())
             }
         }

@@ -1,7 +1,7 @@
 pub mod Division
 pub mod Decimal
 pub mod Paints
-pub mod Parts
+pub mod DecimalParts
 pub mod Size
 pub mod Leading
 pub mod Texts

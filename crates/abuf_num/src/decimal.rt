@@ -1,6 +1,6 @@
 // Numbers as text.
 ghost use Rattle.std.specs.Prelude.{◌≡◌, ◌≤◌, ◌<◌, ◌*◌, ◌+◌, ◌^◌, ◌⊎◌, ◌-ℤ◌, position, length, option_map, IfSome, true, pos};
-ghost use Rattle.abuf_num.specs.Parts.{number_view, HasDigits};
+ghost use Rattle.abuf_num.specs.DecimalParts.{number_view, HasDigits};
 ghost use Rattle.abuf_num.specs.Size.{result_of};
 ghost use Rattle.abuf_num.specs.Decimal.{is_mark, is_point, all_digits, cut_by, cut_to, exponent_of, exponent_value, fraction_of, mantissa_of, number_of, spelled_from, digits_value, or_zero, nearest_to, in_range, scaled};
 
@@ -22,7 +22,7 @@ pub enum NumFault {
 
 // The parts of a number's text, by bytes that are digits.
 #[derive(Clone, Copy)]
-pub struct Parts<'a> {
+pub struct DecimalParts<'a> {
     pub negative: bool,
     pub whole: &'a [u8],
     pub fraction: &'a [u8],
@@ -105,13 +105,13 @@ fn mantissa(text: &[u8]) -> Option<(&[u8], &[u8])>
 }
 
 // The parts of a text, if it is a number.
-fn split(text: &[u8]) -> Option<Parts<'_>>
+fn split(text: &[u8]) -> Option<DecimalParts<'_>>
     ensures value { option_map number_view result ≡ number_of text.now }
     ensures digits { IfSome result HasDigits }
 {
     let (front, behind) = cut_at(strip_sign(text), first_mark(strip_sign(text)));
     match (mantissa(front), exponent(behind)) {
-        (Some((whole, fraction)), Some((exponent_negative, exponent))) => Some(Parts {
+        (Some((whole, fraction)), Some((exponent_negative, exponent))) => Some(DecimalParts {
             negative: begins_negative(text),
             whole,
             fraction,
@@ -137,7 +137,7 @@ pub fn spelled(from: u128, places: usize, text: &[u8]) -> u128
     n
 }
 
-impl Parts<'_> {
+impl DecimalParts<'_> {
     // All the digits, as one number.
     fn digits_value(&self) -> u128
         requires digits { HasDigits self.now }

@@ -4,10 +4,10 @@ ghost use Rattle.std.specs.Prelude.{◌≡◌, ◌≤◌, ◌<◌, ◌+◌, ◌^
 ghost use Rattle.std.specs.List.{list_all};
 ghost use Rattle.abuf_num.specs.declared.limits.TheConstants.{MAX_COORDINATE};
 ghost use Rattle.abuf_num.specs.Decimal.{is_digit, is_mark, all_digits, spelled_from, number_of, digits_value, scaled};
-ghost use Rattle.abuf_num.specs.Parts.{number_view, HasDigits};
+ghost use Rattle.abuf_num.specs.DecimalParts.{number_view, HasDigits};
 ghost use Rattle.abuf_num.specs.Leading.{is_number_byte, IsMantissa, IsExponent};
 
-use crate::decimal::Parts;
+use crate::decimal::DecimalParts;
 use crate::sign::{begins_negative, strip_sign};
 
 /// Digits at the start of a text: how many they are, and the number that they and the digits before them spell.
@@ -44,7 +44,7 @@ struct Exponent<'a> {
 // The parts of a number, the number that its digits spell without the point, and how many bytes it takes.
 #[derive(Clone, Copy)]
 struct Leading<'a> {
-    parts: Parts<'a>,
+    parts: DecimalParts<'a>,
     digits: u64,
     length: usize,
 }
@@ -186,7 +186,7 @@ fn leading_parts(text: &[u8]) -> Option<Leading<'_>>
         return None;
     };
     Some(Leading {
-        parts: Parts {
+        parts: DecimalParts {
             negative: begins_negative(text),
             whole: mantissa.whole,
             fraction: mantissa.fraction,

@@ -6,13 +6,13 @@ ghost use Rattle.abuf_num.specs.Size.{limited};
 use crate::limits::MAX_COORDINATE;
 
 // The greatest result.
-const MOST: u128 = MAX_COORDINATE as u128;
+const MAX_RESULT: u128 = MAX_COORDINATE as u128;
 
 // `n`, within the limit.
 fn within(n: u64) -> Option<u32>
     ensures { result ≡ limited n }
 {
-    if n > MOST as u64 {
+    if n > MAX_RESULT as u64 {
         None
     } else {
         Some(n as u32)
@@ -26,11 +26,11 @@ fn raised(n: u128, up: u32) -> Option<u32>
     if n == 0 {
         return Some(0);
     }
-    if n > MOST || up > 10 {
+    if n > MAX_RESULT || up > 10 {
         return None;
     }
     let value = n * 10u128.pow(up);
-    if value > MOST {
+    if value > MAX_RESULT {
         None
     } else {
         Some(value as u32)
@@ -74,7 +74,7 @@ fn lowered(n: u128, down: u32) -> Option<u32>
     }
     let unit = 10u128.pow(down);
     let value = (2 * n + unit) / (2 * unit);
-    if value > MOST {
+    if value > MAX_RESULT {
         None
     } else {
         Some(value as u32)

@@ -5,7 +5,7 @@ use Rattle.std.proofs.lemmas.List.Elements.{All-nil, All-cons}
 use Rattle.std.proofs.lemmas.Bool.Decides.{nat_tests}
 use Rattle.abuf_obj.specs.Faults.{fault_from, TellsFirst}
 use Rattle.abuf_obj.specs.Scene.{faces_of, points_of, first_fault, is_astray, astray_line, or_astray}
-use Rattle.abuf_obj.specs.Places.{clamped, clamped_face}
+use Rattle.abuf_obj.specs.Vertices.{clamped, clamped_face}
 use Rattle.abuf_obj.specs.declared.face.Face.{Face}
 use Rattle.abuf_obj.specs.declared.fault.ObjFault.{ObjFault}
 use Rattle.abuf_obj.specs.declared.fault.ObjFault.TheVariants.{Line, Memory}
@@ -34,13 +34,13 @@ none_first true f xs h = absurd (let e : Some f.line ≡ None = h in cc)
 none_first false f xs h = (refl, h)
 
 module _ (points : ℕ) (few : points ≤ 4294967295) where
-  -- a place goes astray exactly where it does when clamped
-  clamped_place : (place : ℕ) → nat_le points (clamped place) ≡ nat_le points place
-  clamped_place place = grind (arith, nat_tests)
+  -- a vertex goes astray exactly where it does when clamped
+  clamped_vertex : (vertex : ℕ) → nat_le points (clamped vertex) ≡ nat_le points vertex
+  clamped_vertex vertex = grind (arith, nat_tests)
 
   clamped_corners : (corners : List ℕ) → list_any (λ c. nat_le points c) (map clamped corners) ≡ list_any (λ c. nat_le points c) corners
   clamped_corners [] = refl
-  clamped_corners (c ∷ cs) = rw (clamped_place c, clamped_corners cs) refl
+  clamped_corners (c ∷ cs) = rw (clamped_vertex c, clamped_corners cs) refl
 
   pub clamped_astray : (face : Face) → is_astray points (clamped_face face) ≡ is_astray points face
   clamped_astray face = clamped_corners face.corners
@@ -50,16 +50,16 @@ module _ (points : ℕ) (few : points ≤ 4294967295) where
   clamped_line [] = refl
   clamped_line (f ∷ fs) = ap (λ (b : Bool). option_map (λ face. face.line) (cond b (Some (clamped_face f)) (find (is_astray points) (map clamped_face fs)))) (clamped_astray f) ∙ clamped_by (is_astray points f) f _ _ (clamped_line fs)
 
-  -- where none does, clamping leaves each place as it is
-  place_within : (place : ℕ) → nat_le points place ≡ false → clamped place ≡ place
-  place_within place within = grind (arith, nat_tests)
+  -- where none does, clamping leaves each vertex as it is
+  vertex_within : (vertex : ℕ) → nat_le points vertex ≡ false → clamped vertex ≡ vertex
+  vertex_within vertex within = grind (arith, nat_tests)
 
   corners_within : (corners : List ℕ) → list_any (λ c. nat_le points c) corners ≡ false → map clamped corners ≡ corners
   corners_within [] within = refl
   corners_within (c ∷ cs) within =
       let first : nat_le points c ≡ false = (or_false (nat_le points c) _ within).0 in
       let later : list_any (λ c. nat_le points c) cs ≡ false = (or_false (nat_le points c) _ within).1 in
-      ap (λ (k : ℕ). k ∷ map clamped cs) (place_within c first) ∙ ap (λ (ks : List ℕ). c ∷ ks) (corners_within cs later)
+      ap (λ (k : ℕ). k ∷ map clamped cs) (vertex_within c first) ∙ ap (λ (ks : List ℕ). c ∷ ks) (corners_within cs later)
 
   corners_below : (corners : List ℕ) → list_any (λ c. nat_le points c) corners ≡ false → All (λ c. c < points) corners
   corners_below [] within = All-nil (λ (k : ℕ). k < points)
@@ -80,7 +80,7 @@ module _ (points : ℕ) (few : points ≤ 4294967295) where
       let here = none_first (is_astray points f) f (find (is_astray points) fs) none in
       All-cons (λ (g : Face). All (λ k. k < points) g.corners) f fs (corners_below f.corners here.0) (faces_below fs here.1)
 
--- what was read of all the lines: their points, and their faces with clamped places
+-- what was read of all the lines: their points, and their faces with clamped vertices
 module _ (all : List (List ℕ)) (points : List (List ℤ)) (faces : List Face) (few : length points ≤ 1048576) (are_points : points ≡ points_of all) (are_faces : faces ≡ map clamped_face (faces_of all)) where
   same_line : astray_line (length points) faces ≡ astray_line (length points) (faces_of all)
   same_line = ap (astray_line (length points)) are_faces ∙ clamped_line (length points) (omega arith) (faces_of all)

@@ -12,7 +12,7 @@ use Rattle.abuf_num.specs.Leading.{is_number_byte}
 use Rattle.abuf_num.proofs.Notation.{seam}
 use Rattle.abuf_text.specs.Statement.{is_space, IsPlain}
 use Rattle.abuf_num.specs.Decimal.{is_negative}
-use Rattle.abuf_obj.specs.Elements.{is_digit, is_slash, without_minus, spelled_from, spelled, before_slash, after_slash, is_unused_index, is_normal, is_texture_and_normal, place_of, place_of_index}
+use Rattle.abuf_obj.specs.Elements.{is_digit, is_slash, without_minus, spelled_from, spelled, before_slash, after_slash, is_unused_index, is_normal, is_texture_and_normal, vertex_of, vertex_of_index}
 use Rattle.abuf_obj.specs.LeadingElement.{is_index_byte, is_element_byte}
 
 one_more : (n : ℕ) → 1 + n ≡ suc n
@@ -189,11 +189,11 @@ module _ (text behind : List ℕ) (a b : ℕ) (within : a < length text) (slash 
       ap (λ (xs : List ℕ). is_texture_and_normal (Some xs)) front
       ∙ λ i. (ap is_unused_index (before_some (take a text) index (take b behind)) ∙ texture) i && (ap is_normal (after_some (take a text) index (take b behind)) ∙ normal) i
 
-  pub place_behind : (above : ℕ) → is_texture_and_normal (Some (take b behind)) ≡ true → place_of above (take (a + 1 + b) text) ≡ place_of_index above (take a text)
-  place_behind above unused =
-      ap (place_of above) front
-      ∙ (λ i. if is_texture_and_normal (after_some (take a text) index (take b behind) i) then place_of_index above (before_some (take a text) index (take b behind) i) else None)
+  pub vertex_behind : (above : ℕ) → is_texture_and_normal (Some (take b behind)) ≡ true → vertex_of above (take (a + 1 + b) text) ≡ vertex_of_index above (take a text)
+  vertex_behind above unused =
+      ap (vertex_of above) front
+      ∙ (λ i. if is_texture_and_normal (after_some (take a text) index (take b behind) i) then vertex_of_index above (before_some (take a text) index (take b behind) i) else None)
       ∙ rw unused refl
 
-pub place_alone : (above : ℕ) (xs : List ℕ) → list_all is_index_byte xs ≡ true → place_of above xs ≡ place_of_index above xs
-place_alone above xs all = λ i. if is_texture_and_normal (after_none xs all i) then place_of_index above (before_none xs all i) else None
+pub vertex_alone : (above : ℕ) (xs : List ℕ) → list_all is_index_byte xs ≡ true → vertex_of above xs ≡ vertex_of_index above xs
+vertex_alone above xs all = λ i. if is_texture_and_normal (after_none xs all i) then vertex_of_index above (before_none xs all i) else None

@@ -12,7 +12,7 @@ use Rattle.abuf_obj.specs.Keywords.{keyword_of}
 use Rattle.abuf_obj.specs.Above.{Above, above_of, triangles_by, triangles_on, points_on, names_of, libraries_of, name_in_use}
 use Rattle.abuf_obj.specs.Faults.{why, why_by, fault_or, fault_from}
 use Rattle.abuf_obj.specs.Scene.{points_of, points_in, faces_by, faces_in, faces_from}
-use Rattle.abuf_obj.specs.Places.{clamped_face}
+use Rattle.abuf_obj.specs.Vertices.{clamped_face}
 use Rattle.abuf_obj.specs.Sound.{IsFan}
 use Rattle.abuf_obj.specs.Taking.{counted, with_line, name_by, TakesLine}
 use Rattle.abuf_obj.specs.Pieces.{with_triangles, BeginsBehind, HasPiece}
@@ -21,7 +21,7 @@ use Rattle.abuf_obj.specs.declared.keyword.Keyword.TheVariants as keyword
 use Rattle.abuf_obj.specs.declared.fault.Why.{Why}
 use Rattle.abuf_obj.specs.declared.fault.Why.TheVariants as why_
 use Rattle.abuf_obj.specs.declared.face.Face.{Face}
-use Rattle.abuf_obj.specs.declared.reader.Reader.{Reader}
+use Rattle.abuf_obj.specs.declared.reader.ObjReader.{ObjReader}
 use Rattle.abuf_obj.proofs.Reading.{above_same, above_of-more}
 
 -- what an if over a limit is where the limit is kept
@@ -64,7 +64,7 @@ module _ (t : ℕ) (a : Above) where
   with_line-triangles word elements text = above_same _ _ refl refl refl refl (name_by-triangles word text)
 
 -- `start` stands above the piece, whose lines are `all`; `done` was read of them, `after` follows
-pub record IsReading (start done after all : List (List ℕ)) (number : ℕ) (r : Reader) : Type 0 where
+pub record IsReading (start done after all : List (List ℕ)) (number : ℕ) (r : ObjReader) : Type 0 where
   pub together : done ++ after ≡ all
   pub count : number ≡ length (start ++ done)
   pub above : counted r ≡ with_triangles (triangles_on done) (above_of (start ++ done))
@@ -72,7 +72,7 @@ pub record IsReading (start done after all : List (List ℕ)) (number : ℕ) (r 
   pub faces : r.faces ++ map clamped_face (faces_from (start ++ done) after) ≡ map clamped_face (faces_from start all)
   pub sound : triangles_on (start ++ all) ≤ MAX_TRIANGLES → fault_from (start ++ done) after ≡ fault_from start all
 
-pub begins : (start all : List (List ℕ)) (number : ℕ) (r : Reader) → number ≡ length start → BeginsBehind start r → r.points ≡ [] → r.faces ≡ [] → r.triangles ≡ 0 → IsReading start [] all all number r
+pub begins : (start all : List (List ℕ)) (number : ℕ) (r : ObjReader) → number ≡ length start → BeginsBehind start r → r.points ≡ [] → r.faces ≡ [] → r.triangles ≡ 0 → IsReading start [] all all number r
 begins start all number r count begin points faces triangles =
     let none : start ++ [] ≡ start = append-nil start in
     record {
@@ -86,8 +86,8 @@ begins start all number r count begin points faces triangles =
       sound = λ few. ap (λ (ls : List (List ℕ)). fault_from ls all) none;
     }
 
-module _ (start done after all : List (List ℕ)) (number : ℕ) (old : Reader) (line : List ℕ) (read : IsReading start done (line ∷ after) all number old) where
-  pub piece-more : (new : Reader) → TakesLine (number + 1) line old new → IsReading start (done ++ line ∷ []) after all (number + 1) new
+module _ (start done after all : List (List ℕ)) (number : ℕ) (old : ObjReader) (line : List ℕ) (read : IsReading start done (line ∷ after) all number old) where
+  pub piece-more : (new : ObjReader) → TakesLine (number + 1) line old new → IsReading start (done ++ line ∷ []) after all (number + 1) new
   piece-more new takes =
       let before = start ++ done in
       let word = keyword_of (statement line) in
@@ -126,7 +126,7 @@ module _ (start done after all : List (List ℕ)) (number : ℕ) (old : Reader) 
             ap (λ (ls : List (List ℕ)). fault_from ls after) (sym seam) ∙ (rw sound at last);
       }
 
-pub ends : (start done all : List (List ℕ)) (number : ℕ) (r : Reader) → IsReading start done [] all number r → HasPiece start all r
+pub ends : (start done all : List (List ℕ)) (number : ℕ) (r : ObjReader) → IsReading start done [] all number r → HasPiece start all r
 ends start done all number r read =
     let e : done ≡ all = sym (append-nil done) ∙ read.together in
     record {
@@ -156,7 +156,7 @@ fault_from-append before (x ∷ xs) ys h =
     ∙ ap (λ (ls : List (List ℕ)). fault_from ls ys) (append_assoc before (x ∷ []) xs)
 
 -- what two readers have read stands in one
-pub record IsJoin (a b r : Reader) : Type 0 where
+pub record IsJoin (a b r : ObjReader) : Type 0 where
   pub follows : a.points_above + length a.points ≡ b.points_above
   pub points_above : r.points_above ≡ a.points_above
   pub points : r.points ≡ a.points ++ b.points
@@ -166,7 +166,7 @@ pub record IsJoin (a b r : Reader) : Type 0 where
   pub libraries : r.libraries ≡ b.libraries
   pub name : r.name ≡ b.name
 
-module _ (before xs ys : List (List ℕ)) (a b r : Reader) (join : IsJoin a b r) (first : HasPiece before xs a) (second : HasPiece (before ++ xs) ys b) where
+module _ (before xs ys : List (List ℕ)) (a b r : ObjReader) (join : IsJoin a b r) (first : HasPiece before xs a) (second : HasPiece (before ++ xs) ys b) where
   pub both-pieces : HasPiece before (xs ++ ys) r
   both-pieces =
       let seam : (before ++ xs) ++ ys ≡ before ++ (xs ++ ys) = append_assoc before xs ys in
@@ -192,7 +192,7 @@ module _ (before xs ys : List (List ℕ)) (a b r : Reader) (join : IsJoin a b r)
       }
 
 -- the piece is all, so each line is sound
-pub sound-whole : (all : List (List ℕ)) (r : Reader) → r.triangles ≤ MAX_TRIANGLES → HasPiece [] all r → fault_from [] all ≡ None
+pub sound-whole : (all : List (List ℕ)) (r : ObjReader) → r.triangles ≤ MAX_TRIANGLES → HasPiece [] all r → fault_from [] all ≡ None
 sound-whole all r few whole = whole.sound (omega (arith, few, ap (λ (w : Above). w.triangles) whole.above))
 
 -- a name that is one of the names is one of more names

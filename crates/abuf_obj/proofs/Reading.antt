@@ -3,25 +3,25 @@ use Rattle.std.proofs.Common.{◌≡◌, ◌+◌, ◌++◌, ◌∷◌, [], ℕ, 
 use Rattle.std.proofs.lemmas.List.{map-append}
 use Rattle.std.proofs.lemmas.List.Sums.{fold-append}
 use Rattle.std.proofs.lemmas.List.Concat.{flat_map-append}
-use Rattle.abuf_text.specs.Names.{with_name, with_names, place_of}
+use Rattle.abuf_text.specs.Names.{with_name, with_names, index_of}
 use Rattle.abuf_text.specs.Statement.{statement, arguments}
 use Rattle.abuf_text.specs.Rest.{rest}
 use Rattle.abuf_obj.specs.Keywords.{keyword_of}
 use Rattle.abuf_obj.specs.Above.{Above, above_of, materials_on, libraries_on, materials_by, libraries_by, last_of}
 use Rattle.abuf_obj.specs.Faults.{why, fault_from}
 use Rattle.abuf_obj.specs.Scene.{points_of, points_in, faces_in, faces_from}
-use Rattle.abuf_obj.specs.Places.{clamped_face}
+use Rattle.abuf_obj.specs.Vertices.{clamped_face}
 use Rattle.abuf_obj.specs.Taking.{counted, with_line, name_by, TakesLine}
 use Rattle.abuf_obj.specs.declared.keyword.Keyword.{Keyword}
 use Rattle.abuf_obj.specs.declared.keyword.Keyword.TheVariants as keyword
 use Rattle.abuf_obj.specs.declared.face.Face.{Face}
-use Rattle.abuf_obj.specs.declared.reader.Reader.{Reader}
+use Rattle.abuf_obj.specs.declared.reader.ObjReader.{ObjReader}
 
 abbrev pub texts : List (Bor (List ℕ)) → List (List ℕ)
 texts lines = map (λ line. line.now) lines
 
 -- `before` was read, `after` follows, and together they are `all`
-pub record HasRead (before after all : List (List ℕ)) (number : ℕ) (r : Reader) : Type 0 where
+pub record HasRead (before after all : List (List ℕ)) (number : ℕ) (r : ObjReader) : Type 0 where
   pub together : before ++ after ≡ all
   pub count : number ≡ length before
   pub fault : fault_from before after ≡ fault_from [] all
@@ -37,12 +37,12 @@ module _ (before : List (List ℕ)) (line : List ℕ) where
   libraries_on-more = flat_map-append _ before (line ∷ []) ∙ ap (λ (ns : List (List ℕ)). libraries_on before ++ ns) (append-nil (libraries_by (keyword_of (statement line)) (rest line)))
 
 abbrev pub named_by : List (List ℕ) → Option ℕ
-named_by ms = option_and_then (λ text. place_of text (with_names [] ms)) (last_of ms)
+named_by ms = option_and_then (λ text. index_of text (with_names [] ms)) (last_of ms)
 
-name_of-last : (ms : List (List ℕ)) (text : List ℕ) → named_by (ms ++ text ∷ []) ≡ place_of text (with_names (with_names [] ms) (text ∷ []))
+name_of-last : (ms : List (List ℕ)) (text : List ℕ) → named_by (ms ++ text ∷ []) ≡ index_of text (with_names (with_names [] ms) (text ∷ []))
 name_of-last ms text =
     let last : last_of (ms ++ text ∷ []) ≡ Some text = fold-append _ None ms (text ∷ []) in
-    ap (option_and_then (λ t. place_of t (with_names [] (ms ++ text ∷ [])))) last ∙ ap (place_of text) (fold-append with_name [] ms (text ∷ []))
+    ap (option_and_then (λ t. index_of t (with_names [] (ms ++ text ∷ [])))) last ∙ ap (index_of text) (fold-append with_name [] ms (text ∷ []))
 
 name_of-more : (before : List (List ℕ)) (word : Keyword) (text : List ℕ) → named_by (materials_on before ++ materials_by word text) ≡ name_by word text (above_of before)
 name_of-more before keyword.Material text = name_of-last (materials_on before) text
@@ -65,8 +65,8 @@ above_of-more before line =
     (ap (with_names []) (libraries_on-more before line) ∙ fold-append with_name [] (libraries_on before) _)
     (ap named_by (materials_on-more before line) ∙ name_of-more before (keyword_of (statement line)) (rest line))
 
-module _ (before after all : List (List ℕ)) (number : ℕ) (old : Reader) (line : List ℕ) (read : HasRead before (line ∷ after) all number old) where
-  pub read-more : (new : Reader) → TakesLine (number + 1) line old new → HasRead (before ++ line ∷ []) after all (number + 1) new
+module _ (before after all : List (List ℕ)) (number : ℕ) (old : ObjReader) (line : List ℕ) (read : HasRead before (line ∷ after) all number old) where
+  pub read-more : (new : ObjReader) → TakesLine (number + 1) line old new → HasRead (before ++ line ∷ []) after all (number + 1) new
   read-more new takes =
       let sound : why (above_of before) line ≡ None = subst (λ (a : Above). why a line ≡ None) read.above takes.sound in
       let same : faces_in (number + 1) (counted old) line ≡ faces_in (length before + 1) (above_of before) line =

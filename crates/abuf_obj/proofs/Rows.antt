@@ -2,15 +2,15 @@
 use Rattle.std.proofs.Common.{◌≡◌, ◌∙◌, ◌+◌, ◌≤◌, ◌++◌, ◌∷◌, [], ℕ, zero, suc, List, take, drop, length, refl, sym, ap, ap₂, arith}
 use Rattle.std.proofs.lemmas.List.{take-append-le, drop-append-le, length-drop, length-take-le, take_all, take-take, drop-take, drop-drop}
 use Rattle.abuf_obj.specs.declared.face.Face.{Face}
-use Rattle.abuf_obj.specs.declared.faces.Row.{Row}
+use Rattle.abuf_obj.specs.declared.faces.FaceRow.{FaceRow}
 use Rattle.abuf_obj.specs.FaceRows.{corners_in, corners_of, faces_in_rows}
 
-pub corners-append : (rows more : List Row) → corners_in (rows ++ more) ≡ corners_in rows + corners_in more
+pub corners-append : (rows more : List FaceRow) → corners_in (rows ++ more) ≡ corners_in rows + corners_in more
 corners-append [] more = omega arith
 corners-append (row ∷ rows) more = let e = corners-append rows more in omega (arith, e)
 
 -- the faces of some rows, and then those of more of them
-pub rows-append : (cs ds : List ℕ) (rows more : List Row) → corners_in rows ≡ length cs → faces_in_rows (cs ++ ds) (rows ++ more) ≡ faces_in_rows cs rows ++ faces_in_rows ds more
+pub rows-append : (cs ds : List ℕ) (rows more : List FaceRow) → corners_in rows ≡ length cs → faces_in_rows (cs ++ ds) (rows ++ more) ≡ faces_in_rows cs rows ++ faces_in_rows ds more
 rows-append [] ds [] more e = refl
 rows-append (c ∷ cs) ds [] more e = absurd (omega (arith, e))
 rows-append cs ds (row ∷ rows) more e =
@@ -22,28 +22,28 @@ rows-append cs ds (row ∷ rows) more e =
     (ap (λ (xs : List ℕ). faces_in_rows xs (rows ++ more)) (drop-append-le row.count cs ds l) ∙ later)
 
 -- one row
-pub one-row : (ds : List ℕ) (row : Row) → row.count ≡ length ds → faces_in_rows ds (row ∷ []) ≡ record { line = row.line; corners = ds; name = row.name } ∷ []
+pub one-row : (ds : List ℕ) (row : FaceRow) → row.count ≡ length ds → faces_in_rows ds (row ∷ []) ≡ record { line = row.line; corners = ds; name = row.name } ∷ []
 one-row ds row e = ap (λ (xs : List ℕ). record { line = row.line; corners = xs; name = row.name } ∷ []) (take_all row.count ds (omega (arith, e)))
 
 -- there is a face for each row
-pub rows-length : (cs : List ℕ) (rows : List Row) → length (faces_in_rows cs rows) ≡ length rows
+pub rows-length : (cs : List ℕ) (rows : List FaceRow) → length (faces_in_rows cs rows) ≡ length rows
 rows-length cs [] = refl
 rows-length cs (row ∷ rows) = let e = rows-length (drop row.count cs) rows in omega (arith, e)
 
 -- the first rows and the later ones have all corners
-pub corners-split : (n : ℕ) (rows : List Row) → corners_in (take n rows) + corners_in (drop n rows) ≡ corners_in rows
+pub corners-split : (n : ℕ) (rows : List FaceRow) → corners_in (take n rows) + corners_in (drop n rows) ≡ corners_in rows
 corners-split zero rows = omega arith
 corners-split (suc n) [] = refl
 corners-split (suc n) (row ∷ rows) = let e = corners-split n rows in omega (arith, e)
 
 -- some of the rows have no more corners than all
-pub corners-take : (n : ℕ) (rows : List Row) → corners_in (take n rows) ≤ corners_in rows
+pub corners-take : (n : ℕ) (rows : List FaceRow) → corners_in (take n rows) ≤ corners_in rows
 corners-take zero rows = omega arith
 corners-take (suc n) [] = omega arith
 corners-take (suc n) (row ∷ rows) = let e = corners-take n rows in omega (arith, e)
 
 -- the first rows have the first faces
-pub rows-take : (n : ℕ) (cs : List ℕ) (rows : List Row) → faces_in_rows (take (corners_in (take n rows)) cs) (take n rows) ≡ take n (faces_in_rows cs rows)
+pub rows-take : (n : ℕ) (cs : List ℕ) (rows : List FaceRow) → faces_in_rows (take (corners_in (take n rows)) cs) (take n rows) ≡ take n (faces_in_rows cs rows)
 rows-take zero cs rows = refl
 rows-take (suc n) cs [] = refl
 rows-take (suc n) cs (row ∷ rows) =
@@ -53,14 +53,14 @@ rows-take (suc n) cs (row ∷ rows) =
     (ap (λ (xs : List ℕ). faces_in_rows xs (take n rows)) (drop-take row.count k cs) ∙ rows-take n (drop row.count cs) rows)
 
 -- and the later rows the later faces
-pub rows-drop : (n : ℕ) (cs : List ℕ) (rows : List Row) → faces_in_rows (drop (corners_in (take n rows)) cs) (drop n rows) ≡ drop n (faces_in_rows cs rows)
+pub rows-drop : (n : ℕ) (cs : List ℕ) (rows : List FaceRow) → faces_in_rows (drop (corners_in (take n rows)) cs) (drop n rows) ≡ drop n (faces_in_rows cs rows)
 rows-drop zero cs rows = refl
 rows-drop (suc n) cs [] = refl
 rows-drop (suc n) cs (row ∷ rows) =
     ap (λ (xs : List ℕ). faces_in_rows xs (drop n rows)) (sym (drop-drop (corners_in (take n rows)) row.count cs)) ∙ rows-drop n (drop row.count cs) rows
 
 -- the faces have the corners of the rows
-pub rows-corners : (cs : List ℕ) (rows : List Row) → corners_in rows ≡ length cs → corners_of (faces_in_rows cs rows) ≡ corners_in rows
+pub rows-corners : (cs : List ℕ) (rows : List FaceRow) → corners_in rows ≡ length cs → corners_of (faces_in_rows cs rows) ≡ corners_in rows
 rows-corners cs [] e = refl
 rows-corners cs (row ∷ rows) e =
     let own = length-take-le row.count cs (omega (arith, e)) in

@@ -4,7 +4,7 @@ use Rattle.std.proofs.lemmas.List.{map-append}
 use Rattle.std.proofs.Math.Seq.{take-suc}
 use Rattle.std.proofs.lemmas.List.Sums.{sum_by-append}
 use Rattle.std.proofs.lemmas.List.Concat.{flat_map-append}
-use Rattle.abuf_text.specs.Names.{with_names, place_of}
+use Rattle.abuf_text.specs.Names.{with_names, index_of}
 use Rattle.abuf_text.specs.Statement.{statement}
 use Rattle.abuf_text.specs.Rest.{rest}
 use Rattle.abuf_obj.specs.Keywords.{keyword_of}
@@ -13,7 +13,7 @@ use Rattle.abuf_obj.specs.Taking.{counted, name_by, TakesLine}
 use Rattle.abuf_obj.specs.Pieces.{name_line_by, name_lines_on, texts, IsTally, HasNames, BeginsBehind}
 use Rattle.abuf_obj.specs.declared.keyword.Keyword.{Keyword}
 use Rattle.abuf_obj.specs.declared.keyword.Keyword.TheVariants as keyword
-use Rattle.abuf_obj.specs.declared.reader.Reader.{Reader}
+use Rattle.abuf_obj.specs.declared.reader.ObjReader.{ObjReader}
 use Rattle.abuf_obj.specs.declared.tally.Tally.{Tally}
 use Rattle.abuf_obj.proofs.Reading.{above_of-more, named_by}
 
@@ -50,7 +50,7 @@ same-libraries (line ∷ ls) =
     ∙ ap₂ (λ (ms ns : List (List ℕ)). ms ++ ns) (library-one line (keyword_of (statement line)) refl) (same-libraries ls)
 
 -- a reader that has the names of the lines with names has those of all the lines
-pub names-of-named : (before ls : List (List ℕ)) (r : Reader) → HasNames (before ++ name_lines_on ls) r → HasNames (before ++ ls) r
+pub names-of-named : (before ls : List (List ℕ)) (r : ObjReader) → HasNames (before ++ name_lines_on ls) r → HasNames (before ++ ls) r
 names-of-named before ls r has =
     let materials : materials_on (before ++ name_lines_on ls) ≡ materials_on (before ++ ls) =
     flat_map-append _ before (name_lines_on ls) ∙ ap (λ (ms : List (List ℕ)). materials_on before ++ ms) (same-materials ls) ∙ sym (flat_map-append _ before ls) in
@@ -59,7 +59,7 @@ names-of-named before ls r has =
     record { names = has.names ∙ ap (with_names []) materials; libraries = has.libraries ∙ ap (with_names []) libraries; name = has.name ∙ ap named_by materials }
 
 name_by-same : (a b : Above) (word : Keyword) (text : List ℕ) → a.names ≡ b.names → a.name ≡ b.name → name_by word text a ≡ name_by word text b
-name_by-same a b keyword.Material text names name = ap (λ (ns : List (List ℕ)). place_of text (with_names ns (text ∷ []))) names
+name_by-same a b keyword.Material text names name = ap (λ (ns : List (List ℕ)). index_of text (with_names ns (text ∷ []))) names
 name_by-same a b keyword.Vertex text names name = name
 name_by-same a b keyword.Face text names name = name
 name_by-same a b keyword.Library text names name = name
@@ -67,7 +67,7 @@ name_by-same a b keyword.Passed text names name = name
 name_by-same a b keyword.Refused text names name = name
 
 -- a line was taken
-pub names-more : (before : List (List ℕ)) (number : ℕ) (line : List ℕ) (old new : Reader) → HasNames before old → TakesLine number line old new → HasNames (before ++ line ∷ []) new
+pub names-more : (before : List (List ℕ)) (number : ℕ) (line : List ℕ) (old new : ObjReader) → HasNames before old → TakesLine number line old new → HasNames (before ++ line ∷ []) new
 names-more before number line old new has takes =
     let more = above_of-more before line in
     let word = keyword_of (statement line) in
@@ -78,7 +78,7 @@ names-more before number line old new has takes =
     }
 
 -- a reader begins behind a piece
-pub begins-behind : (before ls : List (List ℕ)) (tally : Tally) (old named new : Reader) → BeginsBehind before old → IsTally ls tally
+pub begins-behind : (before ls : List (List ℕ)) (tally : Tally) (old named new : ObjReader) → BeginsBehind before old → IsTally ls tally
     → HasNames (before ++ texts tally.named.items) named → new.points_above ≡ old.points_above + length old.points + tally.points → new.points ≡ []
     → new.names ≡ named.names → new.libraries ≡ named.libraries → new.name ≡ named.name → BeginsBehind (before ++ ls) new
 begins-behind before ls tally old named new begin is has above none names libraries name =

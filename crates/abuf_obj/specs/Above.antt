@@ -2,7 +2,7 @@
 use Rattle.std.specs.Prelude.{◌-◌, ◌∷◌, [], ℕ, Bool, true, false, List, length, flat_map, count_by, sum_by, fold, option_and_then, Option, Some, None}
 use Rattle.abuf_text.specs.Statement.{statement, arguments}
 use Rattle.abuf_text.specs.Rest.{rest}
-use Rattle.abuf_text.specs.Names.{with_names, place_of}
+use Rattle.abuf_text.specs.Names.{with_names, index_of}
 use Rattle.abuf_obj.specs.Keywords.{keyword_of}
 use Rattle.abuf_obj.specs.declared.keyword.Keyword.{Keyword}
 use Rattle.abuf_obj.specs.declared.keyword.Keyword.TheVariants as keyword
@@ -50,9 +50,9 @@ libraries_of lines = with_names [] (libraries_on lines)
 abbrev pub last_of : List (List ℕ) → Option (List ℕ)
 last_of names = fold (λ earlier name. Some name) None names
 
--- the place, among the names, of the name on the last `usemtl` line
+-- the index, among the names, of the name on the last `usemtl` line
 abbrev pub name_in_use : List (List ℕ) → Option ℕ
-name_in_use lines = option_and_then (λ name. place_of name (names_of lines)) (last_of (materials_on lines))
+name_in_use lines = option_and_then (λ name. index_of name (names_of lines)) (last_of (materials_on lines))
 
 pub record Above : Type 0 where
   pub points : ℕ

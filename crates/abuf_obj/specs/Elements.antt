@@ -60,21 +60,21 @@ from_first i = if i == 0 then None else Some (i - 1)
 abbrev pub from_last : ℕ → ℕ → Option ℕ
 from_last above i = if nat_le 1 i && nat_le i above then Some (above - i) else None
 
--- the place from 0 of a point's index, where so many points stand above the line
-abbrev pub place_of_index : ℕ → List ℕ → Option ℕ
-place_of_index above text =
+-- the vertex from 0 of a point's index, where so many points stand above the line
+abbrev pub vertex_of_index : ℕ → List ℕ → Option ℕ
+vertex_of_index above text =
     if is_negative text then option_and_then (from_last above) (spelled (drop 1 text)) else option_and_then from_first (spelled text)
 
--- the place of the point of an element
-abbrev pub place_of : ℕ → List ℕ → Option ℕ
-place_of above element = if is_texture_and_normal (after_slash element) then place_of_index above (before_slash element) else None
+-- the vertex of an element
+abbrev pub vertex_of : ℕ → List ℕ → Option ℕ
+vertex_of above element = if is_texture_and_normal (after_slash element) then vertex_of_index above (before_slash element) else None
 
 abbrev pub put_first : Option ℕ → Option (List ℕ) → Option (List ℕ)
-put_first (Some place) (Some places) = Some (place ∷ places)
-put_first (Some place) None = None
-put_first None places = None
+put_first (Some vertex) (Some vertices) = Some (vertex ∷ vertices)
+put_first (Some vertex) None = None
+put_first None vertices = None
 
--- the places of all elements, if each has one
-abbrev pub places_of : ℕ → List (List ℕ) → Option (List ℕ)
-places_of above [] = Some []
-places_of above (element ∷ elements) = put_first (place_of above element) (places_of above elements)
+-- the vertices of all elements, if each has one
+abbrev pub vertices_of : ℕ → List (List ℕ) → Option (List ℕ)
+vertices_of above [] = Some []
+vertices_of above (element ∷ elements) = put_first (vertex_of above element) (vertices_of above elements)

@@ -6,7 +6,7 @@ use Rattle.abuf_text.specs.Rest.{rest}
 use Rattle.abuf_text.specs.Names as names
 use Rattle.abuf_obj.specs.Keywords.{keyword_of}
 use Rattle.abuf_obj.specs.Points.{point_of}
-use Rattle.abuf_obj.specs.Elements.{places_of}
+use Rattle.abuf_obj.specs.Elements.{vertices_of}
 use Rattle.abuf_obj.specs.Above.{Above, above_of}
 use Rattle.abuf_obj.specs.declared.keyword.Keyword.{Keyword}
 use Rattle.abuf_obj.specs.declared.keyword.Keyword.TheVariants as keyword
@@ -21,19 +21,19 @@ point_why above arguments =
     if is_some (point_of arguments) then (if nat_lt above.points MAX_POINTS then None else Some why_.TooManyPoints)
     else Some why_.BadNumber
 
--- an `f` line: 3 to 1024 elements, each with a place, and at most 1048576 triangles
+-- an `f` line: 3 to 1024 elements, each with a vertex, and at most 1048576 triangles
 abbrev pub face_why : Above → List (List ℕ) → Option Why
 face_why above elements =
     if nat_lt (length elements) 3 then Some why_.TooFewElements
     else (if nat_lt MAX_ELEMENTS (length elements) then Some why_.TooManyElements
-    else (if is_some (places_of above.points elements)
+    else (if is_some (vertices_of above.points elements)
     then (if nat_le (above.triangles + (length elements - 2)) MAX_TRIANGLES then None else Some why_.TooManyTriangles)
     else Some why_.BadIndex))
 
 -- a line with a name, where there may be so many names
 abbrev pub name_why : ℕ → Why → List (List ℕ) → List ℕ → Option Why
 name_why most too_many known name =
-    if nat_lt 0 (length name) then (if is_some (names.place_of name known) || nat_lt (length known) most then None else Some too_many)
+    if nat_lt 0 (length name) then (if is_some (names.index_of name known) || nat_lt (length known) most then None else Some too_many)
     else Some why_.NoName
 
 abbrev pub why_by : Above → Keyword → List (List ℕ) → List ℕ → Option Why

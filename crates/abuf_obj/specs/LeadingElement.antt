@@ -2,7 +2,7 @@
 use Rattle.std.specs.Prelude.{◌≡◌, ◌<◌, ◌==◌, ◌||◌, ℕ, Bool, true, List, [], ◌∷◌, length, Option, Some, None, if◌then◌else◌}
 use Rattle.std.specs.List.{list_all}
 use Rattle.abuf_num.specs.Decimal.{is_negative}
-use Rattle.abuf_obj.specs.Elements.{is_digit, is_slash, without_minus, spelled, from_first, from_last, place_of}
+use Rattle.abuf_obj.specs.Elements.{is_digit, is_slash, without_minus, spelled, from_first, from_last, vertex_of}
 use Rattle.abuf_obj.specs.declared.element.Index.{Index}
 
 -- a digit or `-`
@@ -20,11 +20,11 @@ pub record IsIndex (i : Index) (text : List ℕ) : Type 0 where
   pub negative : i.negative ≡ is_negative text
   pub value : spelled (without_minus text) ≡ Some i.value
 
--- the place of an index with these parts
-abbrev pub place_by : ℕ → Bool → ℕ → Option ℕ
-place_by above negative value = if negative then from_last above value else from_first value
+-- the vertex of an index with these parts
+abbrev pub vertex_by : ℕ → Bool → ℕ → Option ℕ
+vertex_by above negative value = if negative then from_last above value else from_first value
 
--- the place of the first element's point
-abbrev pub first_place : ℕ → List (List ℕ) → Option ℕ
-first_place above [] = None
-first_place above (element ∷ elements) = place_of above element
+-- the vertex of the first element
+abbrev pub first_vertex : ℕ → List (List ℕ) → Option ℕ
+first_vertex above [] = None
+first_vertex above (element ∷ elements) = vertex_of above element

@@ -4,7 +4,7 @@ pub mod Elements
 pub mod Above
 pub mod Faults
 pub mod Scene
-pub mod Places
+pub mod Vertices
 pub mod Sound
 pub mod Taking
 pub mod Pieces

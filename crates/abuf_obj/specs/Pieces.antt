@@ -7,12 +7,12 @@ use Rattle.abuf_obj.specs.Keywords.{keyword_of}
 use Rattle.abuf_obj.specs.Above.{Above, above_of, is_vertex, points_on, triangles_on, names_of, libraries_of, name_in_use}
 use Rattle.abuf_obj.specs.Faults.{fault_from}
 use Rattle.abuf_obj.specs.Scene.{points_of, faces_from}
-use Rattle.abuf_obj.specs.Places.{clamped_face}
+use Rattle.abuf_obj.specs.Vertices.{clamped_face}
 use Rattle.abuf_obj.specs.Taking.{counted}
 use Rattle.abuf_obj.specs.declared.given_up.GivenUp.{GivenUp}
 use Rattle.abuf_obj.specs.declared.keyword.Keyword.{Keyword}
 use Rattle.abuf_obj.specs.declared.keyword.Keyword.TheVariants as keyword
-use Rattle.abuf_obj.specs.declared.reader.Reader.{Reader}
+use Rattle.abuf_obj.specs.declared.reader.ObjReader.{ObjReader}
 use Rattle.abuf_obj.specs.declared.tally.Tally.{Tally}
 
 -- the line, where it has the name of a material or of a library
@@ -41,13 +41,13 @@ pub record IsTally (piece : List (List ℕ)) (tally : Tally) : Type 0 where
   pub named : texts tally.named.items ≡ name_lines_on piece
 
 -- the reader has the names on these lines
-pub record HasNames (lines : List (List ℕ)) (r : Reader) : Type 0 where
+pub record HasNames (lines : List (List ℕ)) (r : ObjReader) : Type 0 where
   pub names : r.names ≡ names_of lines
   pub libraries : r.libraries ≡ libraries_of lines
   pub name : r.name ≡ name_in_use lines
 
 -- the reader knows what stands above the line behind these, but for triangles
-pub record BeginsBehind (before : List (List ℕ)) (r : Reader) : Type 0 where
+pub record BeginsBehind (before : List (List ℕ)) (r : ObjReader) : Type 0 where
   pub points : r.points_above + length r.points ≡ points_on before
   pub names : HasNames before r
 
@@ -55,13 +55,13 @@ abbrev pub with_triangles : ℕ → Above → Above
 with_triangles triangles above = record above { triangles = triangles }
 
 -- the reader has the lines of a piece that stands behind these, and no others; where all triangles are few enough, no line of the piece is at fault
-pub record HasPiece (before lines : List (List ℕ)) (r : Reader) : Type 0 where
+pub record HasPiece (before lines : List (List ℕ)) (r : ObjReader) : Type 0 where
   pub above : counted r ≡ with_triangles (triangles_on lines) (above_of (before ++ lines))
   pub points : r.points ≡ points_of lines
   pub faces : r.faces ≡ map clamped_face (faces_from before lines)
   pub sound : triangles_on (before ++ lines) ≤ MAX_TRIANGLES → fault_from before lines ≡ None
 
 -- reading these lines behind so many others, by a reader that begins with what stands there, gives the piece or is given up
-abbrev pub GivesPiece : ℕ → Reader → List (List ℕ) → Result Reader GivenUp → Type 0
+abbrev pub GivesPiece : ℕ → ObjReader → List (List ℕ) → Result ObjReader GivenUp → Type 0
 GivesPiece lines_above start lines result =
     (before : List (List ℕ)) → lines_above ≡ length before → BeginsBehind before start → IfOk result (HasPiece before lines)

@@ -5,7 +5,7 @@ use Rattle.abuf_text.specs.Lines.{lines}
 use Rattle.abuf_text.specs.Statement.{statement, arguments}
 use Rattle.abuf_obj.specs.Keywords.{keyword_of}
 use Rattle.abuf_obj.specs.Points.{point_of}
-use Rattle.abuf_obj.specs.Elements.{places_of}
+use Rattle.abuf_obj.specs.Elements.{vertices_of}
 use Rattle.abuf_obj.specs.Above.{Above, above_of, names_of, libraries_of}
 use Rattle.abuf_obj.specs.Faults.{fault_from}
 use Rattle.abuf_obj.specs.declared.keyword.Keyword.{Keyword}
@@ -26,13 +26,13 @@ abbrev pub points_of : List (List ℕ) → List (List ℤ)
 points_of lines = flat_map points_in lines
 
 abbrev pub faces_by : ℕ → Above → Keyword → List (List ℕ) → List Face
-faces_by number above keyword.Face elements = option_to_list (option_map (λ places. record { line = number; corners = places; name = above.name }) (places_of above.points elements))
+faces_by number above keyword.Face elements = option_to_list (option_map (λ vertices. record { line = number; corners = vertices; name = above.name }) (vertices_of above.points elements))
 faces_by number above _ arguments = []
 
 abbrev pub faces_in : ℕ → Above → List ℕ → List Face
 faces_in number above line = faces_by number above (keyword_of (statement line)) (arguments line)
 
--- the faces of the `f` lines that stand behind other lines: the number of its line, the places of its points, the name in use
+-- the faces of the `f` lines that stand behind other lines: the number of its line, its vertices, the name in use
 abbrev pub faces_from : List (List ℕ) → List (List ℕ) → List Face
 faces_from before [] = []
 faces_from before (line ∷ later) = faces_in (length before + 1) (above_of before) line ++ faces_from (before ++ line ∷ []) later

@@ -2,23 +2,23 @@
 use Rattle.std.specs.Prelude.{◌≡◌, ◌+◌, ◌++◌, ℕ, List, length, map, Option, None, if◌then◌else◌}
 use Rattle.abuf_text.specs.Statement.{statement, arguments}
 use Rattle.abuf_text.specs.Rest.{rest}
-use Rattle.abuf_text.specs.Names.{with_names, place_of}
+use Rattle.abuf_text.specs.Names.{with_names, index_of}
 use Rattle.abuf_obj.specs.Keywords.{keyword_of}
 use Rattle.abuf_obj.specs.Above.{Above, is_vertex, triangles_by, materials_by, libraries_by}
 use Rattle.abuf_obj.specs.Faults.{why_by}
 use Rattle.abuf_obj.specs.Scene.{points_by, faces_by}
-use Rattle.abuf_obj.specs.Places.{clamped_face}
+use Rattle.abuf_obj.specs.Vertices.{clamped_face}
 use Rattle.abuf_obj.specs.declared.keyword.Keyword.{Keyword}
 use Rattle.abuf_obj.specs.declared.keyword.Keyword.TheVariants as keyword
-use Rattle.abuf_obj.specs.declared.reader.Reader.{Reader}
+use Rattle.abuf_obj.specs.declared.reader.ObjReader.{ObjReader}
 
 -- what has been counted
-abbrev pub counted : Reader → Above
+abbrev pub counted : ObjReader → Above
 counted r = record { points = r.points_above + length r.points; triangles = r.triangles; names = r.names; libraries = r.libraries; name = r.name }
 
 -- the name that is in use behind a line
 abbrev pub name_by : Keyword → List ℕ → Above → Option ℕ
-name_by keyword.Material name above = place_of name (with_names above.names (materials_by keyword.Material name))
+name_by keyword.Material name above = index_of name (with_names above.names (materials_by keyword.Material name))
 name_by _ text above = above.name
 
 -- what is counted behind one line more
@@ -31,11 +31,11 @@ with_line word arguments text above = record {
   name = name_by word text above;
 }
 
-pub record TakesBy (number : ℕ) (word : Keyword) (arguments : List (List ℕ)) (text : List ℕ) (old new : Reader) : Type 0 where
+pub record TakesBy (number : ℕ) (word : Keyword) (arguments : List (List ℕ)) (text : List ℕ) (old new : ObjReader) : Type 0 where
   pub sound : why_by (counted old) word arguments text ≡ None
   pub points : new.points ≡ old.points ++ points_by word arguments
   pub faces : new.faces ≡ old.faces ++ map clamped_face (faces_by number (counted old) word arguments)
   pub counts : counted new ≡ with_line word arguments text (counted old)
 
-abbrev pub TakesLine : ℕ → List ℕ → Reader → Reader → Type 0
+abbrev pub TakesLine : ℕ → List ℕ → ObjReader → ObjReader → Type 0
 TakesLine number line old new = TakesBy number (keyword_of (statement line)) (arguments line) (rest line) old new

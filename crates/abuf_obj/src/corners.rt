@@ -1,12 +1,12 @@
 // The corners of a face.
 ghost use Rattle.std.specs.Prelude.{◌≡◌, ◌≤◌, [], length, map, None, Some, option_map, IfErr, IfOk, IfSome, IsTrue, OnOk};
 ghost use Rattle.abuf_num.specs.declared.limits.TheConstants.{MAX_ELEMENTS};
-ghost use Rattle.abuf_obj.specs.Elements.{places_of};
+ghost use Rattle.abuf_obj.specs.Elements.{vertices_of};
 ghost use Rattle.abuf_obj.specs.Faults.{TellsWhy};
 ghost use Rattle.abuf_obj.specs.Corners.{corners_why, AreCorners};
-ghost use Rattle.abuf_obj.specs.Places.{clamped};
+ghost use Rattle.abuf_obj.specs.Vertices.{clamped};
 
-use crate::element::{count, next_place, places};
+use crate::element::{count, next_vertex, vertices};
 use crate::fault::{ObjFault, Why};
 use abuf_num::List;
 use abuf_num::limits::MAX_ELEMENTS;
@@ -52,18 +52,18 @@ impl FaceCorners {
     }
 }
 
-// The places of three or four elements; none where they are more or fewer, or where one has no place. They need no count of their
+// The vertices of three or four elements; none where they are more or fewer, or where one has no vertex. They need no count of their
 // own.
 fn few_corners(alloc: Global, above: u32, mut elements: Statement) -> Option<FaceCorners>
     ensures { IfSome result (λ list. AreCorners above elements.entry list) }
 {
-    let Some(first) = next_place(&mut elements, above) else {
+    let Some(first) = next_vertex(&mut elements, above) else {
         return None;
     };
-    let Some(second) = next_place(&mut elements, above) else {
+    let Some(second) = next_vertex(&mut elements, above) else {
         return None;
     };
-    let Some(third) = next_place(&mut elements, above) else {
+    let Some(third) = next_vertex(&mut elements, above) else {
         return None;
     };
     if is_end(&elements) {
@@ -73,7 +73,7 @@ fn few_corners(alloc: Global, above: u32, mut elements: Statement) -> Option<Fac
             others: List::new(alloc),
         });
     }
-    let Some(fourth) = next_place(&mut elements, above) else {
+    let Some(fourth) = next_vertex(&mut elements, above) else {
         return None;
     };
     if is_end(&elements) {
@@ -87,7 +87,7 @@ fn few_corners(alloc: Global, above: u32, mut elements: Statement) -> Option<Fac
     }
 }
 
-// The places of any number of elements. They are counted first, so that the list takes exactly its memory.
+// The vertices of any number of elements. They are counted first, so that the list takes exactly its memory.
 fn many_corners(
     alloc: Global,
     line: u32,
@@ -96,23 +96,23 @@ fn many_corners(
 ) -> Result<List<u32>, ObjFault>
     ensures fault { IfErr result (TellsWhy line (corners_why above elements.entry)) }
     ensures ok { OnOk result (corners_why above elements.entry ≡ None) }
-    ensures value { IfOk result (λ list. Some list ≡ option_map (map clamped) (places_of above elements.entry)) }
+    ensures value { IfOk result (λ list. Some list ≡ option_map (map clamped) (vertices_of above elements.entry)) }
     ensures count { IfOk result (λ list. length list ≡ length elements.entry) }
 {
-    let count = count(elements.again());
+    let count = count(elements.clone());
     if count < 3 {
         return Err(Why::TooFewElements.at(line));
     }
     if MAX_ELEMENTS < count {
         return Err(Why::TooManyElements.at(line));
     }
-    match places(alloc, above, count, elements)? {
+    match vertices(alloc, above, count, elements)? {
         Some(corners) => Ok(corners),
         None => Err(Why::BadIndex.at(line)),
     }
 }
 
-/// The places of the elements, where they are 3 to 1024 and each has one.
+/// The vertices of the elements, where they are 3 to 1024 and each has one.
 pub fn corners(
     alloc: Global,
     line: u32,
@@ -121,12 +121,12 @@ pub fn corners(
 ) -> Result<FaceCorners, ObjFault>
     ensures fault { IfErr result (TellsWhy line (corners_why above elements.entry)) }
     ensures ok { OnOk result (corners_why above elements.entry ≡ None) }
-    ensures value { IfOk result (λ list. Some list ≡ option_map (map clamped) (places_of above elements.entry)) }
+    ensures value { IfOk result (λ list. Some list ≡ option_map (map clamped) (vertices_of above elements.entry)) }
     ensures count { IfOk result (λ list. length list ≡ length elements.entry) }
     ensures least { OnOk result (3 ≤ length elements.entry) }
     ensures most { OnOk result (length elements.entry ≤ MAX_ELEMENTS) }
 {
-    match few_corners(alloc, above, elements.again()) {
+    match few_corners(alloc, above, elements.clone()) {
         Some(corners) => Ok(corners),
         None => {
             let others = many_corners(alloc, line, above, elements)?;

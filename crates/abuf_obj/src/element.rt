@@ -1,9 +1,9 @@
 // The elements of an `f` line.
 ghost use Rattle.std.specs.Prelude.{◌≡◌, ◌≤◌, ◌<◌, ℕ, Some, true, length, map, min, position, option_map, take, drop, IfOk, IfSome};
 ghost use Rattle.std.specs.List.{list_all};
-ghost use Rattle.abuf_obj.specs.Elements.{spelled_from, spelled, without_minus, is_slash, before_slash, after_slash, is_unused_index, is_normal, is_texture_and_normal, from_last, from_first, place_of_index, place_of, places_of};
-ghost use Rattle.abuf_obj.specs.LeadingElement.{is_index_byte, is_element_byte, place_by, first_place, IsIndex};
-ghost use Rattle.abuf_obj.specs.Places.{clamped};
+ghost use Rattle.abuf_obj.specs.Elements.{spelled_from, spelled, without_minus, is_slash, before_slash, after_slash, is_unused_index, is_normal, is_texture_and_normal, from_last, from_first, vertex_of_index, vertex_of, vertices_of};
+ghost use Rattle.abuf_obj.specs.LeadingElement.{is_index_byte, is_element_byte, vertex_by, first_vertex, IsIndex};
+ghost use Rattle.abuf_obj.specs.Vertices.{clamped};
 
 use abuf_num::{List, NoMemory, begins_negative, leading_digits};
 use abuf_text::Statement;
@@ -57,7 +57,7 @@ fn split_slash(text: &[u8]) -> (&[u8], Option<&[u8]>)
     ensures behind { option_map (λ t. t.now) result.1 ≡ after_slash text.now }
 {
     match first_slash(text) {
-        Some(place) => (&text[..place], Some(&text[place + 1..])),
+        Some(slash) => (&text[..slash], Some(&text[slash + 1..])),
         None => (text, None),
     }
 }
@@ -100,7 +100,7 @@ fn from_last(above: u32, n: u64) -> Option<u32>
     }
 }
 
-// Clamped, since a place past 32 bits is no point's.
+// Clamped, since a vertex past 32 bits is no point's.
 fn from_first(n: u64) -> Option<u32>
     ensures { result ≡ option_map clamped (from_first n) }
 {
@@ -113,9 +113,9 @@ fn from_first(n: u64) -> Option<u32>
     }
 }
 
-// The place of a point's index.
-fn place_of_index(above: u32, text: &[u8]) -> Option<u32>
-    ensures { result ≡ option_map clamped (place_of_index above text.now) }
+// The vertex that a point's index stands for.
+fn vertex_of_index(above: u32, text: &[u8]) -> Option<u32>
+    ensures { result ≡ option_map clamped (vertex_of_index above text.now) }
 {
     if begins_negative(text) {
         match spelled(&text[1..]) {
@@ -130,13 +130,13 @@ fn place_of_index(above: u32, text: &[u8]) -> Option<u32>
     }
 }
 
-// The place of an element's point.
-fn place(above: u32, text: &[u8]) -> Option<u32>
-    ensures { result ≡ option_map clamped (place_of above text.now) }
+// The vertex of an element.
+fn vertex(above: u32, text: &[u8]) -> Option<u32>
+    ensures { result ≡ option_map clamped (vertex_of above text.now) }
 {
     let (index, behind) = split_slash(text);
     if is_texture_and_normal(behind) {
-        place_of_index(above, index)
+        vertex_of_index(above, index)
     } else {
         None
     }
@@ -150,10 +150,10 @@ struct Index {
     length: usize,
 }
 
-// The place of an element's point at the start of a text, and how many bytes the element takes.
+// The vertex of an element at the start of a text, and how many bytes the element takes.
 #[derive(Clone, Copy)]
 struct Element {
-    place: u32,
+    vertex: u32,
     length: usize,
 }
 
@@ -210,7 +210,7 @@ fn element_length(text: &[u8], index: usize) -> usize
     requires bytes { list_all is_index_byte (take index text.now) ≡ true }
     ensures within { result ≤ length text.now }
     ensures some { 0 < result }
-    ensures place { (above : ℕ) → place_of above (take result text.now) ≡ place_of_index above (take index text.now) }
+    ensures vertex { (above : ℕ) → vertex_of above (take result text.now) ≡ vertex_of_index above (take index text.now) }
     ensures bytes { list_all is_element_byte (take result text.now) ≡ true }
 {
     if index < text.len() && text[index] == b'/' {
@@ -220,10 +220,10 @@ fn element_length(text: &[u8], index: usize) -> usize
     }
 }
 
-// The place of the point with this index.
+// The vertex with this index.
 #[inline(always)]
-fn place_at(above: u32, negative: bool, value: u64) -> Option<u32>
-    ensures { result ≡ option_map clamped (place_by above negative value) }
+fn vertex_at(above: u32, negative: bool, value: u64) -> Option<u32>
+    ensures { result ≡ option_map clamped (vertex_by above negative value) }
 {
     if negative {
         from_last(above, value)
@@ -236,55 +236,55 @@ fn place_at(above: u32, negative: bool, value: u64) -> Option<u32>
 fn leading_element(above: u32, text: &[u8]) -> Option<Element>
     ensures within { IfSome result (λ e. e.length ≤ length text.now) }
     ensures some { IfSome result (λ e. 0 < e.length) }
-    ensures place { IfSome result (λ e. option_map clamped (place_of above (take e.length text.now)) ≡ Some e.place) }
+    ensures vertex { IfSome result (λ e. option_map clamped (vertex_of above (take e.length text.now)) ≡ Some e.vertex) }
     ensures bytes { IfSome result (λ e. list_all is_element_byte (take e.length text.now) ≡ true) }
 {
     let Some(index) = leading_index(text) else {
         return None;
     };
-    match place_at(above, index.negative, index.value) {
-        Some(place) => Some(Element {
-            place,
+    match vertex_at(above, index.negative, index.value) {
+        Some(vertex) => Some(Element {
+            vertex,
             length: element_length(text, index.length),
         }),
         None => None,
     }
 }
 
-/// The place of the first element's point. Where it stands in the usual form, its end is found as it is read; else it is cut first.
+/// The vertex of the first element. Where it stands in the usual form, its end is found as it is read; else it is cut first.
 #[inline(always)]
-pub fn next_place<'a>(elements: &mut Statement<'a>, above: u32) -> Option<u32>
-    ensures value { result ≡ option_map clamped (first_place above elements.old) }
+pub fn next_vertex<'a>(elements: &mut Statement<'a>, above: u32) -> Option<u32>
+    ensures value { result ≡ option_map clamped (first_vertex above elements.old) }
     ensures rest { IfSome result (λ _. elements.new ≡ drop 1 elements.old) }
 {
     let text = elements.text();
     if let Some(element) = leading_element(above, text) {
         if let Some(behind) = Statement::behind(text, element.length) {
             *elements = behind;
-            return Some(element.place);
+            return Some(element.vertex);
         }
     }
     match elements.next() {
-        Some(element) => place(above, element),
+        Some(element) => vertex(above, element),
         None => None,
     }
 }
 
-/// The places of so many elements, if each has one.
-pub fn places(
+/// The vertices of so many elements, if each has one.
+pub fn vertices(
     alloc: Global,
     above: u32,
     count: u32,
     mut elements: Statement,
 ) -> Result<Option<List<u32>>, NoMemory>
     requires { length elements ≡ count }
-    ensures value { IfOk result (λ places. places ≡ option_map (map clamped) (places_of above elements.entry)) }
-    ensures count { IfOk result (λ places. IfSome places (λ list. length list ≡ count)) }
+    ensures value { IfOk result (λ vertices. vertices ≡ option_map (map clamped) (vertices_of above elements.entry)) }
+    ensures count { IfOk result (λ vertices. IfSome vertices (λ list. length list ≡ count)) }
 {
     let mut list = Vec::with_capacity(alloc, count as usize)?;
     for _i in 0..count {
-        match next_place(&mut elements, above) {
-            Some(place) => list.push(place)?,
+        match next_vertex(&mut elements, above) {
+            Some(vertex) => list.push(vertex)?,
             None => return Ok(None),
         }
     }

@@ -7,9 +7,9 @@ use std::marker::Model;
 pub struct Face {
     /// The number of its line, from 1.
     pub line: u32,
-    /// The places of its points among the points of the scene, from 0; 3 to 1024 of them.
+    /// Its vertices: the indices of its points among the points of the scene, from 0; 3 to 1024 of them.
     pub corners: List<u32>,
-    /// The place of its material's name among the names of the scene, if a `usemtl` line stands above.
+    /// The index of its material's name among the names of the scene, if a `usemtl` line stands above.
     pub name: Option<u32>,
 }
 
@@ -18,9 +18,9 @@ pub struct Face {
 pub struct FaceRef<'a> {
     /// The number of its line, from 1.
     pub line: u32,
-    /// The places of its points, from 0.
+    /// Its vertices: the indices of its points, from 0.
     pub corners: &'a [u32],
-    /// The place of its material's name, if a `usemtl` line stands above.
+    /// The index of its material's name, if a `usemtl` line stands above.
     pub name: Option<u32>,
 }
 

@@ -10,7 +10,7 @@ use std::marker::Model;
 
 /// A face but for its corners, of which there are so many.
 #[derive(Clone, Copy)]
-pub struct Row {
+pub struct FaceRow {
     line: u32,
     count: u32,
     name: Option<u32>,
@@ -21,7 +21,7 @@ pub struct Row {
 #[derive(Drop)]
 pub struct Faces {
     corners: Vec<u32>,
-    rows: Vec<Row>,
+    rows: Vec<FaceRow>,
 }
 
 impl Model for Faces {
@@ -40,7 +40,7 @@ impl Model for Faces {
 #[derive(Drop)]
 pub struct FaceSlice<'a> {
     corners: &'a [u32],
-    rows: &'a [Row],
+    rows: &'a [FaceRow],
 }
 
 impl<'a> Model for FaceSlice<'a> {
@@ -56,7 +56,7 @@ impl<'a> Model for FaceSlice<'a> {
 }
 
 // How many corners the rows have.
-fn count_corners(rows: &[Row]) -> usize
+fn count_corners(rows: &[FaceRow]) -> usize
     requires { corners_in rows.now < 2 ^ 64 }
     ensures { result ≡ corners_in rows.now }
 {
@@ -123,7 +123,7 @@ impl<'a> FaceSlice<'a> {
 }
 
 // The faces of these rows, each with a list of its corners.
-fn faces_of(alloc: Global, corners: &[u32], rows: &[Row]) -> Result<Vec<Face>, NoMemory>
+fn faces_of(alloc: Global, corners: &[u32], rows: &[FaceRow]) -> Result<Vec<Face>, NoMemory>
     requires { corners_in rows.now ≡ length corners.now }
     ensures { IfOk result (λ faces. faces.items ≡ faces_in_rows corners.now rows.now) }
 {
@@ -144,7 +144,7 @@ fn faces_of(alloc: Global, corners: &[u32], rows: &[Row]) -> Result<Vec<Face>, N
 
 impl Faces {
     /// No faces, with room for so many of three corners.
-    pub(crate) fn with_room(alloc: Global, faces: usize) -> Result<Faces, NoMemory>
+    pub(crate) fn with_capacity(alloc: Global, faces: usize) -> Result<Faces, NoMemory>
         requires { faces ≤ MAX_TRIANGLES }
         ensures { IfOk result (λ f. f ≡ []) }
     {
@@ -167,7 +167,7 @@ impl Faces {
     {
         let before = self.corners.len();
         self.corners.extend_from_slice(corners)?;
-        let row = Row {
+        let row = FaceRow {
             line,
             count: corners.len() as u32,
             name,

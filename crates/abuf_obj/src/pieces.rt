@@ -6,8 +6,8 @@ ghost use Rattle.abuf_obj.specs.Pieces.{GivesPiece, IsTally};
 ghost use denote.Param.Send.{IsSync};
 
 use crate::given_up::GivenUp;
-use crate::reader::Reader;
-use crate::split::{place_of_part, split_lines};
+use crate::reader::ObjReader;
+use crate::split::{offset_by_time, split_lines};
 use crate::tally::Tally;
 use abuf_text::Lines;
 use std::alloc::Global;
@@ -49,9 +49,9 @@ pub fn tally_on_threads<'a, R: Threads + Sync>(
 fn read_piece(
     alloc: Global,
     lines_above: u32,
-    start: &Reader,
+    start: &ObjReader,
     bytes: &[u8],
-) -> Result<Reader, GivenUp>
+) -> Result<ObjReader, GivenUp>
     requires { lines_above + length bytes.now < 2 ^ 32 - 1 }
     ensures { GivesPiece lines_above start.now (lines bytes.now) result }
 {
@@ -70,9 +70,9 @@ pub fn read_pieces<R: Threads + Sync>(
     alloc: Global,
     threads: u32,
     lines_above: u32,
-    start: &Reader,
+    start: &ObjReader,
     bytes: &[u8],
-) -> Result<Reader, GivenUp>
+) -> Result<ObjReader, GivenUp>
     requires threads { (1 ≤ threads) × (threads ≤ MAX_THREADS) }
     requires few { lines_above + length bytes.now < 2 ^ 32 - 1 }
     ensures { GivesPiece lines_above start.now (lines bytes.now) result }
@@ -82,21 +82,21 @@ pub fn read_pieces<R: Threads + Sync>(
     }
     let left = threads / 2;
     let right = threads - left;
-    let (front, back) = split_lines(bytes, place_of_part(bytes, left, threads));
+    let (front, back) = split_lines(bytes, offset_by_time(bytes, left, threads));
     let tally = tally_on_threads(rt, alloc, threads, front)?;
     let next = start.behind(alloc, &tally)?;
     let middle = &next;
     let lines_before = lines_above + tally.lines;
-    let first = move || -> Result<Reader, GivenUp>
+    let first = move || -> Result<ObjReader, GivenUp>
         requires { IsSync R.row × (1 ≤ left) × (left ≤ MAX_THREADS) × (lines_above + length front.now < 2 ^ 32 - 1) }
         ensures { GivesPiece lines_above start.entry.now (lines front.entry.now) result }
     { read_pieces(rt, alloc, left, lines_above, start, front) };
-    let second = move || -> Result<Reader, GivenUp>
+    let second = move || -> Result<ObjReader, GivenUp>
         requires { IsSync R.row × (1 ≤ right) × (right ≤ MAX_THREADS) × (lines_before + length back.now < 2 ^ 32 - 1) }
         ensures { GivesPiece lines_before middle.entry.now (lines back.entry.now) result }
     { read_pieces(rt, alloc, right, lines_before, middle, back) };
     let (first, second) = join(rt, first, second);
     let first = first?;
     let second = second?;
-    Reader::joined(first, second)
+    ObjReader::joined(first, second)
 }

@@ -20,9 +20,9 @@ use std::alloc::Global;
 // gaps in memory; room that isn't used is never touched.
 const LINE_BYTES: usize = 16;
 
-/// What has been read so far, and the place of the name in use.
+/// What has been read so far, and the index of the name in use.
 #[derive(Drop)]
-pub struct Reader {
+pub struct ObjReader {
     /// How many points stand above the lines that it reads: none, where it reads from the first line on.
     pub points_above: u32,
     pub points: List<[i64; 3]>,
@@ -41,7 +41,7 @@ pub struct Reader {
     ghost named: { IfSome name (λ n. n < length names) } by { Prim.hlevel props },
 }
 
-impl Reader {
+impl ObjReader {
     ghost use Rattle.std.specs.Prelude.{List as Items, ℕ, IfErr, OnOk, IsTrue};
     ghost use Rattle.abuf_obj.specs.Faults.{why, why_by, TellsWhy};
     ghost use Rattle.abuf_obj.specs.Taking.{counted, TakesBy, TakesLine};
@@ -55,7 +55,7 @@ impl Reader {
         names: Names,
         libraries: Names,
         name: Option<u32>,
-    ) -> Result<Reader, NoMemory>
+    ) -> Result<ObjReader, NoMemory>
         requires points { points_above ≤ MAX_POINTS }
         requires names { length names ≤ MAX_MATERIALS }
         requires libraries { length libraries ≤ MAX_LIBRARIES }
@@ -69,9 +69,9 @@ impl Reader {
         ensures name { IfOk result (λ r. r.name ≡ name) }
     {
         let lines = bytes / LINE_BYTES;
-        let points = with_room(alloc, lines.min(MAX_POINTS))?;
-        let faces = Faces::with_room(alloc, lines.min(MAX_TRIANGLES as usize))?;
-        Ok(Reader {
+        let points = with_capacity(alloc, lines.min(MAX_POINTS))?;
+        let faces = Faces::with_capacity(alloc, lines.min(MAX_TRIANGLES as usize))?;
+        Ok(ObjReader {
             points_above,
             points,
             faces,
@@ -83,16 +83,16 @@ impl Reader {
     }
 
     /// A reader of so many bytes that begins where this one stands.
-    pub fn follower(&self, alloc: Global, bytes: usize) -> Result<Reader, NoMemory>
+    pub fn follower(&self, alloc: Global, bytes: usize) -> Result<ObjReader, NoMemory>
         ensures points { IfOk result (λ r. r.points ≡ []) }
         ensures faces { IfOk result (λ r. r.faces ≡ []) }
         ensures triangles { IfOk result (λ r. r.triangles ≡ 0) }
         ensures begins { (before : Items (Items ℕ)) → BeginsBehind before self.now → IfOk result (BeginsBehind before) }
     {
-        let names = self.names.copy(alloc)?;
-        let libraries = self.libraries.copy(alloc)?;
+        let names = self.names.try_clone(alloc)?;
+        let libraries = self.libraries.try_clone(alloc)?;
         let points_above = self.point_count() as u32;
-        Reader::beginning(alloc, bytes, points_above, names, libraries, self.name)
+        ObjReader::beginning(alloc, bytes, points_above, names, libraries, self.name)
     }
 
     // Takes lines for their names alone.
@@ -106,7 +106,7 @@ impl Reader {
     }
 
     /// A reader that begins behind a piece, of which the tally is known, where this one begins before it.
-    pub fn behind(&self, alloc: Global, tally: &Tally) -> Result<Reader, GivenUp>
+    pub fn behind(&self, alloc: Global, tally: &Tally) -> Result<ObjReader, GivenUp>
         ensures { (before lines : Items (Items ℕ)) → BeginsBehind before self.now → IsTally lines tally.now → IfOk result (BeginsBehind (before ++ lines)) }
     {
         let points_above = self.point_count() + tally.points as usize;
@@ -115,7 +115,7 @@ impl Reader {
         }
         let mut reader = self.follower(alloc, 0)?;
         reader.take_named(alloc, tally.named.as_slice())?;
-        let Reader {
+        let ObjReader {
             points_above: _,
             points: _,
             faces: _,
@@ -125,12 +125,12 @@ impl Reader {
             name,
         } = reader;
         let points_above = points_above as u32;
-        let behind = Reader::beginning(alloc, 0, points_above, names, libraries, name)?;
+        let behind = ObjReader::beginning(alloc, 0, points_above, names, libraries, name)?;
         Ok(behind)
     }
 
     // What was read is that of neighbouring pieces, and not too much.
-    fn may_follow(&self, second: &Reader) -> bool
+    fn may_follow(&self, second: &ObjReader) -> bool
         ensures points { IsTrue result → self.now.points_above + length self.now.points ≡ second.now.points_above }
         ensures names { IsTrue result → length self.now.names ≤ length second.now.names }
         ensures triangles { IsTrue result → self.now.triangles + second.now.triangles ≤ MAX_TRIANGLES }
@@ -141,7 +141,7 @@ impl Reader {
     }
 
     /// What two readers have read, the second behind the first.
-    pub fn joined(first: Reader, second: Reader) -> Result<Reader, GivenUp>
+    pub fn joined(first: ObjReader, second: ObjReader) -> Result<ObjReader, GivenUp>
         ensures { (before xs ys : Items (Items ℕ)) → HasPiece before xs first → HasPiece (before ++ xs) ys second → IfOk result (HasPiece before (xs ++ ys)) }
     {
         if !first.may_follow(&second) {
@@ -150,7 +150,7 @@ impl Reader {
         let triangles = first.triangles + second.triangles;
         let points = appended(first.points, second.points)?;
         let faces = Faces::joined(first.faces, second.faces)?;
-        Ok(Reader {
+        Ok(ObjReader {
             points_above: first.points_above,
             points,
             faces,
@@ -205,14 +205,14 @@ impl Reader {
             return Err(Why::NoName.at(line));
         }
         match self.names.find(name) {
-            Some(place) => {
-                self.name = Some(place);
+            Some(index) => {
+                self.name = Some(index);
                 Ok(())
             }
             None if self.names.len() < MAX_MATERIALS => {
-                let place = self.names.len() as u32;
+                let index = self.names.len() as u32;
                 self.names.push(alloc, name)?;
-                self.name = Some(place);
+                self.name = Some(index);
                 Ok(())
             }
             None => Err(Why::TooManyMaterials.at(line)),
@@ -254,7 +254,7 @@ impl Reader {
 }
 
 // An empty list with room for so many items.
-fn with_room<T: Drop>(alloc: Global, count: usize) -> Result<List<T>, NoMemory>
+fn with_capacity<T: Drop>(alloc: Global, count: usize) -> Result<List<T>, NoMemory>
     ensures { IfOk result (λ list. list ≡ []) }
 {
     Ok(List::from_vec(Vec::with_capacity(alloc, count)?))

@@ -3,14 +3,14 @@ ghost use Rattle.std.specs.Prelude.{◌≡◌, ◌<◌, ◌-◌, ◌^◌, [], le
 ghost use Rattle.abuf_text.specs.Lines.{lines};
 ghost use Rattle.abuf_obj.specs.Above.{names_of, libraries_of};
 ghost use Rattle.abuf_obj.specs.Faults.{fault_from, TellsFirst};
-ghost use Rattle.abuf_obj.specs.Places.{clamped_face};
+ghost use Rattle.abuf_obj.specs.Vertices.{clamped_face};
 ghost use Rattle.abuf_obj.specs.Scene.{points_of, faces_of, is_astray, astray_line, points, faces, names, libraries, obj_fault};
 ghost use Rattle.abuf_obj.specs.Sound.{IsScene};
 
 use crate::face::{Face, FaceRef};
 use crate::faces::{FaceSlice, Faces};
 use crate::fault::{ObjFault, Why};
-use crate::reader::Reader;
+use crate::reader::ObjReader;
 use abuf_num::{List, NoMemory};
 use abuf_text::{Lines, Names};
 use std::alloc::Global;
@@ -95,7 +95,7 @@ impl FlatObj {
 }
 
 // Takes the lines, up to the first that is faulty.
-fn read_lines(alloc: Global, bytes: &[u8]) -> Result<Reader, ObjFault>
+fn read_lines(alloc: Global, bytes: &[u8]) -> Result<ObjReader, ObjFault>
     requires { length bytes.now < 2 ^ 32 - 1 }
     ensures fault { IfErr result (TellsFirst (fault_from [] (lines bytes.now))) }
     ensures sound { OnOk result (fault_from [] (lines bytes.now) ≡ None) }
@@ -104,7 +104,7 @@ fn read_lines(alloc: Global, bytes: &[u8]) -> Result<Reader, ObjFault>
     ensures names { IfOk result (λ r. r.names ≡ names_of (lines bytes.now)) }
     ensures libraries { IfOk result (λ r. r.libraries ≡ libraries_of (lines bytes.now)) }
 {
-    let mut reader = Reader::beginning(
+    let mut reader = ObjReader::beginning(
         alloc,
         bytes.len(),
         0,
@@ -160,7 +160,7 @@ pub fn read_obj(alloc: Global, bytes: &[u8]) -> Result<Obj, ObjFault>
     Ok(obj)
 }
 
-// The line of the first face with a place at or beyond the number of points.
+// The line of the first face with a vertex at or beyond the number of points.
 pub fn first_astray(obj: &FlatObj) -> Option<u32>
     ensures { result ≡ astray_line (length obj.now.points) obj.now.faces }
 {
@@ -182,14 +182,14 @@ fn goes_astray(points: usize, face: &FaceRef) -> bool
 }
 
 // What was read. It is a scene if no face goes astray.
-pub fn finish(reader: Reader) -> FlatObj
+pub fn finish(reader: ObjReader) -> FlatObj
     ensures points { result.points ≡ reader.points }
     ensures faces { result.faces ≡ reader.faces }
     ensures names { result.names ≡ reader.names }
     ensures libraries { result.libraries ≡ reader.libraries }
     ensures scene { astray_line (length result.points) result.faces ≡ None → IsScene result }
 {
-    let Reader {
+    let ObjReader {
         points_above: _,
         points,
         faces,

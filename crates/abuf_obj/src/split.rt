@@ -9,17 +9,17 @@ const SAMPLES: usize = 64;
 // How many bytes are looked at there.
 const NEAR: usize = 1024;
 
-// The place of the first line feed from that place on.
-fn next_feed(bytes: &[u8], place: usize) -> Option<usize>
-    requires { place ≤ length bytes.now }
-    ensures within { IfSome result (λ k. place + k < length bytes.now) }
-    ensures feed { IfSome result (λ k. slice_index bytes.now (place + k) ≡ 10) }
+// The offset of the first line feed from this offset on.
+fn next_feed(bytes: &[u8], offset: usize) -> Option<usize>
+    requires { offset ≤ length bytes.now }
+    ensures within { IfSome result (λ k. offset + k < length bytes.now) }
+    ensures feed { IfSome result (λ k. slice_index bytes.now (offset + k) ≡ 10) }
 {
-    bytes[place..].iter().position(|b| *b == b'\n')
+    bytes[offset..].iter().position(|b| *b == b'\n')
 }
 
-// The place at which so many of the samples' parts end.
-fn place_of_sample(bytes: &[u8], sample: usize) -> usize
+// The offset of this sample. The samples lie at equal distances.
+fn sample_offset(bytes: &[u8], sample: usize) -> usize
     requires few { length bytes.now < 2 ^ 32 }
     requires sample { sample ≤ SAMPLES }
     ensures { result ≤ length bytes.now }
@@ -27,12 +27,12 @@ fn place_of_sample(bytes: &[u8], sample: usize) -> usize
     bytes.len() * sample / SAMPLES
 }
 
-// About how long reading takes behind that place, by the next line: longest with a face, whose corners take memory of their own.
-fn time_at(bytes: &[u8], place: usize) -> usize
-    requires { place ≤ length bytes.now }
+// About how long reading takes behind that offset, by the next line: longest with a face, whose corners take memory of their own.
+fn time_at(bytes: &[u8], offset: usize) -> usize
+    requires { offset ≤ length bytes.now }
     ensures { result ≤ 8 }
 {
-    let near = &bytes[place..bytes.len().min(place + NEAR)];
+    let near = &bytes[offset..bytes.len().min(offset + NEAR)];
     let Some(feed) = next_feed(near, 0) else {
         return 1;
     };
@@ -51,13 +51,13 @@ fn time_before(bytes: &[u8], sample: usize) -> usize
 {
     let mut time = 0;
     for i in 0..sample {
-        time += time_at(bytes, place_of_sample(bytes, i));
+        time += time_at(bytes, sample_offset(bytes, i));
     }
     time
 }
 
-/// The place before which reading takes about this part of the time.
-pub fn place_of_part(bytes: &[u8], part: u32, parts: u32) -> usize
+/// The offset before which reading takes about this part of the time.
+pub fn offset_by_time(bytes: &[u8], part: u32, parts: u32) -> usize
     requires few { length bytes.now < 2 ^ 32 }
     requires parts { (0 < parts) × (part ≤ parts) }
     ensures { result ≤ length bytes.now }
@@ -65,20 +65,20 @@ pub fn place_of_part(bytes: &[u8], part: u32, parts: u32) -> usize
     let time = time_before(bytes, SAMPLES) * part as usize / parts as usize;
     for sample in 0..SAMPLES {
         if time <= time_before(bytes, sample) {
-            return place_of_sample(bytes, sample);
+            return sample_offset(bytes, sample);
         }
     }
     bytes.len()
 }
 
-/// The bytes up to the first end of a line from that place on, and those behind it, which are none where no line ends there.
-pub fn split_lines(bytes: &[u8], place: usize) -> (&[u8], &[u8])
-    requires { place ≤ length bytes.now }
+/// The bytes up to the first end of a line from that offset on, and those behind it, which are none where no line ends there.
+pub fn split_lines(bytes: &[u8], offset: usize) -> (&[u8], &[u8])
+    requires { offset ≤ length bytes.now }
     ensures lines { lines bytes.now ≡ lines result.0.now ++ lines result.1.now }
     ensures all { length result.0.now + length result.1.now ≡ length bytes.now }
 {
-    match next_feed(bytes, place) {
-        Some(feed) => bytes.split_at(place + feed + 1),
+    match next_feed(bytes, offset) {
+        Some(feed) => bytes.split_at(offset + feed + 1),
         None => (bytes, &[]),
     }
 }

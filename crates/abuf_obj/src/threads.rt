@@ -8,14 +8,14 @@ ghost use Rattle.abuf_obj.specs.Sound.{IsScene};
 use crate::fault::ObjFault;
 use crate::given_up::GivenUp;
 use crate::pieces::read_pieces;
-use crate::reader::Reader;
+use crate::reader::ObjReader;
 use crate::scene::{FlatObj, finish, first_astray, read_flat};
 use abuf_text::Names;
 use std::alloc::Global;
 use std::thread::Threads;
 
 // The fewest bytes of a piece: fewer are sooner read than a thread is started for them.
-const LEAST_BYTES: usize = 131072;
+const MIN_BYTES: usize = 131072;
 
 /// Reads a scene in so many pieces, however few its bytes are, each piece on a thread. It gives up where a line is at fault, a limit
 /// is met or memory runs out; and where, in a piece before the last, more than 65536 lines have names, or one of more than 256 bytes.
@@ -34,7 +34,7 @@ pub fn read_in_pieces<R: Threads + Sync>(
     ensures libraries { IfOk result (λ obj. obj.libraries ≡ libraries bytes.now) }
     ensures scene { IfOk result IsScene }
 {
-    let start = Reader::beginning(alloc, 0, 0, Names::new(alloc), Names::new(alloc), None)?;
+    let start = ObjReader::beginning(alloc, 0, 0, Names::new(alloc), Names::new(alloc), None)?;
     let reader = read_pieces(rt, alloc, pieces, 0, &start, bytes)?;
     let obj = finish(reader);
     match first_astray(&obj) {
@@ -64,7 +64,7 @@ pub fn read_obj_on_threads<R: Threads + Sync>(
     ensures libraries { IfOk result (λ obj. obj.libraries ≡ libraries bytes.now) }
     ensures scene { IfOk result IsScene }
 {
-    let pieces = threads.min((bytes.len() / LEAST_BYTES) as u32);
+    let pieces = threads.min((bytes.len() / MIN_BYTES) as u32);
     if pieces < 2 {
         return read_flat(alloc, bytes);
     }

@@ -4,7 +4,7 @@ use Rattle.std.specs.List.{range_with_len}
 use Rattle.std.proofs.lemmas.Bool.{eq-eqb, ne_eqb}
 use Rattle.abuf_num.specs.declared.plain.Paint.{Paint}
 use Rattle.abuf_raster.proofs.Blocks as raster
-use Rattle.abuf_resolve.specs.Over.{laid_over}
+use Rattle.abuf_resolve.specs.Over.{composite_over}
 use Rattle.abuf_resolve.specs.Words.{paint_of}
 use Rattle.abuf_peel.specs.Next.{left_from, with_word}
 use Rattle.abuf_peel.specs.Taking.{Finds, marked, no_word, painted}
@@ -21,10 +21,10 @@ marked_is count (Some w) best from f = rw (ne_eqb best no_word (λ e. omega (ari
 
 -- So is its colour.
 pub painted_is : (count : ℕ) (paints : List Paint) (o : Option ℕ) (best : ℕ) (under : List ℕ) → Finds count o best → painted paints best under ≡ with_word paints o under
-painted_is count paints None best under f = ap (λ (b : Bool). if b then under else laid_over under (paint_of paints best)) (eq-eqb best no_word f)
+painted_is count paints None best under f = ap (λ (b : Bool). if b then under else composite_over under (paint_of paints best)) (eq-eqb best no_word f)
 painted_is count paints (Some w) best under f =
-    ap (λ (b : Bool). if b then under else laid_over under (paint_of paints best)) (ne_eqb best no_word (λ e. omega (arith, f.0, f.1.fits)))
-    ∙ ap (λ (v : ℕ). laid_over under (paint_of paints v)) f.0
+    ap (λ (b : Bool). if b then under else composite_over under (paint_of paints best)) (ne_eqb best no_word (λ e. omega (arith, f.0, f.1.fits)))
+    ∙ ap (λ (v : ℕ). composite_over under (paint_of paints v)) f.0
 
 -- Nothing is found where there is no word,
 pub finds_nothing : (count : ℕ) (o : Option ℕ) (best : ℕ) → Finds count o best → best ≡ no_word → is_some o ≡ false

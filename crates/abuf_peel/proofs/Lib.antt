@@ -10,4 +10,4 @@ pub mod Found
 pub mod Taken
 pub mod Chosen
 pub mod Left
-pub mod Blocks
+pub mod Chunks

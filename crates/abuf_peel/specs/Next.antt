@@ -4,7 +4,7 @@ use Rattle.std.specs.List.{filter}
 use Rattle.abuf_num.specs.declared.plain.Paint.{Paint}
 use Rattle.abuf_raster.specs.Triangle.{Triangle}
 use Rattle.abuf_raster.specs.Coverage.{covers}
-use Rattle.abuf_resolve.specs.Over.{laid_over}
+use Rattle.abuf_resolve.specs.Over.{composite_over}
 use Rattle.abuf_resolve.specs.Colour.{triangle_at, numbers}
 use Rattle.abuf_resolve.specs.Words.{layer_word, paint_of, reaches}
 
@@ -52,4 +52,4 @@ left_from (Some word) from = word + 1
 -- The colour, once the next primitive is taken.
 abbrev pub with_word : List Paint → Option ℕ → List ℕ → List ℕ
 with_word paints None under = under
-with_word paints (Some word) under = laid_over under (paint_of paints word)
+with_word paints (Some word) under = composite_over under (paint_of paints word)

@@ -3,7 +3,7 @@ use Rattle.std.specs.Prelude.{◌≡◌, ℕ, zero, suc, ◌+◌, ◌^◌, ◌-�
 use Rattle.std.specs.List.{fold, All}
 use Rattle.abuf_num.specs.declared.plain.Paint.{Paint}
 use Rattle.abuf_resolve.specs.Order.{in_order}
-use Rattle.abuf_resolve.specs.Over.{laid_over}
+use Rattle.abuf_resolve.specs.Over.{composite_over}
 use Rattle.abuf_resolve.specs.Words.{paint_of, prim_of, IsDepthWord}
 
 -- Above every word: no primitive.
@@ -40,7 +40,7 @@ marked best from = if best == no_word then from else best + 1
 
 -- The colour, once the primitive of this word is taken.
 abbrev pub painted : List Paint → ℕ → List ℕ → List ℕ
-painted paints best under = if best == no_word then under else laid_over under (paint_of paints best)
+painted paints best under = if best == no_word then under else composite_over under (paint_of paints best)
 
 -- The word from which on primitives are left, once those of several words are taken one after another.
 abbrev pub marked_by : List ℕ → ℕ → ℕ

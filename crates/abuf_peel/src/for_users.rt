@@ -5,9 +5,9 @@ ghost use Rattle.abuf_peel.specs.Layers.{NoneLeft, OneStepMore, SomeLeft, Takes,
 ghost use Rattle.abuf_peel.specs.Offers.{AreNext};
 ghost use Rattle.abuf_peel.specs.Seen.{seen_of};
 
+use crate::input::PaintedTriangles;
 use crate::layer::Layer;
 use crate::offering::{Samples, clear};
-use crate::scene::Primitives;
 use abuf_num::Paint;
 use abuf_raster::{NO_HIT, ScreenTri};
 
@@ -27,7 +27,7 @@ impl Layer {
             region: self.region,
             pattern: self.pattern,
         };
-        let drawn = Primitives { tris, paints };
+        let drawn = PaintedTriangles { tris, paints };
         samples.take_next(&drawn, &mut self.from, &mut self.best, &mut self.colours)
     }
 }
@@ -36,7 +36,7 @@ impl Samples {
     /// Every sample takes its next primitive. True exactly where some sample took one.
     fn take_next(
         &self,
-        drawn: &Primitives,
+        drawn: &PaintedTriangles,
         from: &mut [u64],
         best: &mut [[u64; 16]],
         colours: &mut [[u16; 3]],

@@ -6,8 +6,8 @@ ghost use Rattle.abuf_resolve.specs.Sums.{IsSmall};
 ghost use Rattle.abuf_peel.specs.Layers.{NoneLeft, StandsForNone, TakesTimes, layer_sums, size_of, started};
 ghost use Rattle.abuf_peel.specs.Members.{HaveLeft};
 
+use crate::input::PaintedTriangles;
 use crate::offering::{Samples, no_words};
-use crate::scene::Primitives;
 use crate::sums::layer_sums;
 use abuf_num::{List, NoMemory, Paint, PixelSum};
 use abuf_raster::{Pattern, Region, ScreenTri};
@@ -89,7 +89,7 @@ impl Layer {
             region: self.region,
             pattern: self.pattern,
         };
-        let drawn = Primitives { tris, paints };
+        let drawn = PaintedTriangles { tris, paints };
         let from = &mut self.from;
         samples.take_next_of(&drawn, members, from, &mut self.best, &mut self.colours)
     }

@@ -10,11 +10,11 @@
 #![tactic(auto)]
 
 mod for_users;
+mod input;
 pub mod laws;
 mod layer;
 mod offering;
-mod scene;
 mod sums;
 
+pub use input::peeling::peel;
 pub use layer::Layer;
-pub use scene::peeling::peel;

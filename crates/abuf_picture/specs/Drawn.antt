@@ -45,7 +45,7 @@ found (look.Unlinked node) room = 0
 
 -- What was seen before the frame was closed: the number of all entries, and, where these have nodes, the words of the
 -- fragments at one place.
-pub record IsSightOf (triangles : List Triangle) (pattern : Pattern) (r : Region) (nodes place entries : ℕ) (words : List ℕ) (closed : Ended) : Type 0 where
+pub record IsPixelViewOf (triangles : List Triangle) (pattern : Pattern) (r : Region) (nodes place entries : ℕ) (words : List ℕ) (closed : Ended) : Type 0 where
   pub count : entries ≡ total triangles pattern r
   pub seen : total triangles pattern r ≤ nodes → AreWordsAt (fragments triangles pattern r) place words
   pub frame : IsFrameOf triangles pattern r nodes closed

@@ -7,7 +7,7 @@ use Rattle.abuf_raster.specs.declared.pattern.Pattern.{Pattern}
 use Rattle.abuf_raster.specs.Region.{Region}
 use Rattle.abuf_raster.specs.Samples.{offsets_of}
 use Rattle.abuf_raster.specs.Triangle.{Triangle}
-use Rattle.abuf_resolve.specs.declared.scene.runs.Resolved.{Resolved}
+use Rattle.abuf_resolve.specs.declared.shading.spans.Resolved.{Resolved}
 use Rattle.abuf_resolve.specs.Lengths.{greatest}
 use Rattle.abuf_resolve.specs.Sums.{IsSmall, region_sums}
 use Rattle.abuf_resolve.specs.Words.{frame_sums, AreFragmentLists, AreListsOf}

@@ -9,8 +9,8 @@ ghost use Rattle.abuf_picture.specs.Picture.{IsFrameOf, total};
 use crate::primitives::Primitives;
 use crate::redrawing::{close_roomy, in_pool, redraw};
 use crate::target::Target;
-use abuf_fan::{Gate, draw_all, most_fragments};
-use abuf_frame::{Blank, Closed, Frame, Pass};
+use abuf_fan::{Gate, draw_all, max_fragments};
+use abuf_frame::{Closed, Frame, InitialWords, Pass};
 use abuf_num::NoMemory;
 use abuf_raster::region_law;
 use std::alloc::Global;
@@ -28,10 +28,14 @@ fn nodes_for(most: u64, nodes: u32) -> u32
 
 /// How many nodes the frame of a drawing is made with: as many as the target has, or fewer, where the primitives can't take them
 /// all. A node that is never claimed costs memory, and the time to clear it.
-pub(crate) fn room_for<R: Threads + Sync>(rt: &R, primitives: &Primitives, target: &Target) -> u32
+pub(crate) fn nodes_needed<R: Threads + Sync>(
+    rt: &R,
+    primitives: &Primitives,
+    target: &Target,
+) -> u32
     ensures { IsPool (total primitives.now.triangles.now target.now.pattern target.now.region) target.now.nodes result }
 {
-    let most = most_fragments(
+    let most = max_fragments(
         rt,
         primitives.triangles,
         target.region,
@@ -81,30 +85,30 @@ const MANY_WORDS: usize = 1048576;
 /// The words of the frame at its start. While one thread lays them out, another takes as much memory, writes to it and frees it:
 /// into this they will be copied, and the kernel has cleared it by then. What it writes isn't zero, since memory that is to hold
 /// zeros and is new isn't touched. Correctness doesn't depend on whether there was so much.
-fn blank_for<R: Threads + Sync>(
+fn initial_words_for<R: Threads + Sync>(
     rt: &R,
     alloc: Global,
     target: &Target,
     room: u32,
-) -> Result<Blank, NoMemory>
+) -> Result<InitialWords, NoMemory>
     requires { (1 ≤ room) × (room ≤ MAX_NODES) }
     ensures { IfOk result (λ b. (b.pixels ≡ target.now.region.w * target.now.region.h) × (b.nodes ≡ room)) }
 {
     let pixels = target.region.pixels();
     let words = 1 + pixels as usize + 2 * room as usize;
     if target.threads == 1 || words < MANY_WORDS {
-        return Blank::new(alloc, pixels, room);
+        return InitialWords::new(alloc, pixels, room);
     }
-    let (blank, warmed) = join(
+    let (initial_words, warmed) = join(
         rt,
-        move || -> Result<Blank, NoMemory>
+        move || -> Result<InitialWords, NoMemory>
             requires { Sized pixels room }
             ensures { IfOk result (λ b. (b.pixels ≡ pixels) × (b.nodes ≡ room)) }
-        { Blank::new(alloc, pixels, room) },
+        { InitialWords::new(alloc, pixels, room) },
         move || -> Result<Vec<u64>, NoMemory> { Ok(vec![in alloc; u64::MAX; words]?) },
     );
     drop(warmed);
-    blank
+    initial_words
 }
 
 /// A frame of so many nodes into which the primitives are drawn, on the target's number of threads, and its whole pass.
@@ -119,9 +123,9 @@ pub(crate) fn draw_pass<R: Threads + Sync, G: Gate + Sync>(
     requires { IsPool (total primitives.now.triangles.now target.now.pattern target.now.region) target.now.nodes room }
     ensures { IfOk result (λ p. IsDrawn primitives.now.triangles.now target.now.pattern target.now.region target.now.nodes p.0 p.1) }
 {
-    let blank = blank_for(rt, alloc, target, room)?;
-    let started = Frame::start_from(alloc, &blank)?;
-    drop(blank);
+    let initial_words = initial_words_for(rt, alloc, target, room)?;
+    let started = Frame::start_from(alloc, &initial_words)?;
+    drop(initial_words);
     draw_into(rt, alloc, primitives, target, started, gate)
 }
 

@@ -9,17 +9,17 @@
 #![tactic(auto)]
 
 mod drawing;
+mod pixel_view;
 mod primitives;
 mod redrawing;
 mod rendering;
 mod resolving;
-mod sight;
 mod target;
 
 pub use drawing::draw;
+pub use pixel_view::{PixelView, draw_and_look};
 pub use primitives::Primitives;
 pub use redrawing::redraw;
 pub use rendering::{Rendering, draw_and_resolve};
 pub use resolving::{Compositing, Resolve, compositing_law, resolve_drawn};
-pub use sight::{Sight, draw_and_look};
 pub use target::Target;

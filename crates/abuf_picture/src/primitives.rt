@@ -6,7 +6,7 @@ use abuf_num::Paint;
 use abuf_raster::ScreenTri;
 use abuf_view::Projected;
 
-/// Primitives: their triangles on the screen, and a paint for each. The place of a primitive in the lists is its number.
+/// Primitives: their triangles on the screen, and a paint for each. The index of a primitive in the lists is its number.
 #[derive(Clone, Copy)]
 pub struct Primitives<'a> {
     pub triangles: &'a [ScreenTri],
@@ -17,13 +17,13 @@ pub struct Primitives<'a> {
 
 impl<'a> Primitives<'a> {
     /// The primitives of a scene that was projected to the screen.
-    pub fn of(shown: &'a Projected) -> Primitives<'a>
-        ensures triangles { result.triangles.now ≡ shown.now.tris }
-        ensures paints { result.paints.now ≡ shown.now.paints }
+    pub fn of(projected: &'a Projected) -> Primitives<'a>
+        ensures triangles { result.triangles.now ≡ projected.now.tris }
+        ensures paints { result.paints.now ≡ projected.now.paints }
     {
         Primitives {
-            triangles: shown.tris.as_slice(),
-            paints: shown.paints.as_slice(),
+            triangles: projected.tris.as_slice(),
+            paints: projected.paints.as_slice(),
         }
     }
 }

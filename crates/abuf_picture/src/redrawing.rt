@@ -5,7 +5,7 @@ ghost use Rattle.abuf_picture.specs.Drawn.{IsDrawn, IsPool};
 ghost use Rattle.abuf_picture.specs.Picture.{IsFrameOf, total};
 ghost use Rattle.abuf_picture.specs.Redrawing.{IsRoomyFrameOf, Serves};
 
-use crate::drawing::{draw_into, draw_pass, room_for};
+use crate::drawing::{draw_into, draw_pass, nodes_needed};
 use crate::primitives::Primitives;
 use crate::target::Target;
 use abuf_fan::Gate;
@@ -49,7 +49,7 @@ fn redraw_pass<R: Threads + Sync, G: Gate + Sync>(
 ) -> Result<(Frame, Pass), NoMemory>
     ensures { IfOk result (λ p. IsDrawn primitives.now.triangles.now target.now.pattern target.now.region target.now.nodes p.0 p.1) }
 {
-    let needed = room_for(rt, primitives, target);
+    let needed = nodes_needed(rt, primitives, target);
     match serving(kept, target, needed) {
         Some(closed) => {
             let started = closed.reopen(alloc)?;

@@ -13,7 +13,7 @@ use abuf_frame::Closed;
 use abuf_num::NoMemory;
 use abuf_raster::{ScreenTri, region_law};
 use abuf_resolve::laws::{lengths_law, sums_law, words_law};
-use abuf_resolve::{Planes, Resolved, Scene, resolve_counted};
+use abuf_resolve::{Planes, Resolved, Shading, resolve_counted};
 use std::alloc::Global;
 use std::thread::Threads;
 
@@ -76,13 +76,13 @@ impl Resolve for Compositing {
             threads,
             ..
         } = *target;
-        let scene = Scene {
+        let shading = Shading {
             planes: planes_for(alloc, primitives.triangles, closed.fragments())?,
             paints: primitives.paints,
             pattern,
             background,
         };
-        let all = resolve_counted(rt, alloc, closed, region, &scene, threads)?;
+        let all = resolve_counted(rt, alloc, closed, region, &shading, threads)?;
         Ok(all)
     }
 }

@@ -1,6 +1,6 @@
 -- Bounds on sums, differences and products of signed numbers, by their absolute values.
 use Rattle.std.proofs.Common.{◌≡◌, ℕ, ◌+◌, ◌-◌, ◌*◌, ◌^◌, ◌<◌, ◌≤◌, ℤ, pos, ◌+ℤ◌, ◌-ℤ◌, ◌*ℤ◌, unsigned_abs, FitsSigned, to_z, of_z, w64, arith, mul-le-mul, ap, ap₂, ◌∙◌}
-use Rattle.abuf_raster.specs.Samples.{sample_place, pixel_centre}
+use Rattle.abuf_raster.specs.Samples.{sample_position, pixel_centre}
 use Rattle.std.specs.Int.{w128}
 use Rattle.std.proofs.lemmas.Int.{ints, unsigned_abs-mul}
 
@@ -59,8 +59,8 @@ pub back128 : (z : ℤ) → unsigned_abs z < 2 ^ 127 → to_z w128 (of_z w128 z)
 back128 z h = omega (arith, ints)
 
 -- the sample with no offset is the centre
-pub sample_place-centre : (x y : ℕ) → sample_place (pos 0, pos 0) x y ≡ pixel_centre x y
-sample_place-centre x y = λ i. record { x = ex i; y = ey i } where
+pub sample_position-centre : (x y : ℕ) → sample_position (pos 0, pos 0) x y ≡ pixel_centre x y
+sample_position-centre x y = λ i. record { x = ex i; y = ey i } where
   ex : pos (256 * x + 128) +ℤ pos 16 *ℤ pos 0 ≡ pos (256 * x + 128)
   ex = omega (arith, ints)
 

@@ -8,7 +8,7 @@ use Rattle.abuf_raster.specs.declared.pattern.Pattern.{Pattern}
 use Rattle.abuf_raster.specs.declared.pattern.Pattern.TheVariants.{One, Two, Four, Eight, Sixteen}
 use Rattle.abuf_raster.specs.Edge.{edge_function, is_left_edge, is_top_edge}
 use Rattle.abuf_raster.specs.Triangle.{Triangle, IsWithin, AreWithin}
-use Rattle.abuf_raster.specs.Samples.{sample_place, pixel_centre, offsets_of, reach_of}
+use Rattle.abuf_raster.specs.Samples.{sample_position, pixel_centre, offsets_of, reach_of}
 use Rattle.abuf_raster.specs.Coverage.{mask, accepts, all_accept, covers, covers_sample, mask_below}
 use Rattle.abuf_raster.specs.Values.{edge_value, edge_change, one_way, edge_farthest, Numbers, values_at, changes, farthest, plus_all, none_below, AreUp, AreAtMost, IsRoomFor, sample_changes, at_sample, mask_of_values, mask_of_values_below, FitsSamples}
 use Rattle.abuf_raster.specs.declared.tile.Tile.{Tile}
@@ -44,8 +44,8 @@ pub values_stepped : (t : Triangle) (s z : Point) (x y : ℤ) → z.x ≡ s.x +�
 values_stepped t s z x y ex ey = λ i. record { ab = value_stepped t.a t.b s z x y ex ey i; bc = value_stepped t.b t.c s z x y ex ey i; ca = value_stepped t.c t.a s z x y ex ey i }
 
 -- The values at a sample of a pixel, from those at its centre.
-pub values_sample : (t : Triangle) (os : List (ℤ × ℤ)) (x y k : ℕ) → at_sample t os (values_at t (pixel_centre x y)) k ≡ values_at t (sample_place (slice_index_or os k (pos 0, pos 0)) x y)
-values_sample t os x y k = let o : ℤ × ℤ = slice_index_or os k (pos 0, pos 0) in values_stepped t (pixel_centre x y) (sample_place o x y) (pos 16 *ℤ o.0) (pos 16 *ℤ o.1) refl refl
+pub values_sample : (t : Triangle) (os : List (ℤ × ℤ)) (x y k : ℕ) → at_sample t os (values_at t (pixel_centre x y)) k ≡ values_at t (sample_position (slice_index_or os k (pos 0, pos 0)) x y)
+values_sample t os x y k = let o : ℤ × ℤ = slice_index_or os k (pos 0, pos 0) in values_stepped t (pixel_centre x y) (sample_position o x y) (pos 16 *ℤ o.0) (pos 16 *ℤ o.1) refl refl
 
 -- ---- what an edge accepts
 
@@ -78,7 +78,7 @@ covers_positive t s h = go (int_lt (edge_function t.a t.b t.c) (pos 0)) (int_lt 
 pub mask_values : (t : Triangle) (os : List (ℤ × ℤ)) (x y : ℕ) → pos 0 <ℤ edge_function t.a t.b t.c → (k : ℕ) → mask_of_values_below t os (values_at t (pixel_centre x y)) k ≡ mask_below t os x y k
 mask_values t os x y h zero = refl
 mask_values t os x y h (suc k) =
-    let s : Point = sample_place (slice_index_or os k (pos 0, pos 0)) x y in
+    let s : Point = sample_position (slice_index_or os k (pos 0, pos 0)) x y in
     let e : none_below (at_sample t os (values_at t (pixel_centre x y)) k) ≡ covers t os x y k = ap none_below (values_sample t os x y k) ∙ sym (covers_positive t s h ∙ all_accept_values t s) in
     ap₂ (λ (m : ℕ) (b : Bool). m + (if b then 2 ^ k else 0)) (mask_values t os x y h k) e
 
@@ -302,7 +302,7 @@ samples_fit r t p x y wide near hx hy = λ k l.
     let u = sixteenth o.0 (reach_of p) n.0 in
     let v = sixteenth o.1 (reach_of p) n.1 in
     subst (IsRoomFor r) (sym (values_sample t (offsets_of p) x y k))
-    (values_room r t (sample_place o x y) wide near (place_near r x (pos 16 *ℤ o.0) wide hx (omega (arith, u, m)), place_near r y (pos 16 *ℤ o.1) wide hy (omega (arith, v, m))))
+    (values_room r t (sample_position o x y) wide near (place_near r x (pos 16 *ℤ o.0) wide hx (omega (arith, u, m)), place_near r y (pos 16 *ℤ o.1) wide hy (omega (arith, v, m))))
 
 -- ---- the least and the greatest change to a sample
 

@@ -8,7 +8,7 @@ use Rattle.abuf_raster.specs.declared.plane.Coefficients.{Coefficients}
 use Rattle.abuf_raster.specs.Edge.{edge_function}
 use Rattle.abuf_raster.specs.Triangle.{Triangle, positive_order}
 use Rattle.abuf_raster.specs.Coverage.{all_accept}
-use Rattle.abuf_raster.specs.Depth.{weighted_depth, depth_of, least_depth, greatest_depth}
+use Rattle.abuf_raster.specs.Depth.{weighted_depth, depth_of, min_depth, max_depth}
 use Rattle.abuf_raster.specs.Slopes.{slope_across, slope_down}
 use Rattle.abuf_raster.specs.Plane.{IsPlane, sum_at}
 use Rattle.abuf_raster.proofs.Bounds.{abs-add, abs-mul}
@@ -57,7 +57,7 @@ pub key_of : (u : Triangle) (p : Coefficients) (s : Point) → IsPlane u p → a
 key_of u p s h covered =
     let w = weights u s covered in
     let d : ℕ = p.area.divisor in
-    let n = natural_sum (edge_function u.b u.c s) (edge_function u.c u.a s) (edge_function u.a u.b s) (edge_function u.a u.b u.c) u.qa u.qb u.qc d (greatest_depth u)
+    let n = natural_sum (edge_function u.b u.c s) (edge_function u.c u.a s) (edge_function u.a u.b s) (edge_function u.a u.b u.c) u.qa u.qb u.qc d (max_depth u)
     w.0 w.1 w.2 (E_sum u.a u.b u.c s) h.area p.area.some (omega arith) (omega arith) (omega arith) in
     let k : unsigned_abs (depth_of u s) ≡ n.number / d = ap unsigned_abs (ap₂ floor_div n.is h.area) in
     let b = key_between u s (subst (λ (z : ℤ). pos 0 <ℤ z) (sym h.area) (above d p.area.some)) covered in
@@ -66,7 +66,7 @@ key_of u p s h covered =
       depth = n.is;
       room = let few = n.few in let all = h.depths in omega arith;
       key = k;
-      small = subst (λ (j : ℕ). j ≤ 16777215) k (omega (arith, abs_at_most (depth_of u s) (least_depth u) (greatest_depth u) b.0 b.1, h.nearest));
+      small = subst (λ (j : ℕ). j ≤ 16777215) k (omega (arith, abs_at_most (depth_of u s) (min_depth u) (max_depth u) b.0 b.1, h.nearest));
     }
   where
     above : (j : ℕ) → 0 < j → pos 0 <ℤ pos j
@@ -85,7 +85,7 @@ key_told u p s r h k told =
 
 -- ---- bounds
 
--- how far the weighted depth is from that at a place near by
+-- how far the weighted depth is from that at a position near by
 pub near_centre : (u : Triangle) (c s : Point) (reach : ℕ) → unsigned_abs (s.x -ℤ c.x) ≤ reach → unsigned_abs (s.y -ℤ c.y) ≤ reach
     → unsigned_abs (weighted_depth u s -ℤ weighted_depth u c) ≤ (unsigned_abs (slope_across u) + unsigned_abs (slope_down u)) * reach
 near_centre u c s reach hx hy =

@@ -10,8 +10,8 @@ use Rattle.abuf_raster.specs.declared.point.Point.{Point}
 use Rattle.abuf_raster.specs.Edge.{edge_function, is_left_edge, is_top_edge}
 use Rattle.abuf_raster.specs.Triangle.{Triangle, has_area, positive_order}
 use Rattle.abuf_raster.specs.Coverage.{accepts, all_accept, covers_sample}
-use Rattle.abuf_raster.specs.Depth.{depth_of, depth_value, least_depth, greatest_depth, HasNoKeyAbove, HasNoKeyBelow}
-use Rattle.abuf_raster.specs.Samples.{sample_place}
+use Rattle.abuf_raster.specs.Depth.{depth_of, depth_value, min_depth, max_depth, HasNoKeyAbove, HasNoKeyBelow}
+use Rattle.abuf_raster.specs.Samples.{sample_position}
 use Rattle.abuf_raster.proofs.Acceptance.{in_order, positive_area}
 use Rattle.abuf_raster.proofs.Linear.{E_sum}
 
@@ -61,24 +61,24 @@ weights t s h =
 
 -- the law for a triangle in positive order
 pub key_between : (t : Triangle) (s : Point) → pos 0 <ℤ edge_function t.a t.b t.c → all_accept t.a t.b t.c s ≡ true
-    → (pos (least_depth t) ≤ℤ depth_of t s) × (depth_of t s ≤ℤ pos (greatest_depth t))
+    → (pos (min_depth t) ≤ℤ depth_of t s) × (depth_of t s ≤ℤ pos (max_depth t))
 key_between t s some h =
     let w = weights t s h in
-    between (edge_function t.b t.c s) (edge_function t.c t.a s) (edge_function t.a t.b s) (edge_function t.a t.b t.c) t.qa t.qb t.qc (least_depth t) (greatest_depth t)
+    between (edge_function t.b t.c s) (edge_function t.c t.a s) (edge_function t.a t.b s) (edge_function t.a t.b t.c) t.qa t.qb t.qc (min_depth t) (max_depth t)
     w.0 w.1 w.2 (E_sum t.a t.b t.c s) some
     (omega arith) (omega arith) (omega arith) (omega arith) (omega arith) (omega arith)
 
 -- Positive order keeps the least depth value.
-least_turned : (t : Triangle) → least_depth (positive_order t) ≡ least_depth t
-least_turned t = in_order (λ u. least_depth u ≡ least_depth t) t (omega arith) refl
+least_turned : (t : Triangle) → min_depth (positive_order t) ≡ min_depth t
+least_turned t = in_order (λ u. min_depth u ≡ min_depth t) t (omega arith) refl
 
 -- And the greatest.
-greatest_turned : (t : Triangle) → greatest_depth (positive_order t) ≡ greatest_depth t
-greatest_turned t = in_order (λ u. greatest_depth u ≡ greatest_depth t) t (omega arith) refl
+greatest_turned : (t : Triangle) → max_depth (positive_order t) ≡ max_depth t
+greatest_turned t = in_order (λ u. max_depth u ≡ max_depth t) t (omega arith) refl
 
 -- The law for any triangle.
 pub key_law_holds : (t : Triangle) (s : Point) → covers_sample t s ≡ true
-    → (pos (least_depth t) ≤ℤ depth_value t s) × (depth_value t s ≤ℤ pos (greatest_depth t))
+    → (pos (min_depth t) ≤ℤ depth_value t s) × (depth_value t s ≤ℤ pos (max_depth t))
 key_law_holds t s h =
     let split = and_parts (has_area t) (all_accept (positive_order t).a (positive_order t).b (positive_order t).c s) h in
     let k = key_between (positive_order t) s (positive_area t split.0) split.1 in
@@ -95,14 +95,14 @@ abs_at_least (pos n) low l = omega (arith, ints)
 abs_at_least (negsuc n) low l = absurd l.le
 
 -- So no key is above the greatest depth value.
-pub no_key_above : (t : Triangle) → HasNoKeyAbove t (greatest_depth t)
+pub no_key_above : (t : Triangle) → HasNoKeyAbove t (max_depth t)
 no_key_above t offsets x y k h =
-    let s = sample_place (get_or offsets k (pos 0, pos 0)) x y in
+    let s = sample_position (get_or offsets k (pos 0, pos 0)) x y in
     let between = key_law_holds t s h in
-    abs_at_most (depth_value t s) (least_depth t) (greatest_depth t) between.0 between.1
+    abs_at_most (depth_value t s) (min_depth t) (max_depth t) between.0 between.1
 
 -- And none is below the least.
-pub no_key_below : (t : Triangle) → HasNoKeyBelow t (least_depth t)
+pub no_key_below : (t : Triangle) → HasNoKeyBelow t (min_depth t)
 no_key_below t offsets x y k h =
-    let s = sample_place (get_or offsets k (pos 0, pos 0)) x y in
-    abs_at_least (depth_value t s) (least_depth t) (key_law_holds t s h).0
+    let s = sample_position (get_or offsets k (pos 0, pos 0)) x y in
+    abs_at_least (depth_value t s) (min_depth t) (key_law_holds t s h).0

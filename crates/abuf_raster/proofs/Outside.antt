@@ -3,7 +3,7 @@ use Rattle.std.proofs.Common.{◌≡◌, ℕ, ◌*◌, ◌<◌, ◌*ℤ◌, ◌<
 use Rattle.abuf_raster.specs.declared.point.Point.{Point}
 use Rattle.abuf_raster.specs.declared.pattern.Pattern.{Pattern}
 use Rattle.abuf_raster.specs.Triangle.{Triangle, has_area, positive_order}
-use Rattle.abuf_raster.specs.Samples.{sample_place, offsets_of, reach_of}
+use Rattle.abuf_raster.specs.Samples.{sample_position, offsets_of, reach_of}
 use Rattle.abuf_raster.specs.BoundingBox.{IsBefore, IsBehind}
 use Rattle.abuf_raster.specs.Coverage.{mask, all_accept}
 use Rattle.abuf_raster.proofs.Acceptance.{in_order, positive_area}
@@ -22,17 +22,17 @@ either : (t : Triangle) (os : List (ℤ × ℤ)) (i j : ℕ) → (has_area t ≡
 either t os i j h = go (has_area t) refl where
   go : (v : Bool) → v ≡ has_area t → mask t os i j ≡ 0
   go true e = sym (mask_turned t os i j (length os) (sym e)) ∙ h (sym e)
-  go false e = mask_uncovered t os i j (length os) (λ k l. let s : Point = sample_place (slice_index_or os k (pos 0, pos 0)) i j in ap (λ (b : Bool). b && all_accept (positive_order t).a (positive_order t).b (positive_order t).c s) (sym e))
+  go false e = mask_uncovered t os i j (length os) (λ k l. let s : Point = sample_position (slice_index_or os k (pos 0, pos 0)) i j in ap (λ (b : Bool). b && all_accept (positive_order t).a (positive_order t).b (positive_order t).c s) (sym e))
 
 module _ (t : Triangle) (p : Pattern) (i j : ℕ) where
   -- Where each sample has less of a coordinate than each corner, the mask is 0.
-  none_beside : (f : Point → ℤ) → Weighs f → (P : Point → Type 0) → ((q : Point) → P q → (k : ℕ) → k < length (offsets_of p) → f (sample_place (slice_index_or (offsets_of p) k (pos 0, pos 0)) i j) <ℤ f q)
+  none_beside : (f : Point → ℤ) → Weighs f → (P : Point → Type 0) → ((q : Point) → P q → (k : ℕ) → k < length (offsets_of p) → f (sample_position (slice_index_or (offsets_of p) k (pos 0, pos 0)) i j) <ℤ f q)
       → P t.a → P t.b → P t.c → mask t (offsets_of p) i j ≡ 0
   none_beside f weighs P less a b c = either t (offsets_of p) i j (λ h.
       let u : Triangle = positive_order t in
       let n = corners P t a b c in
       mask_uncovered u (offsets_of p) i j (length (offsets_of p)) (λ k l.
-      let s : Point = sample_place (slice_index_or (offsets_of p) k (pos 0, pos 0)) i j in
+      let s : Point = sample_position (slice_index_or (offsets_of p) k (pos 0, pos 0)) i j in
       covers_positive u s (positive_area t h) ∙ beside f weighs u s (positive_area t h) (less u.a n.0 k l) (less u.b n.1 k l) (less u.c n.2 k l)))
 
   -- A pixel before its corners, or behind them, in a row.

@@ -103,7 +103,7 @@ module _ (falls : Bool) where
       let w : to_z w64 k ≡ pos k = omega (arith, ints) in
       h ∙ ap₂ (λ (x y : ℤ). x *ℤ y) j w
 
--- values at a place, with at most a square of the reach put to each, once and twice
+-- values at a position, with at most a square of the reach put to each, once and twice
 pub more_fits : (r : ℕ) (n m : Numbers) → AreAtMost (9 * (r * r)) n → AreAtMost (r * r) m → IsRoomFor r (plus_all n m)
 more_fits r n m h k =
     (omega (arith, abs-add n.ab m.ab _ _ h.0 k.0), omega (arith, abs-add n.bc m.bc _ _ h.1 k.1), omega (arith, abs-add n.ca m.ca _ _ h.2 k.2))

@@ -9,8 +9,8 @@ use Rattle.abuf_raster.specs.declared.point.Point.{Point}
 use Rattle.abuf_raster.specs.declared.pattern.Pattern.{Pattern}
 use Rattle.abuf_raster.specs.Edge.{edge_function}
 use Rattle.abuf_raster.specs.Triangle.{Triangle, has_area, positive_order}
-use Rattle.abuf_raster.specs.Samples.{offsets_of, reach_of, sample_place, pixel_centre}
-use Rattle.abuf_raster.specs.Depth.{weighted_depth, depth_of, spread, least_depth, greatest_depth}
+use Rattle.abuf_raster.specs.Samples.{offsets_of, reach_of, sample_position, pixel_centre}
+use Rattle.abuf_raster.specs.Depth.{weighted_depth, depth_of, spread, min_depth, max_depth}
 use Rattle.abuf_raster.specs.Coverage.{covers_sample, all_accept}
 use Rattle.abuf_raster.proofs.Acceptance.{positive_area}
 use Rattle.abuf_raster.proofs.Bounds.{abs-add, abs-mul}
@@ -20,7 +20,7 @@ use Rattle.abuf_raster.proofs.Means.{key_between, abs_at_most}
 use Rattle.abuf_raster.proofs.Changes.{offset_near, reach_small, sixteenth}
 
 -- a sample is within the pattern's reach of the centre
-pub sample_reach : (p : Pattern) (k x y : ℕ) → k < length (offsets_of p) → (let s : Point = sample_place (slice_index_or (offsets_of p) k (pos 0, pos 0)) x y in let c : Point = pixel_centre x y in
+pub sample_reach : (p : Pattern) (k x y : ℕ) → k < length (offsets_of p) → (let s : Point = sample_position (slice_index_or (offsets_of p) k (pos 0, pos 0)) x y in let c : Point = pixel_centre x y in
     (unsigned_abs (s.x -ℤ c.x) ≤ 16 * reach_of p) × (unsigned_abs (s.y -ℤ c.y) ≤ 16 * reach_of p))
 sample_reach p k x y l =
     let o : ℤ × ℤ = slice_index_or (offsets_of p) k (pos 0, pos 0) in
@@ -31,7 +31,7 @@ sample_reach p k x y l =
     off c z m h = omega (arith, ints)
 
 -- ---- how an edge function changes
--- The terms of an edge function at one place and at another.
+-- The terms of an edge function at one position and at another.
 step : (p q ax ay sx sy mx my : ℤ) → p *ℤ (sy -ℤ ay) -ℤ q *ℤ (sx -ℤ ax) ≡ (p *ℤ (my -ℤ ay) -ℤ q *ℤ (mx -ℤ ax)) +ℤ (p *ℤ (sy -ℤ my) -ℤ q *ℤ (sx -ℤ mx))
 step p q ax ay sx sy mx my = simp (mul_add, add_mul, neg_mul, mul_neg) (omega (arith, ints))
 
@@ -99,19 +99,19 @@ pub record KeyAt (u : Triangle) (s m : Point) : Type 0 where
   pub near : unsigned_abs (weighted_depth u s -ℤ weighted_depth u m) ≤ spread u
 
 -- And it is so at each sample that is covered.
-pub key_at : (t : Triangle) (p : Pattern) (k x y : ℕ) → k < length (offsets_of p) → greatest_depth (positive_order t) ≤ 16777215
-    → covers_sample t (sample_place (get_or (offsets_of p) k (pos 0, pos 0)) x y) ≡ true
-    → KeyAt (positive_order t) (sample_place (get_or (offsets_of p) k (pos 0, pos 0)) x y) (pixel_centre x y)
+pub key_at : (t : Triangle) (p : Pattern) (k x y : ℕ) → k < length (offsets_of p) → max_depth (positive_order t) ≤ 16777215
+    → covers_sample t (sample_position (get_or (offsets_of p) k (pos 0, pos 0)) x y) ≡ true
+    → KeyAt (positive_order t) (sample_position (get_or (offsets_of p) k (pos 0, pos 0)) x y) (pixel_centre x y)
 key_at t p k x y l g h =
     let u : Triangle = positive_order t in
-    let s : Point = sample_place (get_or (offsets_of p) k (pos 0, pos 0)) x y in
+    let s : Point = sample_position (get_or (offsets_of p) k (pos 0, pos 0)) x y in
     let split = and_parts (has_area t) (all_accept u.a u.b u.c s) h in
     let b = key_between u s (positive_area t split.0) split.1 in
     let n = sample_reach p k x y l in
     record {
       positive = positive_area t split.0;
-      value = natural (depth_of u s) (least_depth u) b.0;
-      small = omega (arith, abs_at_most (depth_of u s) (least_depth u) (greatest_depth u) b.0 b.1, g);
+      value = natural (depth_of u s) (min_depth u) b.0;
+      small = omega (arith, abs_at_most (depth_of u s) (min_depth u) (max_depth u) b.0 b.1, g);
       near = depth_change u s (pixel_centre x y) (omega (arith, n.0, reach_small p)) (omega (arith, n.1, reach_small p));
     }
   where

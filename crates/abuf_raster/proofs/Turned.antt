@@ -5,7 +5,7 @@ use Rattle.abuf_raster.specs.declared.region.Hit.{Hit}
 use Rattle.abuf_raster.specs.declared.point.Point.{Point}
 use Rattle.abuf_raster.specs.Region.{Region}
 use Rattle.abuf_raster.specs.Triangle.{Triangle, has_area, positive_order}
-use Rattle.abuf_raster.specs.Samples.{sample_place}
+use Rattle.abuf_raster.specs.Samples.{sample_position}
 use Rattle.abuf_raster.specs.Coverage.{mask_below, covers_sample, all_accept}
 use Rattle.abuf_raster.specs.declared.bounding_box.BoundingBox.{BoundingBox}
 use Rattle.abuf_raster.specs.BoundingBox.{IsBoxOf}
@@ -25,7 +25,7 @@ covers_turned t s h = covers_positive (positive_order t) s (positive_area t h) �
 pub mask_turned : (t : Triangle) (os : List (ℤ × ℤ)) (x y k : ℕ) → has_area t ≡ true → mask_below (positive_order t) os x y k ≡ mask_below t os x y k
 mask_turned t os x y zero h = refl
 mask_turned t os x y (suc k) h =
-    ap₂ (λ (m : ℕ) (b : Bool). m + (if b then 2 ^ k else 0)) (mask_turned t os x y k h) (covers_turned t (sample_place (slice_index_or os k (pos 0, pos 0)) x y) h)
+    ap₂ (λ (m : ℕ) (b : Bool). m + (if b then 2 ^ k else 0)) (mask_turned t os x y k h) (covers_turned t (sample_position (slice_index_or os k (pos 0, pos 0)) x y) h)
 
 module _ (t : Triangle) (n : ℕ) (os : List (ℤ × ℤ)) (r : Region) where
   -- The same hit at each place.
@@ -40,7 +40,7 @@ module _ (t : Triangle) (n : ℕ) (os : List (ℤ × ℤ)) (r : Region) where
   pub hits_of_none : 0 < r.w → has_area t ≡ false → hits t n os r ≡ []
   hits_of_none some h =
       hits_rows t n os r some
-      ∙ block_none t n os r.x0 r.w r.y0 r.h (λ i j _ _ _ _. mask_uncovered t os i j (length os) (λ k l. let s : Point = sample_place (slice_index_or os k (pos 0, pos 0)) i j in ap (λ (b : Bool). b && all_accept (positive_order t).a (positive_order t).b (positive_order t).c s) h))
+      ∙ block_none t n os r.x0 r.w r.y0 r.h (λ i j _ _ _ _. mask_uncovered t os i j (length os) (λ k l. let s : Point = sample_position (slice_index_or os k (pos 0, pos 0)) i j in ap (λ (b : Bool). b && all_accept (positive_order t).a (positive_order t).b (positive_order t).c s) h))
 
 -- a box round a triangle is one round the triangle in positive order
 pub box_turned : (t : Triangle) (os : List (ℤ × ℤ)) (r : Region) (b : BoundingBox) → has_area t ≡ true → IsBoxOf t os r b → IsBoxOf (positive_order t) os r b

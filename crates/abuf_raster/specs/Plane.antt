@@ -6,7 +6,7 @@ use Rattle.abuf_raster.specs.declared.point.Point.{Point}
 use Rattle.abuf_raster.specs.declared.plane.Coefficients.{Coefficients}
 use Rattle.abuf_raster.specs.Edge.{edge_function}
 use Rattle.abuf_raster.specs.Triangle.{Triangle}
-use Rattle.abuf_raster.specs.Depth.{weighted_depth, greatest_depth}
+use Rattle.abuf_raster.specs.Depth.{weighted_depth, max_depth}
 use Rattle.abuf_raster.specs.Slopes.{slope_across, slope_down}
 
 -- The sum at a position that the coefficients stand for, modulo 2^64.
@@ -26,8 +26,8 @@ AreBoundsAt p centre spread low high =
 -- and where the triangle covers it, it is below 2^62.
 pub record IsPlane (t : Triangle) (p : Coefficients) : Type 0 where
   pub area : edge_function t.a t.b t.c ≡ pos p.area.divisor
-  pub nearest : greatest_depth t ≤ MAX_DEPTH
-  pub depths : p.area.divisor * (greatest_depth t + 1) < 2 ^ 62
+  pub nearest : max_depth t ≤ MAX_DEPTH
+  pub depths : p.area.divisor * (max_depth t + 1) < 2 ^ 62
   pub to_right : p.across ≡ slope_across t
   pub to_bottom : p.down ≡ slope_down t
   pub sum : (s : Point) → sum_at p s ≡ int_wrap w64 (weighted_depth t s)

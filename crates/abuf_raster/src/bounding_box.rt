@@ -38,25 +38,25 @@ fn pixel_of(z: i64, start: u32, end: u32) -> u32
 }
 
 /// The least of three coordinates.
-fn least(x: i64, y: i64, z: i64) -> i64
+fn min_of(x: i64, y: i64, z: i64) -> i64
     ensures x { result ≤ℤ x }
     ensures y { result ≤ℤ y }
     ensures z { result ≤ℤ z }
     ensures bound { unsigned_abs result ≤ max (unsigned_abs x) (max (unsigned_abs y) (unsigned_abs z)) }
 {
-    let least = if y < x { y } else { x };
-    if z < least { z } else { least }
+    let min_of = if y < x { y } else { x };
+    if z < min_of { z } else { min_of }
 }
 
 /// The greatest of three coordinates.
-fn greatest(x: i64, y: i64, z: i64) -> i64
+fn max_of(x: i64, y: i64, z: i64) -> i64
     ensures x { x ≤ℤ result }
     ensures y { y ≤ℤ result }
     ensures z { z ≤ℤ result }
     ensures bound { unsigned_abs result ≤ max (unsigned_abs x) (max (unsigned_abs y) (unsigned_abs z)) }
 {
-    let greatest = if x < y { y } else { x };
-    if greatest < z { z } else { greatest }
+    let max_of = if x < y { y } else { x };
+    if max_of < z { z } else { max_of }
 }
 
 /// The coordinate from which the pixel is told that begins with a margin before it.
@@ -91,7 +91,7 @@ fn first_pixel(x: i64, y: i64, z: i64, margin: u32, start: u32, end: u32) -> u32
     ensures high { result ≤ end }
     ensures before { (p : ℕ) → start ≤ p → p < result → IsBefore p margin x × IsBefore p margin y × IsBefore p margin z }
 {
-    pixel_of(lowered(least(x, y, z), margin), start, end)
+    pixel_of(lowered(min_of(x, y, z), margin), start, end)
 }
 
 /// The first pixel from `start` on, along one direction, that is behind a triangle with these coordinates.
@@ -106,7 +106,7 @@ fn end_pixel(x: i64, y: i64, z: i64, margin: u32, start: u32, end: u32) -> u32
     ensures high { result ≤ end }
     ensures behind { (p : ℕ) → result ≤ p → p < end → IsBehind p margin x × IsBehind p margin y × IsBehind p margin z }
 {
-    pixel_of(raised(greatest(x, y, z), margin), start, end)
+    pixel_of(raised(max_of(x, y, z), margin), start, end)
 }
 
 impl BoundingBox {
@@ -147,8 +147,8 @@ fn rows_miss(t: &ScreenTri, region: Region, pattern: Pattern) -> bool
     ensures { IsTrue result → CoversNone t.now (offsets_of pattern) region }
 {
     let margin = 16 * pattern.reach();
-    let top = lowered(least(t.a.y, t.b.y, t.c.y), margin);
-    let bottom = raised(greatest(t.a.y, t.b.y, t.c.y), margin);
+    let top = lowered(min_of(t.a.y, t.b.y, t.c.y), margin);
+    let bottom = raised(max_of(t.a.y, t.b.y, t.c.y), margin);
     let end = region.y0() + region.h();
     256 * end as i64 <= top || bottom < 256 * (region.y0() + 1) as i64
 }

@@ -7,7 +7,7 @@ ghost use Rattle.abuf_raster.specs.Samples.{offsets_of};
 ghost use Rattle.abuf_raster.specs.Coverage.{mask, covers_sample};
 ghost use Rattle.abuf_raster.specs.Hits.{IsHitIn, hits};
 
-use crate::pattern::{Pattern, sample_place};
+use crate::pattern::{Pattern, sample_position};
 use crate::point::Point;
 use crate::region::{Hit, NO_HIT, Region};
 use crate::stepping::values_at;
@@ -42,7 +42,7 @@ fn mask_by<V: Width>(t: &ScreenTri, x: u32, y: u32, pattern: Pattern) -> u16
 {
     let mut mask = 0;
     for k in 0..pattern.size() {
-        if t.covers_sample::<V>(sample_place(pattern.offset(k), x, y)) {
+        if t.covers_sample::<V>(sample_position(pattern.offset(k), x, y)) {
             mask += 1 << k;
         }
     }

@@ -14,14 +14,14 @@ use crate::pattern::Pattern;
 use crate::region::{NO_HIT, Region, region_law};
 use crate::setup::Setup;
 use crate::stepping::{Trio, changes};
-use crate::tile::{Span, Tile};
+use crate::tile::{RowSpan, Tile};
 use crate::tiles::Tiles;
 use crate::triangle::ScreenTri;
 use crate::width::Width;
 
 /// At least as many as the hits in a row of pixels, whose first has these values at its centre: those that no edge rejects.
 #[inline(always)]
-fn most_in_row<V: Width>(t: &ScreenTri, setup: &Setup<V>, span: Span, start: Trio<V>) -> u32
+fn max_in_row<V: Width>(t: &ScreenTri, setup: &Setup<V>, span: RowSpan, start: Trio<V>) -> u32
     requires wide { 2 ^ 22 ≤ V.reach }
     requires near { AreWithin V.reach t.now }
     requires positive { pos 0 <ℤ edge_function t.now.a t.now.b t.now.c }
@@ -44,7 +44,7 @@ fn most_in_row<V: Width>(t: &ScreenTri, setup: &Setup<V>, span: Span, start: Tri
 
 /// At least as many as the hits in a tile: none where an edge rejects all of it, all pixels where the three edges accept all, and
 /// else those that no edge rejects.
-pub(crate) fn most_in_tile<V: Width>(t: &ScreenTri, setup: &Setup<V>, tile: Tile) -> u32
+pub(crate) fn max_in_tile<V: Width>(t: &ScreenTri, setup: &Setup<V>, tile: Tile) -> u32
     requires wide { 2 ^ 22 ≤ V.reach }
     requires near { AreWithin V.reach t.now }
     requires positive { pos 0 <ℤ edge_function t.now.a t.now.b t.now.c }
@@ -66,12 +66,12 @@ pub(crate) fn most_in_tile<V: Width>(t: &ScreenTri, setup: &Setup<V>, tile: Tile
     let mut at = start;
     let mut most = 0;
     for line in 0..tile.h {
-        let span = Span {
+        let span = RowSpan {
             x: tile.x,
             y: tile.y + line,
             w: tile.w,
         };
-        most += most_in_row(t, setup, span, at);
+        most += max_in_row(t, setup, span, at);
         at = at.plus(down);
     }
     most
@@ -79,7 +79,7 @@ pub(crate) fn most_in_tile<V: Width>(t: &ScreenTri, setup: &Setup<V>, tile: Tile
 
 /// At least as many as the pixels in which the triangle covers a sample, so that a pool needn't have more nodes than a scene
 /// can take: each pixel of the region in which no edge rejects all samples.
-pub fn most_hits(t: &ScreenTri, region: Region, pattern: Pattern) -> u32
+pub fn max_hits(t: &ScreenTri, region: Region, pattern: Pattern) -> u32
     ensures bound { (prim : ℕ) → length (hits t.now prim (offsets_of pattern) region) ≤ result }
     ensures few { result ≤ region.w * region.h }
 {
@@ -87,7 +87,7 @@ pub fn most_hits(t: &ScreenTri, region: Region, pattern: Pattern) -> u32
     let mut tiles = Tiles::new(t, 0, region, pattern);
     let mut most = 0;
     while !tiles.is_done() {
-        most += tiles.most_in_next();
+        most += tiles.max_in_next();
     }
     most
 }

@@ -33,7 +33,7 @@ mod width;
 pub use bounding_box::{first_row, meets};
 pub use for_users::{TileWalk, mask_at};
 pub use fragment::{Fragment, pack, unpack};
-pub use hit_counts::{count_hits, most_hits};
+pub use hit_counts::{count_hits, max_hits};
 pub use pattern::Pattern;
 pub use plane::DepthPlane;
 pub use point::Point;

@@ -9,7 +9,7 @@ ghost use Rattle.abuf_raster.specs.Coverage.{covers};
 ghost use Rattle.abuf_raster.specs.Depth.{depth_key, IsLeastKey, IsGreatestKey};
 ghost use Rattle.abuf_raster.specs.Slopes.{slope, slope_across, slope_down};
 
-use crate::pattern::{Pattern, sample_place};
+use crate::pattern::{Pattern, sample_position};
 use crate::point::Point;
 use crate::triangle::ScreenTri;
 use crate::triangle::depth::{depth_at, depth_bounds};
@@ -189,7 +189,7 @@ impl DepthPlane {
         ensures small { result ≤ MAX_DEPTH }
     {
         match self.coefficients {
-            Some(coefficients) => coefficients.key(sample_place(pattern.offset(k), x, y)),
+            Some(coefficients) => coefficients.key(sample_position(pattern.offset(k), x, y)),
             None => depth_at(t, x, y, pattern, k),
         }
     }
@@ -208,7 +208,7 @@ impl DepthPlane {
         match self.coefficients {
             Some(coefficients) => {
                 let spread = coefficients.spread(16 * pattern.reach());
-                coefficients.bounds(sample_place((0, 0), x, y), spread)
+                coefficients.bounds(sample_position((0, 0), x, y), spread)
             }
             None => depth_bounds(t, x, y, pattern),
         }

@@ -8,7 +8,7 @@ ghost use Rattle.abuf_raster.specs.TrioNumbers.{numbers_of};
 ghost use Rattle.abuf_raster.specs.Setup.{AreExtremes, IsSetup, highest, lowest};
 ghost use Rattle.abuf_raster.specs.Walk.{IsTile};
 
-use crate::pattern::{Pattern, sample_place};
+use crate::pattern::{Pattern, sample_position};
 use crate::point::Point;
 use crate::stepping::{Trio, change_of_edge, changes, farthest, values_at};
 use crate::tile::Tile;
@@ -133,7 +133,7 @@ impl<V: Width> Setup<V> {
             Pattern::Sixteen => all_extremes::<V>(t, Pattern::Sixteen),
         };
         Setup {
-            start: values_at::<V>(t, sample_place((0, 0), 0, 0)),
+            start: values_at::<V>(t, sample_position((0, 0), 0, 0)),
             samples,
         }
     }

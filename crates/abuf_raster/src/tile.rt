@@ -29,7 +29,7 @@ pub(crate) struct Tile {
 
 /// The pixels of a row from pixel (x, y) on, at most 8.
 #[derive(Clone, Copy)]
-pub(crate) struct Span {
+pub(crate) struct RowSpan {
     pub(crate) x: u32,
     pub(crate) y: u32,
     pub(crate) w: u32,
@@ -45,19 +45,19 @@ pub(crate) struct Edge<V> {
 
 /// The number of a primitive, the pattern that it is sampled in, and its extremes there.
 #[derive(Clone, Copy)]
-struct Primitive<V> {
+struct SampledPrimitive<V> {
     number: u32,
     pattern: Pattern,
     samples: Extremes<V>,
 }
 
-impl<V: Width> Primitive<V> {
+impl<V: Width> SampledPrimitive<V> {
     /// The primitive, sampled in this pattern.
     #[inline(always)]
-    fn by(self, pattern: Pattern) -> Primitive<V>
+    fn by(self, pattern: Pattern) -> SampledPrimitive<V>
         ensures { result ≡ record { number = self.number; pattern = pattern; samples = self.samples } }
     {
-        Primitive { pattern, ..self }
+        SampledPrimitive { pattern, ..self }
     }
 }
 
@@ -165,8 +165,8 @@ fn put(hits: &mut [Hit; 64], count: usize, prim: u32, x: u32, y: u32, mask: u16)
 #[inline(always)]
 fn row<V: Width>(
     t: &ScreenTri,
-    primitive: Primitive<V>,
-    span: Span,
+    primitive: SampledPrimitive<V>,
+    span: RowSpan,
     start: Trio<V>,
     hits: &mut [Hit; 64],
     count: usize,
@@ -197,7 +197,7 @@ fn row<V: Width>(
 #[inline(always)]
 fn tested_tile<V: Width>(
     t: &ScreenTri,
-    primitive: Primitive<V>,
+    primitive: SampledPrimitive<V>,
     tile: Tile,
     start: Trio<V>,
     hits: &mut [Hit; 64],
@@ -215,7 +215,7 @@ fn tested_tile<V: Width>(
     let mut at = start;
     let mut count = 0;
     for line in 0..tile.h {
-        let span = Span {
+        let span = RowSpan {
             x: tile.x,
             y: tile.y + line,
             w: tile.w,
@@ -228,7 +228,7 @@ fn tested_tile<V: Width>(
 
 /// The hits in a row of pixels that all have one mask, put behind the first `count` hits.
 #[inline(always)]
-fn full_row(prim: u32, mask: u16, span: Span, hits: &mut [Hit; 64], count: usize) -> usize
+fn full_row(prim: u32, mask: u16, span: RowSpan, hits: &mut [Hit; 64], count: usize) -> usize
     requires some { 0 < mask }
     requires x_small { span.x + span.w ≤ MAX_SIDE }
     requires room { count + span.w ≤ 64 }
@@ -252,7 +252,7 @@ fn full_tile(prim: u32, mask: u16, tile: Tile, hits: &mut [Hit; 64]) -> usize
 {
     let mut count = 0;
     for line in 0..tile.h {
-        let span = Span {
+        let span = RowSpan {
             x: tile.x,
             y: tile.y + line,
             w: tile.w,
@@ -288,7 +288,7 @@ pub(crate) fn tile_by<V: Width>(
     if setup.accepts(t, start, tile) {
         return full_tile(prim, pattern.full_mask(), tile, hits);
     }
-    let primitive = Primitive {
+    let primitive = SampledPrimitive {
         number: prim,
         pattern,
         samples: setup.samples,
@@ -296,7 +296,7 @@ pub(crate) fn tile_by<V: Width>(
     // A body for each pattern, so that its offsets are constants there. A sample at the centre has no extremes.
     match pattern {
         Pattern::One => {
-            let primitive = Primitive {
+            let primitive = SampledPrimitive {
                 samples: all_extremes(t, Pattern::One),
                 ..primitive
             };

@@ -14,7 +14,7 @@ fn last_line_needs_no_feed(rt: HostRuntime) {
 fn comment_ends_the_arguments(rt: HostRuntime) {
     let mut tokens = Statement::new(b" \tf 1#2\t3\r #4 5");
     assert!(rt; tokens.next() == Some(b"f".as_slice()));
-    assert!(rt; tokens.again().next() == Some(b"1#2".as_slice()));
+    assert!(rt; tokens.clone().next() == Some(b"1#2".as_slice()));
     assert!(rt; tokens.next() == Some(b"1#2".as_slice()));
     assert!(rt; tokens.next() == Some(b"3".as_slice()));
     assert!(rt; tokens.next() == None);
@@ -48,7 +48,7 @@ fn names_keep_their_places(rt: HostRuntime) {
     assert!(rt; names.push(alloc, b"red").is_ok());
     assert!(rt; names.find(b"green") == None);
     assert!(rt; names.push(alloc, b"green").is_ok());
-    match names.copy(alloc) {
+    match names.try_clone(alloc) {
         Ok(copy) => {
             assert!(rt; copy.find(b"green") == Some(1));
             assert!(rt; copy.len() == 2);

@@ -7,7 +7,7 @@ use abuf_num::{List, NoMemory, Paint};
 use abuf_obj::read_flat;
 use abuf_raster::{Pattern, Region, ScreenTri, TileWalk, depth_at, mask_at};
 use abuf_scene::{Scene, SceneFault, Triangle};
-use abuf_view::{Camera, Projected, project, project_faces};
+use abuf_view::{Camera, Projected, Room, project, project_faces};
 use std::alloc::{AllocError, Global};
 use std::test::Fail;
 use std::thread::Threads;
@@ -63,9 +63,9 @@ fn covering(tris: &[ScreenTri], x: u32, y: u32) -> u32
 }
 
 // How many pixels of the region the first primitive covers with this depth key.
-fn pixels_at(shown: &Projected, region: Region, depth: u32) -> u32 {
+fn pixels_at(projected: &Projected, region: Region, depth: u32) -> u32 {
     let mut count: u32 = 0;
-    if let Some(triangle) = shown.tris.as_slice().first() {
+    if let Some(triangle) = projected.tris.as_slice().first() {
         for hit in TileWalk::new(triangle, 0, region, Pattern::One) {
             let covered = mask_at(triangle, hit.x, hit.y, Pattern::One) == 1;
             if covered && depth_at(triangle, hit.x, hit.y, Pattern::One, 0) == depth {
@@ -93,15 +93,15 @@ fn upper_left_half_is_covered(rt: HostRuntime) -> Result<(), Fail> {
     let a = point(-262144, 262144, 0);
     let b = point(262144, 262144, 0);
     let c = point(-262144, -262144, 0);
-    let shown = shown_by(rt.alloc(), &camera, a, b, c)?;
-    assert!(rt; shown.tris.as_slice().len() == 1);
-    assert!(rt; shown.paints.as_slice() == [WHITE].as_slice());
+    let projected = shown_by(rt.alloc(), &camera, a, b, c)?;
+    assert!(rt; projected.tris.as_slice().len() == 1);
+    assert!(rt; projected.paints.as_slice() == [WHITE].as_slice());
     for x in 0..4 {
         for y in 0..4 {
-            assert!(rt; (covering(shown.tris.as_slice(), x, y) == 1) == (x + y < 3));
+            assert!(rt; (covering(projected.tris.as_slice(), x, y) == 1) == (x + y < 3));
         }
     }
-    assert!(rt; pixels_at(&shown, four_by_four(), 524287) == 6);
+    assert!(rt; pixels_at(&projected, four_by_four(), 524287) == 6);
     Ok(())
 }
 
@@ -112,12 +112,12 @@ fn corner_behind_the_camera_is_cut_off(rt: HostRuntime) -> Result<(), Fail> {
     let a = point(-65536, 0, 196608);
     let b = point(65536, 0, 196608);
     let c = point(0, 65536, 327680);
-    let shown = shown_by(rt.alloc(), &camera, a, b, c)?;
-    assert!(rt; shown.tris.as_slice().len() == 2);
-    assert!(rt; shown.paints.as_slice() == [WHITE, WHITE].as_slice());
+    let projected = shown_by(rt.alloc(), &camera, a, b, c)?;
+    assert!(rt; projected.tris.as_slice().len() == 2);
+    assert!(rt; projected.paints.as_slice() == [WHITE, WHITE].as_slice());
     for x in 0..4 {
         for y in 0..4 {
-            assert!(rt; (covering(shown.tris.as_slice(), x, y) == 1) == (y < 2));
+            assert!(rt; (covering(projected.tris.as_slice(), x, y) == 1) == (y < 2));
         }
     }
     Ok(())
@@ -130,12 +130,12 @@ fn corner_alone_before_the_camera_is_kept(rt: HostRuntime) -> Result<(), Fail> {
     let a = point(0, 0, 196608);
     let b = point(-65536, 65536, 327680);
     let c = point(65536, 65536, 327680);
-    let shown = shown_by(rt.alloc(), &camera, a, b, c)?;
-    assert!(rt; shown.tris.as_slice().len() == 1);
+    let projected = shown_by(rt.alloc(), &camera, a, b, c)?;
+    assert!(rt; projected.tris.as_slice().len() == 1);
     for x in 0..4 {
         for y in 0..4 {
             let inside = (y == 0 && x < 3) || (y == 1 && x == 1);
-            assert!(rt; (covering(shown.tris.as_slice(), x, y) == 1) == inside);
+            assert!(rt; (covering(projected.tris.as_slice(), x, y) == 1) == inside);
         }
     }
     Ok(())
@@ -150,9 +150,9 @@ fn far_corners_on_the_near_plane(rt: HostRuntime) -> Result<(), Fail> {
     let a = point(-2147418112, -2147418112, 258048);
     let b = point(2147418112, -2147418112, 258048);
     let c = point(0, 2147418112, 258048);
-    let shown = shown_by(rt.alloc(), &camera, a, b, c)?;
+    let projected = shown_by(rt.alloc(), &camera, a, b, c)?;
     let column = Region::whole_image(1, 4096);
-    assert!(rt; pixels_at(&shown, column, 16777215) == 4096);
+    assert!(rt; pixels_at(&projected, column, 16777215) == 4096);
     Ok(())
 }
 
@@ -164,11 +164,11 @@ fn farthest_shifts(rt: HostRuntime) -> Result<(), Fail> {
     let c = point(-262144, -262144, 0);
     for (z, parts) in [(-2147483647, 1), (2147483647, 0)] {
         let camera = Camera::new(4, 4, [1, 0, 0, 0], [0, 0, z], 65536, 8192).ok_or("camera")?;
-        let shown = shown_by(rt.alloc(), &camera, a, b, c)?;
-        assert!(rt; shown.tris.as_slice().len() == parts);
+        let projected = shown_by(rt.alloc(), &camera, a, b, c)?;
+        assert!(rt; projected.tris.as_slice().len() == parts);
         for x in 0..4 {
             for y in 0..4 {
-                assert!(rt; covering(shown.tris.as_slice(), x, y) == 0);
+                assert!(rt; covering(projected.tris.as_slice(), x, y) == 0);
             }
         }
     }
@@ -190,7 +190,7 @@ fn seen_by_faces<R: Threads + Sync>(
         return None;
     }
     match read_flat(alloc, SQUARE) {
-        Ok(obj) => Some(project_faces(rt, alloc, &obj, &materials, camera, 2)),
+        Ok(obj) => Some(project_faces(rt, Room::new(alloc, 0), &obj, &materials, camera, 2)),
         Err(_) => None,
     }
 }
@@ -199,19 +199,19 @@ fn seen_by_faces<R: Threads + Sync>(
 fn faces_have_the_paint_of_their_material(rt: HostRuntime) -> Result<(), Fail> {
     let camera = front().ok_or("camera")?;
     match seen_by_faces(&rt, rt.alloc(), &camera, b"newmtl red\nKd 1 0 0\nd 0.5") {
-        Some(Ok(shown)) => {
+        Some(Ok(projected)) => {
             let red = Paint {
                 colour: [65535, 0, 0],
                 alpha: 32768,
             };
-            assert!(rt; shown.tris.as_slice().len() == 2);
-            assert!(rt; shown.paints.as_slice() == [WHITE, red].as_slice());
+            assert!(rt; projected.tris.as_slice().len() == 2);
+            assert!(rt; projected.paints.as_slice() == [WHITE, red].as_slice());
             for x in 0..4 {
                 for y in 0..4 {
-                    assert!(rt; covering(shown.tris.as_slice(), x, y) == 1);
+                    assert!(rt; covering(projected.tris.as_slice(), x, y) == 1);
                 }
             }
-            assert!(rt; pixels_at(&shown, four_by_four(), 524287) == 6);
+            assert!(rt; pixels_at(&projected, four_by_four(), 524287) == 6);
         }
         _ => assert!(rt; false),
     }
@@ -271,7 +271,7 @@ fn seen_on_threads<R: Threads + Sync>(
         return None;
     }
     match read_flat(alloc, text.as_slice()) {
-        Ok(obj) => Some(project_faces(rt, alloc, &obj, &materials, camera, 3)),
+        Ok(obj) => Some(project_faces(rt, Room::new(alloc, 0), &obj, &materials, camera, 3)),
         Err(_) => None,
     }
 }
@@ -291,8 +291,8 @@ const GREYS: &[u8] =
 fn three_workers_give_all_primitives_in_order(rt: HostRuntime) -> Result<(), Fail> {
     let camera = front().ok_or("camera")?;
     match seen_on_threads(&rt, rt.alloc(), &camera, GREYS) {
-        Some(Ok(shown)) => {
-            let paints = shown.paints.as_slice();
+        Some(Ok(projected)) => {
+            let paints = projected.paints.as_slice();
             assert_eq!(rt; paints.len(), 15000);
             for (first, end, level) in [
                 (0, 2500, 0),
@@ -307,7 +307,7 @@ fn three_workers_give_all_primitives_in_order(rt: HostRuntime) -> Result<(), Fai
             }
             for x in 0..4 {
                 for y in 0..4 {
-                    assert!(rt; covering(shown.tris.as_slice(), x, y) == 7500);
+                    assert!(rt; covering(projected.tris.as_slice(), x, y) == 7500);
                 }
             }
         }

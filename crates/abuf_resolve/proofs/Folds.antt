@@ -6,23 +6,23 @@ use Rattle.std.proofs.lemmas.List.Sums.{fold-append}
 use Rattle.std.proofs.Common.{take-append-drop, drop-cons, slice_index}
 use Rattle.std.proofs.lemmas.Bool.{eqb-true}
 use Rattle.abuf_num.specs.declared.plain.Paint.{Paint}
-use Rattle.abuf_resolve.specs.Over.{over, laid_over}
+use Rattle.abuf_resolve.specs.Over.{over, composite_over}
 use Rattle.abuf_resolve.specs.Words.{folded, paint_of, hides}
 
 -- a colour with the paint of this word laid over it
 abbrev pub with_word : List Paint → List ℕ → ℕ → List ℕ
-with_word paints under word = laid_over under (paint_of paints word)
+with_word paints under word = composite_over under (paint_of paints word)
 
 -- Paints laid over word by word.
 pub folded_steps : (background : List ℕ) (paints : List Paint) (words : List ℕ) → folded background paints words ≡ fold (with_word paints) background words
-folded_steps background paints words = fold-map laid_over (paint_of paints) background words
+folded_steps background paints words = fold-map composite_over (paint_of paints) background words
 
 -- an opaque paint lets nothing through
 opaque_over : (u v colour alpha : ℕ) → alpha ≡ 65535 → over u colour alpha ≡ over v colour alpha
 opaque_over u v colour alpha e = rw e (omega arith)
 
 -- An opaque paint gives the same colour over any two colours.
-opaque_hides : (u v : List ℕ) (paint : Paint) → paint.alpha ≡ 65535 → laid_over u paint ≡ laid_over v paint
+opaque_hides : (u v : List ℕ) (paint : Paint) → paint.alpha ≡ 65535 → composite_over u paint ≡ composite_over v paint
 opaque_hides u v paint e = λ i. part 0 i ∷ part 1 i ∷ part 2 i ∷ [] where
   part : (c : ℕ) → over (slice_index u c) (slice_index paint.colour c) paint.alpha ≡ over (slice_index v c) (slice_index paint.colour c) paint.alpha
   part c = opaque_over (slice_index u c) (slice_index v c) (slice_index paint.colour c) paint.alpha e

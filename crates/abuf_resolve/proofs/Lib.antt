@@ -4,13 +4,13 @@ pub mod Words
 pub mod Hits
 pub mod Lists
 pub mod Places
-pub mod Parts
+pub mod Spans
 pub mod Totals
 pub mod Stacked
 pub mod Fits
 pub mod Present
 pub mod Covered
 pub mod Seen
-pub mod Laid
+pub mod Composite
 pub mod Ranks
 pub mod Sets

@@ -1,4 +1,4 @@
--- Runs of pixels that follow each other.
+-- Spans of pixels that follow each other.
 use Rattle.std.proofs.Common.{◌≡◌, ℕ, [], ◌++◌, List, length, ◌+◌, ◌-◌, ◌*◌, ◌/◌, ◌%◌, ◌<◌, min, map, ◌∙◌, sym, slice_index_or, arith}
 use Rattle.std.specs.List.{range_with_len}
 use Rattle.std.proofs.lemmas.List.{get_or-map, length-map}
@@ -7,10 +7,10 @@ use Rattle.std.proofs.lemmas.Nat.{div-mul-add, mod-mul-add}
 use Rattle.abuf_raster.proofs.Blocks.{range_cut}
 use Rattle.abuf_resolve.specs.Lengths.{lengths_at}
 
--- The pixels of a run follow those of the runs before it.
-pub run_next : (pixels size k : ℕ) → size * k < pixels
+-- The pixels of a span follow those of the spans before it.
+pub span_next : (pixels size k : ℕ) → size * k < pixels
     → range_with_len 0 (min (size * k) pixels) ++ range_with_len (size * k) (min size (pixels - size * k)) ≡ range_with_len 0 (min (size * (k + 1)) pixels)
-run_next pixels size k l =
+span_next pixels size k l =
     let front : min (size * k) pixels ≡ size * k = omega (arith, l) in
     let all : min (size * (k + 1)) pixels ≡ size * k + min size (pixels - size * k) = omega (arith, l) in
     let at : 0 + size * k ≡ size * k = omega arith in

@@ -9,7 +9,7 @@ use Rattle.std.proofs.lemmas.Nat.{and_le_l, mod-pow-add, mod_below, ones_cat, po
 use Rattle.std.proofs.lemmas.Nat.Bits.{bit_at-lt, bit_at-zero, bit_at_and, bit_at_above, bit_at_not, bit_at_ones, bit_at-trailing_zeros, same_from_bits_below}
 use Rattle.abuf_num.specs.declared.plain.PixelSum.{PixelSum}
 use Rattle.abuf_resolve.specs.Sums.{plus, summed}
-use Rattle.abuf_resolve.specs.Tally.{in_set, sums_where, total}
+use Rattle.abuf_resolve.specs.ColourSum.{in_set, sums_where, total}
 
 -- A bit as a truth value.
 bit_of : (b : ℕ) → b < 2 → (if b == 1 then 1 else 0) ≡ b

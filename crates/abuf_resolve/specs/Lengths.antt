@@ -2,9 +2,9 @@
 use Rattle.std.specs.Prelude.{ℕ, max, List, [], ◌∷◌, map, length, slice_index_or}
 
 -- The greatest of the numbers; 0, where there is none.
-abbrev pub greatest : List ℕ → ℕ
-greatest [] = 0
-greatest (n ∷ ns) = max n (greatest ns)
+abbrev pub maximum : List ℕ → ℕ
+maximum [] = 0
+maximum (n ∷ ns) = max n (maximum ns)
 
 -- The lengths of the lists at these places.
 abbrev pub lengths_at : List (List ℕ) → List ℕ → List ℕ

@@ -11,7 +11,7 @@ use Rattle.abuf_raster.specs.Coverage.{covers}
 use Rattle.abuf_raster.specs.Depth.{depth_key}
 use Rattle.abuf_raster.specs.Packing.{unpacked}
 use Rattle.abuf_resolve.specs.Order.{in_order}
-use Rattle.abuf_resolve.specs.Over.{layered, laid_over}
+use Rattle.abuf_resolve.specs.Over.{layered, composite_over}
 use Rattle.abuf_resolve.specs.Colour.{triangle_at, paint_at}
 use Rattle.abuf_resolve.specs.Sums.{summed}
 
@@ -99,7 +99,7 @@ IsPainted paints word = (unpacked word).prim < length paints
 
 -- A colour with the paint of the fragment of this word laid over it, where that has sample k.
 abbrev pub with_fragment : List Paint → ℕ → List ℕ → ℕ → List ℕ
-with_fragment paints k under word = if has_sample k word then laid_over under (paint_at paints (unpacked word).prim) else under
+with_fragment paints k under word = if has_sample k word then composite_over under (paint_at paints (unpacked word).prim) else under
 
 -- A word of a fragment of one of these triangles in pixel (x, y): its mask has only samples that the triangle covers there.
 pub record IsFragmentAt (offsets : List (ℤ × ℤ)) (triangles : List Triangle) (x y word : ℕ) : Type 0 where

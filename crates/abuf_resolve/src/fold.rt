@@ -2,7 +2,7 @@
 ghost use Rattle.std.specs.Prelude.{◌≡◌, ◌*◌, ◌≤◌, length};
 ghost use Rattle.std.specs.List.{All};
 ghost use Rattle.abuf_num.specs.Division.{nearest};
-ghost use Rattle.abuf_resolve.specs.Over.{over, laid_over};
+ghost use Rattle.abuf_resolve.specs.Over.{over, composite_over};
 ghost use Rattle.abuf_resolve.specs.Words.{folded, paint_of, hides, IsDepthWord};
 
 use crate::fragment_words::SampleWord;
@@ -31,8 +31,8 @@ pub fn over(under: u16, colour: u16, alpha: u16) -> u16
 }
 
 /// A paint over a colour, channel by channel.
-pub fn laid_over(under: [u16; 3], paint: Paint) -> [u16; 3]
-    ensures { result ≡ laid_over under paint }
+pub fn composite_over(under: [u16; 3], paint: Paint) -> [u16; 3]
+    ensures { result ≡ composite_over under paint }
 {
     [
         over(under[0], paint.colour[0], paint.alpha),
@@ -42,13 +42,13 @@ pub fn laid_over(under: [u16; 3], paint: Paint) -> [u16; 3]
 }
 
 /// The paints of all words, laid over the colour in order.
-pub(crate) fn lay_all(under: [u16; 3], words: &[u64], paints: &[Paint]) -> [u16; 3]
+pub(crate) fn composite_all(under: [u16; 3], words: &[u64], paints: &[Paint]) -> [u16; 3]
     requires words { All (IsDepthWord (length paints.now)) words.now }
     ensures { result ≡ folded under paints.now words.now }
 {
     let mut colour = under;
     for word in words {
-        let above = laid_over(colour, paint_of(*word, paints));
+        let above = composite_over(colour, paint_of(*word, paints));
         colour = above;
     }
     colour

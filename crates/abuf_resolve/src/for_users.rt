@@ -7,10 +7,10 @@ ghost use Rattle.abuf_raster.specs.Samples.{offsets_of};
 ghost use Rattle.abuf_resolve.specs.Sums.{IsSmall};
 ghost use Rattle.abuf_resolve.specs.Words.{folded, frame_sums, hides, AreFragmentLists, IsDepthWord};
 
-use crate::fold::{hides, lay_all};
+use crate::fold::{composite_all, hides};
 use crate::planes::Planes;
-use crate::scene::Scene;
-use crate::scene::threads::resolve_counted;
+use crate::shading::Shading;
+use crate::shading::threads::resolve_counted;
 use abuf_frame::Closed;
 use abuf_num::{List, NoMemory, Paint, PixelSum};
 use abuf_raster::{Pattern, Region, ScreenTri};
@@ -25,7 +25,7 @@ pub fn sample_colour(sorted: &[u64], paints: &[Paint], background: [u16; 3]) -> 
     ensures { result ≡ folded background paints.now sorted.now }
 {
     let first = first_seen(sorted, paints);
-    lay_all(background, &sorted[first..], paints)
+    composite_all(background, &sorted[first..], paints)
 }
 
 /// The place of the last word whose paint hides what lies under it, or 0: nothing below it is seen.
@@ -65,12 +65,12 @@ pub fn resolve<R: Threads + Sync>(
     ensures value { IfOk result (λ sums. sums ≡ frame_sums (offsets_of pattern) background tris.now paints.now region closed.now.lists) }
     ensures small { IfOk result (λ sums. All (IsSmall (length (offsets_of pattern))) sums) }
 {
-    let scene = Scene {
+    let shading = Shading {
         planes: Planes::new(alloc, tris)?,
         paints,
         pattern,
         background,
     };
-    let all = resolve_counted(rt, alloc, closed, region, &scene, threads)?;
+    let all = resolve_counted(rt, alloc, closed, region, &shading, threads)?;
     Ok(all.sums)
 }

@@ -2,10 +2,10 @@
 ghost use Rattle.std.specs.Prelude.{◌≡◌, ◌/◌, ◌<◌, ◌≤◌, ◌^◌, true, nat_lt, length, IfOk};
 ghost use Rattle.abuf_raster.specs.Packing.{unpacked};
 ghost use Rattle.abuf_resolve.specs.Colour.{paint_at};
-ghost use Rattle.abuf_resolve.specs.Over.{laid_over};
+ghost use Rattle.abuf_resolve.specs.Over.{composite_over};
 ghost use Rattle.abuf_resolve.specs.Words.{depth_word, prim_of, sample_word, sample_words, has_sample, IsDepthWord, IsFragmentAt, IsPainted};
 
-use crate::fold::laid_over;
+use crate::fold::composite_over;
 use abuf_num::Paint;
 
 /// A fragment's word: its primitive number times 2^16, plus its coverage mask. So the mask is in the lower 16 bits.
@@ -40,11 +40,11 @@ impl FragmentWord {
 
     /// A colour with the paint of its primitive laid over it.
     #[inline(always)]
-    pub(crate) fn laid_over(self, under: [u16; 3], paints: &[Paint]) -> [u16; 3]
+    pub(crate) fn composite_over(self, under: [u16; 3], paints: &[Paint]) -> [u16; 3]
         requires { IsPainted paints.now self.0 }
-        ensures { result ≡ laid_over under (paint_at paints.now (unpacked self.0).prim) }
+        ensures { result ≡ composite_over under (paint_at paints.now (unpacked self.0).prim) }
     {
-        laid_over(under, paints[self.primitive() as usize])
+        composite_over(under, paints[self.primitive() as usize])
     }
 }
 

@@ -12,21 +12,21 @@
 //! sample of its pixel. Only resolving and the planes take memory.
 #![tactic(auto)]
 
+mod colour_sum;
 mod fold;
 mod for_users;
 mod fragment_words;
-mod having;
 pub mod laws;
 mod order;
 mod planes;
-mod scene;
-mod tally;
+mod sample_hits;
+mod shading;
 
-pub use fold::{laid_over, over};
+pub use fold::{composite_over, over};
 pub use for_users::{resolve, sample_colour};
 pub use fragment_words::{FragmentWord, SampleWord};
 pub use planes::Planes;
-pub use scene::pixels::plus;
-pub use scene::runs::Resolved;
-pub use scene::threads::resolve_counted;
-pub use scene::{Pixel, Scene};
+pub use shading::pixels::plus;
+pub use shading::spans::Resolved;
+pub use shading::threads::resolve_counted;
+pub use shading::{Pixel, Shading};

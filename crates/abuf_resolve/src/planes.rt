@@ -8,13 +8,13 @@ ghost use Rattle.abuf_raster.specs.Coverage.{covers};
 ghost use Rattle.abuf_raster.specs.Depth.{depth_key, HasNoKeyAbove, HasNoKeyBelow};
 ghost use Rattle.abuf_resolve.specs.Colour.{triangle_at};
 ghost use Rattle.abuf_resolve.specs.Keys.{NoKeyBelow, NoKeyAbove, NoWordAbove};
-ghost use Rattle.abuf_resolve.specs.Made.{depth_range, IsOf};
+ghost use Rattle.abuf_resolve.specs.Precomputed.{depth_range, IsOf};
 ghost use Rattle.abuf_resolve.specs.Order.{in_order};
 ghost use Rattle.abuf_resolve.specs.Words.{sample_word, sample_words, has_sample, IsDepthWord, IsFragmentAt};
 
 use crate::fragment_words::{FragmentWord, SampleWord};
 use crate::order::put_in_order;
-use crate::scene::Pixel;
+use crate::shading::Pixel;
 use abuf_num::NoMemory;
 use abuf_raster::{DepthPlane, Pattern, ScreenTri};
 use std::alloc::Global;
@@ -22,7 +22,7 @@ use std::marker::Model;
 
 /// What was worked out of triangles, in their order.
 #[derive(Drop)]
-pub(crate) struct Made {
+pub(crate) struct Precomputed {
     pub(crate) planes: Vec<DepthPlane>,
     /// The least and the greatest depth value of each. They lie apart from the planes, since they are asked for far more often: in the
     /// caches there is room for many more of them.
@@ -35,13 +35,13 @@ pub(crate) struct Made {
 pub struct Planes<'a> {
     tris: &'a [ScreenTri],
     /// None where it is worked out when it is asked for.
-    made: Option<Made>,
+    precomputed: Option<Precomputed>,
 }
 
 impl<'a> Model for Planes<'a> {
     ghost use Rattle.std.specs.Prelude.{List, IfSome};
     ghost use Rattle.abuf_raster.specs.Triangle.{Triangle};
-    ghost use Rattle.abuf_resolve.specs.Made.{IsOf};
+    ghost use Rattle.abuf_resolve.specs.Precomputed.{IsOf};
     ghost use Rattle.abuf_resolve.specs.Order.{in_order};
     ghost use Rattle.abuf_resolve.specs.Words.{sample_word, sample_words, has_sample, IsDepthWord, IsFragmentAt};
 
@@ -49,7 +49,7 @@ impl<'a> Model for Planes<'a> {
 
     ghost view = { λ p. p.tris.now };
 
-    ghost invariant = { λ p. IfSome p.made (IsOf p.tris.now) };
+    ghost invariant = { λ p. IfSome p.precomputed (IsOf p.tris.now) };
 }
 
 /// Where bounds of a triangle's depth keys hold.
@@ -78,14 +78,14 @@ fn depth_range(t: &ScreenTri) -> Bounds
     ensures small { result.high ≤ MAX_DEPTH }
 {
     Bounds {
-        low: t.least_depth(),
-        high: t.greatest_depth(),
+        low: t.min_depth(),
+        high: t.max_depth(),
     }
 }
 
 /// What is worked out of the triangles, on one thread. Several were slower: their lists would have to be copied together, into
 /// memory that the system clears first, and that takes longer than the planes.
-fn made_of(alloc: Global, tris: &[ScreenTri]) -> Result<Made, NoMemory>
+fn precompute(alloc: Global, tris: &[ScreenTri]) -> Result<Precomputed, NoMemory>
     ensures { IfOk result (IsOf tris.now) }
 {
     let mut planes = Vec::with_capacity(alloc, tris.len())?;
@@ -94,7 +94,7 @@ fn made_of(alloc: Global, tris: &[ScreenTri]) -> Result<Made, NoMemory>
         planes.push(DepthPlane::new(t))?;
         ranges.push(depth_range(t))?;
     }
-    Ok(Made { planes, ranges })
+    Ok(Precomputed { planes, ranges })
 }
 
 impl<'a> Planes<'a> {
@@ -102,10 +102,10 @@ impl<'a> Planes<'a> {
     pub fn new(alloc: Global, tris: &'a [ScreenTri]) -> Result<Planes<'a>, NoMemory>
         ensures { IfOk result (λ planes. planes ≡ tris.now) }
     {
-        let made = made_of(alloc, tris)?;
+        let precomputed = precompute(alloc, tris)?;
         Ok(Planes {
             tris,
-            made: Some(made),
+            precomputed: Some(precomputed),
         })
     }
 
@@ -113,7 +113,10 @@ impl<'a> Planes<'a> {
     pub fn on_demand(tris: &'a [ScreenTri]) -> Planes<'a>
         ensures { result ≡ tris.now }
     {
-        Planes { tris, made: None }
+        Planes {
+            tris,
+            precomputed: None,
+        }
     }
 
     fn triangles(&self) -> &[ScreenTri]
@@ -143,8 +146,8 @@ impl<'a> Planes<'a> {
         ensures small { result ≤ MAX_DEPTH }
     {
         let t = &self.triangles()[prim as usize];
-        match &self.made {
-            Some(made) => made.planes[prim as usize].key(t, at.x, at.y, pattern, k),
+        match &self.precomputed {
+            Some(precomputed) => precomputed.planes[prim as usize].key(t, at.x, at.y, pattern, k),
             None => Planes::key_on_demand(t, at, pattern, k),
         }
     }
@@ -158,8 +161,8 @@ impl<'a> Planes<'a> {
         ensures rising { result.low ≤ result.high }
         ensures small { result.high ≤ MAX_DEPTH }
     {
-        match &self.made {
-            Some(made) => made.ranges[prim as usize],
+        match &self.precomputed {
+            Some(precomputed) => precomputed.ranges[prim as usize],
             None => depth_range(&self.triangles()[prim as usize]),
         }
     }
@@ -183,8 +186,8 @@ impl<'a> Planes<'a> {
         ensures high { NoKeyAbove (triangle_at self.now prim) (offsets_of pattern) at.x at.y result.high }
     {
         let t = &self.triangles()[prim as usize];
-        let (low, high) = match &self.made {
-            Some(made) => made.planes[prim as usize].bounds(t, at.x, at.y, pattern),
+        let (low, high) = match &self.precomputed {
+            Some(precomputed) => precomputed.planes[prim as usize].bounds(t, at.x, at.y, pattern),
             None => DepthPlane::new(t).bounds(t, at.x, at.y, pattern),
         };
         Bounds { low, high }

@@ -13,7 +13,7 @@ use std::thread::Threads;
 
 /// What came of a command.
 #[derive(Drop)]
-pub(crate) struct Outcome {
+pub(crate) struct CommandOutcome {
     pub status: u8,
     pub closed: Option<Closed>,
     pub out: MemSink,
@@ -64,7 +64,7 @@ pub(crate) fn carry_out<R: Threads + Sync>(
     scene: &str,
     held: &str,
     outside: Outside,
-) -> Result<Outcome, Fail> {
+) -> Result<CommandOutcome, Fail> {
     let scene = List::from_vec(bytes_of(alloc, scene)?);
     let held = held_of(alloc, held)?;
     carry_out_over(rt, alloc, words, scene, held, outside)
@@ -78,7 +78,7 @@ pub(crate) fn carry_out_over<R: Threads + Sync>(
     scene: List<u8>,
     held: List<(List<u8>, List<u8>)>,
     outside: Outside,
-) -> Result<Outcome, Fail> {
+) -> Result<CommandOutcome, Fail> {
     let Outside {
         reads,
         writes,
@@ -99,7 +99,7 @@ pub(crate) fn carry_out_over<R: Threads + Sync>(
         &mut out,
         &mut err,
     );
-    Ok(Outcome {
+    Ok(CommandOutcome {
         status: ran.status,
         closed: ran.closed,
         out,
@@ -159,7 +159,11 @@ pub(crate) fn images(alloc: Global, pictures: &str) -> Result<Vec<u8>, Fail> {
 
 /// Whether the command is answered so: by the number of the status, after other than 0 by a line on the standard error, and by
 /// pictures.
-pub(crate) fn is_answer(alloc: Global, outcome: &Outcome, answer: &str) -> Result<bool, Fail> {
+pub(crate) fn is_answer(
+    alloc: Global,
+    outcome: &CommandOutcome,
+    answer: &str,
+) -> Result<bool, Fail> {
     let (status, said) = answer.split_once(' ').unwrap_or((answer, ""));
     let number = format!(in alloc; "{}", outcome.status)?;
     if number.as_str() != status {
@@ -176,7 +180,7 @@ pub(crate) fn is_answer(alloc: Global, outcome: &Outcome, answer: &str) -> Resul
 }
 
 /// Whether the command wrote just these bytes, given as in a table.
-pub(crate) fn is_text(alloc: Global, outcome: &Outcome, text: &str) -> Result<bool, Fail> {
+pub(crate) fn is_text(alloc: Global, outcome: &CommandOutcome, text: &str) -> Result<bool, Fail> {
     let bytes = bytes_of(alloc, text)?;
     Ok(
         outcome.status == 0

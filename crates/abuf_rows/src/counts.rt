@@ -1,5 +1,5 @@
 // Scenes and libraries that go one past a limit, and the longest of them.
-use crate::command::{Outcome, Outside, carry_out_over, is_answer};
+use crate::command::{CommandOutcome, Outside, carry_out_over, is_answer};
 use abuf_num::List;
 use std::alloc::Global;
 use std::test::Fail;
@@ -29,7 +29,7 @@ fn numbered(alloc: Global, keyword: &str, count: u32) -> Result<Vec<u8>, Fail> {
 }
 
 // The outcome of a scene, without libraries.
-fn drawn<R: Threads + Sync>(rt: &R, alloc: Global, scene: Vec<u8>) -> Result<Outcome, Fail> {
+fn drawn<R: Threads + Sync>(rt: &R, alloc: Global, scene: Vec<u8>) -> Result<CommandOutcome, Fail> {
     let scene = List::from_vec(scene);
     carry_out_over(
         rt,
@@ -46,7 +46,7 @@ fn with_library<R: Threads + Sync>(
     rt: &R,
     alloc: Global,
     library: Vec<u8>,
-) -> Result<Outcome, Fail> {
+) -> Result<CommandOutcome, Fail> {
     let scene = List::from_vec(b"mtllib a.mtl\n".to_vec(alloc)?);
     let name = List::from_vec(b"a.mtl".to_vec(alloc)?);
     let mut held = List::new(alloc);

@@ -1,6 +1,6 @@
 // Sequences of images: a path file, one image after another, and where they end early.
 use crate::command::{
-    Outcome, Outside, all_answer, carry_out, carry_out_over, images, is_answer, words_answer,
+    CommandOutcome, Outside, all_answer, carry_out, carry_out_over, images, is_answer, words_answer,
 };
 use crate::outside::{bytewise, cut};
 use crate::table::{column, is_case};
@@ -194,7 +194,7 @@ fn follow_long<R: Threads + Sync>(
     alloc: Global,
     words: &str,
     path: List<u8>,
-) -> Result<Outcome, Fail> {
+) -> Result<CommandOutcome, Fail> {
     let mut held = List::new(alloc);
     held.push((List::from_vec(b"p".to_vec(alloc)?), path))?;
     let none = List::new(alloc);

@@ -1,4 +1,4 @@
--- Pieces that are written into a buffer.
+-- Texts of numbers that are written into a buffer.
 use Rattle.std.proofs.Common.{◌≡◌, ◌∙◌, ◌+◌, ◌≤◌, ◌<◌, ◌++◌, ◌∷◌, [], ℕ, suc, ℤ, pos, negsuc, unsigned_abs, List, ap, sym, subst, take, drop, length, get_or, set, arith, length-append, append_assoc, codes, decimal, ⊎_elim}
 use Rattle.std.proofs.Math.Seq.{take-append-add, take-length, take-suc-set, get_or-append_seam}
 use Rattle.std.proofs.Math.ListN.{get_or-append}
@@ -8,8 +8,8 @@ use Rattle.std.proofs.lemmas.List.{length-take-le, take-append-le, take-append-d
 use Rattle.std.proofs.lemmas.Simd.{take_more_put_chunk}
 use lib.Lanes.{put_chunk, chunk}
 use Rattle.abuf_scene.specs.Demo.{coordinate}
-use Rattle.abuf_scene.specs.Drawing.{drawn, IsPiece, AreDrawn}
-use Rattle.abuf_scene.specs.declared.pieces.Piece.{Piece}
+use Rattle.abuf_scene.specs.Drawing.{drawn, IsNumberText, AreDrawn}
+use Rattle.abuf_scene.specs.declared.number_texts.NumberText.{NumberText}
 
 -- the first bytes of eight that were written stand behind what stood before them
 pub put_is : (at n : ℕ) (buf bytes : List ℕ) → at + 8 ≤ length buf → length bytes ≡ 8 → n ≤ 8 → take (at + n) (put_chunk at buf (chunk 0 8 bytes)) ≡ take at buf ++ take n bytes
@@ -32,7 +32,7 @@ unfolding coordinate
 coordinate_short (pos n) small = omega (arith, length-append (decimal n) (codes "e-2"), length-decimal-le 3 n (omega arith) (omega arith) (omega arith))
 coordinate_short (negsuc n) small = omega (arith, length-append (45 ∷ decimal (suc n)) (codes "e-2"), length-decimal-le 3 (suc n) (omega arith) (omega arith) (omega arith))
 
--- the line of a point, by pieces
+-- the line of a point, by the texts of its numbers
 pub point_is : (x y z : List ℕ) → codes "v " ++ x ++ codes " " ++ y ++ codes " " ++ z ++ codes "\n" ≡ (118 ∷ []) ++ (32 ∷ x) ++ (32 ∷ y) ++ (32 ∷ z) ++ 10 ∷ []
 point_is x y z =
     ap (λ (l : List ℕ). l ++ codes " " ++ z ++ codes "\n") (append_assoc (codes "v " ++ x) (codes " ") y)
@@ -42,16 +42,16 @@ point_is x y z =
 pub take_more_set : (i y : ℕ) (buf : List ℕ) → i < length buf → take (i + 1) (set buf i y) ≡ take i buf ++ y ∷ []
 take_more_set i y buf within = let next : i + 1 ≡ suc i = omega arith in ap (λ (k : ℕ). take k (set buf i y)) next ∙ take-suc-set buf i y within
 
--- the piece of the next number
-pub drawn_more : (pieces : List Piece) (p : Piece) (n : ℕ) → length pieces ≡ n → AreDrawn pieces → IsPiece (drawn n) p → AreDrawn (pieces ++ p ∷ [])
-drawn_more pieces p n size before is = λ i d within.
+-- the text of the next number
+pub drawn_more : (number_texts : List NumberText) (p : NumberText) (n : ℕ) → length number_texts ≡ n → AreDrawn number_texts → IsNumberText (drawn n) p → AreDrawn (number_texts ++ p ∷ [])
+drawn_more number_texts p n size before is = λ i d within.
     ⊎_elim
-    (λ (below : i < length pieces). subst (λ (q : Piece). IsPiece (drawn i) q) (sym (get_or-append pieces (p ∷ []) d i below)) (before i d below))
-    (λ (past : length pieces ≤ i).
-    let last : i ≡ length pieces = omega (arith, length-append pieces (p ∷ [])) in
-    let found : get_or (pieces ++ p ∷ []) i d ≡ p = ap (λ (k : ℕ). get_or (pieces ++ p ∷ []) k d) last ∙ get_or-append_seam pieces p [] d in
-    subst (λ (q : Piece). IsPiece (drawn i) q) (sym found) (subst (λ (k : ℕ). IsPiece (drawn k) p) (sym (last ∙ size)) is))
-    (cases_lt i (length pieces))
+    (λ (below : i < length number_texts). subst (λ (q : NumberText). IsNumberText (drawn i) q) (sym (get_or-append number_texts (p ∷ []) d i below)) (before i d below))
+    (λ (past : length number_texts ≤ i).
+    let last : i ≡ length number_texts = omega (arith, length-append number_texts (p ∷ [])) in
+    let found : get_or (number_texts ++ p ∷ []) i d ≡ p = ap (λ (k : ℕ). get_or (number_texts ++ p ∷ []) k d) last ∙ get_or-append_seam number_texts p [] d in
+    subst (λ (q : NumberText). IsNumberText (drawn i) q) (sym found) (subst (λ (k : ℕ). IsNumberText (drawn k) p) (sym (last ∙ size)) is))
+    (cases_lt i (length number_texts))
 
 -- a text behind a byte
 pub piece_fits : (old before text out : List ℕ) → out ≡ old ++ before ++ text → length old ≡ 0 → length before ≡ 1 → length text ≤ 7 → length out ≤ 8

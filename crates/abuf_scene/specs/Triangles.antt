@@ -32,7 +32,7 @@ fan points corners paint = map (triangle points corners paint) (range_with_len 1
 abbrev pub Look : Type 0
 Look = List ℕ → Option Paint
 
--- the paint of a face by its name's place among the names; none where the name has no material. A face without a name has that
+-- the paint of a face by its name's index among the names; none where the name has no material. A face without a name has that
 -- of a new material.
 abbrev pub paint_by : Look → List (List ℕ) → Option ℕ → Option Paint
 paint_by look names None = Some white

@@ -6,7 +6,7 @@ ghost use Rattle.abuf_scene.specs.Triangles.{paint_by, triangles_of, triangles_b
 ghost use Rattle.abuf_scene.specs.Lookup.{look_up, line_if_none};
 ghost use Rattle.abuf_scene.specs.declared.assembly.SceneFault.TheVariants.{Memory};
 
-use crate::fans::{paint_of, push_fan};
+use crate::triangle_fans::{paint_of, push_fan};
 use crate::triangles::{Scene, Triangle};
 use abuf_mtl::Materials;
 use abuf_num::{List, NoMemory};

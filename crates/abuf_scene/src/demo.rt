@@ -3,7 +3,7 @@ ghost use Rattle.std.specs.Prelude.{◌≡◌, ◌≤◌, ◌<◌, ◌/◌, ◌^
 ghost use Rattle.abuf_scene.specs.Demo.{step, face, obj, library};
 ghost use Rattle.abuf_scene.specs.Drawing.{three, vertex_from, lines_from, AreDrawn};
 
-use crate::pieces::{Piece, drawn_pieces, put};
+use crate::number_texts::{NumberText, drawn_texts, put};
 use abuf_num::{List, NoMemory};
 use itoa::Buffer;
 use std::alloc::Global;
@@ -37,31 +37,35 @@ impl Register {
 
 // Writes the line of a point at the start of a buffer, with the next three numbers, and tells where it ends.
 #[inline(always)]
-fn put_vertex(buf: &mut [u8], pieces: &[Piece], register: &mut Register) -> usize
+fn put_vertex(buf: &mut [u8], number_texts: &[NumberText], register: &mut Register) -> usize
     requires room { length buf.old ≡ 32 }
-    requires pieces { AreDrawn pieces.now }
-    requires count { length pieces.now ≡ 256 }
+    requires number_texts { AreDrawn number_texts.now }
+    requires count { length number_texts.now ≡ 256 }
     ensures register { register.new.s ≡ three register.old.s }
     ensures line { take result buf.new ≡ vertex_from register.old.s }
     ensures within { result ≤ length buf.new }
 {
     buf[0] = b'v';
-    let x = put(buf, 1, pieces[register.draw()]);
-    let y = put(buf, x, pieces[register.draw()]);
-    let z = put(buf, y, pieces[register.draw()]);
+    let x = put(buf, 1, number_texts[register.draw()]);
+    let y = put(buf, x, number_texts[register.draw()]);
+    let z = put(buf, y, number_texts[register.draw()]);
     buf[z] = b'\n';
     z + 1
 }
 
 // Puts the line of a point last, with the next three numbers.
-fn push_vertex(out: &mut Vec<u8>, pieces: &[Piece], register: &mut Register) -> Result<(), NoMemory>
-    requires pieces { AreDrawn pieces.now }
-    requires count { length pieces.now ≡ 256 }
+fn push_vertex(
+    out: &mut Vec<u8>,
+    number_texts: &[NumberText],
+    register: &mut Register,
+) -> Result<(), NoMemory>
+    requires number_texts { AreDrawn number_texts.now }
+    requires count { length number_texts.now ≡ 256 }
     ensures register { register.new.s ≡ three register.old.s }
     ensures line { OnOk result (out.new.items ≡ out.old.items ++ vertex_from register.old.s) }
 {
     let mut buf = [0; 32];
-    let end = put_vertex(&mut buf, pieces, register);
+    let end = put_vertex(&mut buf, number_texts, register);
     out.extend_from_slice(&buf[..end])?;
     Ok(())
 }
@@ -89,18 +93,18 @@ fn push_face(out: &mut Vec<u8>, i: u32) -> Result<(), NoMemory>
 #[tactic(auto, unfolding(crate::specs::Drawing::lines_from))]
 fn push_lines(
     out: &mut Vec<u8>,
-    pieces: &[Piece],
+    number_texts: &[NumberText],
     register: &mut Register,
     i: u32,
 ) -> Result<(), NoMemory>
-    requires pieces { AreDrawn pieces.now }
-    requires count { length pieces.now ≡ 256 }
+    requires number_texts { AreDrawn number_texts.now }
+    requires count { length number_texts.now ≡ 256 }
     ensures register { OnOk result (register.new.s ≡ three (three (three register.old.s))) }
     ensures lines { OnOk result (out.new.items ≡ out.old.items ++ lines_from register.old.s i) }
 {
-    push_vertex(out, pieces, register)?;
-    push_vertex(out, pieces, register)?;
-    push_vertex(out, pieces, register)?;
+    push_vertex(out, number_texts, register)?;
+    push_vertex(out, number_texts, register)?;
+    push_vertex(out, number_texts, register)?;
     push_face(out, i)?;
     Ok(())
 }
@@ -109,10 +113,10 @@ fn obj_bytes(alloc: Global, number: u32) -> Result<Vec<u8>, NoMemory>
     ensures { IfOk result (λ out. out.items ≡ obj number) }
 {
     let mut register = Register { s: number };
-    let pieces = drawn_pieces(alloc)?;
+    let number_texts = drawn_texts(alloc)?;
     let mut out = Vec::from_slice(alloc, b"mtllib demo.mtl\n")?;
     for i in 0..number {
-        push_lines(&mut out, pieces.as_slice(), &mut register, i)?;
+        push_lines(&mut out, number_texts.as_slice(), &mut register, i)?;
     }
     Ok(out)
 }

@@ -7,11 +7,11 @@
 
 mod assembly;
 mod demo;
-mod fans;
-mod pieces;
+mod number_texts;
+mod triangle_fans;
 mod triangles;
 
 pub use assembly::{SceneFault, assemble};
 pub use demo::{Made, make};
-pub use fans::{fan_triangle, paint_of};
+pub use triangle_fans::{fan_triangle, paint_of};
 pub use triangles::{Scene, Triangle};

@@ -5,14 +5,14 @@ use Rattle.abuf_num.specs.Texts.{scaled_number}
 use Rattle.abuf_text.specs.Lines.{lines}
 use Rattle.abuf_text.specs.Statement.{statement}
 use Rattle.abuf_view.specs.Camera.{IsTurn, IsBounded, quaternion_of, point_of}
-use Rattle.abuf_view.specs.Turns.{turn_part, turn_from}
+use Rattle.abuf_view.specs.Turns.{turn_component, turn_from}
 use Rattle.abuf_sequence.specs.declared.path.Shot.{Shot}
 use Rattle.abuf_sequence.specs.declared.path.PathWhy.{PathWhy}
 use Rattle.abuf_sequence.specs.declared.path.PathWhy.TheVariants as why_
 use Rattle.abuf_sequence.specs.declared.path.PathFault.{PathFault}
 use Rattle.abuf_sequence.specs.declared.path.PathFault.TheVariants as fault
 
--- A shift, where its three parts are numbers.
+-- A shift, where its three coordinates are numbers.
 abbrev pub shift_from : Option ℤ → Option ℤ → Option ℤ → Option (List ℤ)
 shift_from None y z = None
 shift_from (Some x) None z = None
@@ -25,12 +25,12 @@ shot_from None shift = Err why_.BadTurn
 shot_from (Some turn) None = Err why_.BadNumber
 shot_from (Some turn) (Some shift) = Ok (Some (record { turn = turn; shift = shift }))
 
--- What the tokens of a line say by themselves: nothing on a blank line, else the four parts of a turn, and the three of a
+-- What the tokens of a line say by themselves: nothing on a blank line, else the four components of a turn, and the three of a
 -- shift in decimal, taken times 65536.
 abbrev pub said : List (List ℕ) → Result (Option Shot) PathWhy
 said [] = Ok None
 said (a ∷ b ∷ c ∷ d ∷ x ∷ y ∷ z ∷ []) =
-    shot_from (turn_from (turn_part a) (turn_part b) (turn_part c) (turn_part d)) (shift_from (scaled_number 65536 x) (scaled_number 65536 y) (scaled_number 65536 z))
+    shot_from (turn_from (turn_component a) (turn_component b) (turn_component c) (turn_component d)) (shift_from (scaled_number 65536 x) (scaled_number 65536 y) (scaled_number 65536 z))
 said tokens = Err why_.WrongCount
 
 abbrev pub shots_by : Result (Option Shot) PathWhy → List Shot
@@ -79,6 +79,6 @@ IsPath bytes (Ok shots) = path bytes ≡ Ok shots
 IsPath bytes (Err (fault.Line line cause)) = path bytes ≡ Err (fault.Line line cause)
 IsPath bytes (Err fault.Memory) = Unit {0}
 
--- What every shot keeps to: a turn whose parts are from -1024 to 1024 and not all 0, and a shift of at most 2147483647 either way.
+-- What every shot keeps to: a turn whose components are from -1024 to 1024 and not all 0, and a shift of at most 2147483647 either way.
 abbrev pub IsShot : Shot → Type 0
 IsShot shot = IsTurn (quaternion_of shot.turn) × IsBounded (point_of shot.shift)

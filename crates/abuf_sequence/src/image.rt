@@ -33,7 +33,7 @@ fn camera_of(plan: &Plan, shot: Shot) -> Camera
         focal: plan.focal,
         near: plan.near,
     };
-    Camera::of_parts(plan.width, plan.height, shot.turn, shot.shift, lens)
+    Camera::new_unchecked(plan.width, plan.height, shot.turn, shot.shift, lens)
 }
 
 /// What an image of a plan is drawn into, with so many nodes, by so many threads.
@@ -75,8 +75,8 @@ fn sums_of<R: Threads + Sync>(
     let Job { shot, kept } = job;
     let camera = camera_of(plan, shot);
     let pool = target_of(plan, plan.nodes, threads);
-    let shown = project(alloc, scene, &camera)?;
-    let primitives = Primitives::of(&shown);
+    let projected = project(alloc, scene, &camera)?;
+    let primitives = Primitives::of(&projected);
     let closed = redraw(rt, alloc, &primitives, &pool, kept, &OpenGate)?;
     if let Some(full) = closed.full() {
         return Err(ImageFault::Full {

@@ -15,9 +15,9 @@ use std::alloc::Global;
 /// One image of a sequence: how the camera is turned and shifted for it.
 #[derive(Clone, Copy, Debug, PartialEq, Eq)]
 pub struct Shot {
-    /// A quaternion: each part from -1024 to 1024, and not all 0.
+    /// A quaternion: each component from -1024 to 1024, and not all 0.
     pub turn: [i32; 4],
-    /// The shift in units of 1/65536, each part at most 2147483647 either way.
+    /// The shift in units of 1/65536, each coordinate at most 2147483647 either way.
     pub shift: [i64; 3],
 }
 
@@ -54,7 +54,7 @@ impl From<NoMemory> for PathFault {
     }
 }
 
-/// The shift of the texts of its parts.
+/// The shift of the texts of its coordinates.
 fn shift_of_parts(x: &[u8], y: &[u8], z: &[u8]) -> Option<[i64; 3]>
     ensures value { result ≡ shift_from (scaled_number 65536 x.now) (scaled_number 65536 y.now) (scaled_number 65536 z.now) }
     ensures range { IfSome result (λ s. IsBounded (point_of s)) }

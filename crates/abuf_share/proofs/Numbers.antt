@@ -25,36 +25,36 @@ module _ {A : Type 0} (k : A → ℕ) where
   first_is e es a count up once = let at = once (k e) in let o = once a in
       ⊎_elim (λ (m : a < k e). let z = none_below a (e ∷ es) (λ i d w. let u = up 0 i d (omega arith) w in omega arith) in grind (arith, nat_tests)) (λ (m : k e ≤ a). grind (arith, nat_tests)) (cases_lt a (k e))
 
--- One of the numbers of two lists is beyond the parts where one of the second is.
-pub passed_both : (parts : ℕ) (ns ms : List ℕ) → HasPassed parts ms → HasPassed parts (ns ++ ms)
-passed_both parts ns ms p = record { number = p.number; is_beyond = p.is_beyond; taken = omega (arith, p.taken, times-append p.number ns ms) }
+-- One of the numbers of two lists is at or beyond the limit where one of the second is.
+pub passed_both : (limit : ℕ) (ns ms : List ℕ) → HasPassed limit ms → HasPassed limit (ns ++ ms)
+passed_both limit ns ms p = record { number = p.number; is_beyond = p.is_beyond; taken = omega (arith, p.taken, times-append p.number ns ms) }
 
 -- a list of one number that is beyond them
-pub passed_one : (parts number : ℕ) → parts ≤ number → HasPassed parts (number ∷ [])
-passed_one parts number l = let t = ap (λ (b : Bool). cond {A = ℕ} b 1 0) (eq-eqb number number refl) in record { number = number; is_beyond = l; taken = omega arith }
+pub passed_one : (limit number : ℕ) → limit ≤ number → HasPassed limit (number ∷ [])
+passed_one limit number l = let t = ap (λ (b : Bool). cond {A = ℕ} b 1 0) (eq-eqb number number refl) in record { number = number; is_beyond = l; taken = omega arith }
 
 module _ {F X : Type 0} (g : Shared F (ℕ × Unit {0}) (Result X NoMemory)) (f : F) where
   -- Two lists of results are a list of the results for both.
-  pub are_both : (parts : ℕ) (ns ms : List ℕ) (es ds : List (Entry X)) → AreOf g f parts ns es → AreOf g f parts ms ds → AreOf g f parts (ns ++ ms) (es ++ ds)
-  are_both parts ns ms es ds a b = record {
-    numbers = map-append number_of es ds ∙ ((λ i. a.numbers i ++ b.numbers i) ∙ sym (filter-append (λ (n : ℕ). nat_lt n parts) ns ms));
+  pub are_both : (limit : ℕ) (ns ms : List ℕ) (es ds : List (Entry X)) → AreOf g f limit ns es → AreOf g f limit ms ds → AreOf g f limit (ns ++ ms) (es ++ ds)
+  are_both limit ns ms es ds a b = record {
+    numbers = map-append number_of es ds ∙ ((λ i. a.numbers i ++ b.numbers i) ∙ sym (filter-append (λ (n : ℕ). nat_lt n limit) ns ms));
     given = All-append (IsGiven g f) es ds a.given b.given;
   }
 
-  -- For a number that is beyond the parts there is no result.
-  pub are_past : (parts number : ℕ) (ns : List ℕ) (es : List (Entry X)) → parts ≤ number → AreOf g f parts ns es → AreOf g f parts (ns ++ number ∷ []) es
-  are_past parts number ns es l a = record {
-    numbers = a.numbers ∙ (sym (append-nil (filter (λ (n : ℕ). nat_lt n parts) ns)) ∙ (ap (λ (b : Bool). filter (λ (n : ℕ). nat_lt n parts) ns ++ cond b (number ∷ []) []) (sym (le-ltb number parts l))
-        ∙ sym (filter-append (λ (n : ℕ). nat_lt n parts) ns (number ∷ []))));
+  -- For a number that is at or beyond the limit there is no result.
+  pub are_past : (limit number : ℕ) (ns : List ℕ) (es : List (Entry X)) → limit ≤ number → AreOf g f limit ns es → AreOf g f limit (ns ++ number ∷ []) es
+  are_past limit number ns es l a = record {
+    numbers = a.numbers ∙ (sym (append-nil (filter (λ (n : ℕ). nat_lt n limit) ns)) ∙ (ap (λ (b : Bool). filter (λ (n : ℕ). nat_lt n limit) ns ++ cond b (number ∷ []) []) (sym (le-ltb number limit l))
+        ∙ sym (filter-append (λ (n : ℕ). nat_lt n limit) ns (number ∷ []))));
     given = a.given;
   }
 
-  -- Where numbers are those below their count, each once, and one of them is beyond the parts, there is a result for each part.
-  once_each : (parts : ℕ) (ns : List ℕ) (es : List (Entry X)) → ((n : ℕ) → times n ns ≡ below n (length ns)) → HasPassed parts ns → AreOf g f parts ns es → (n : ℕ) → times n (map number_of es) ≡ below n parts
-  once_each parts ns es once past a n =
+  -- Where numbers are those below their count, each once, and one of them is at the limit or beyond it, there is a result for each number below.
+  once_each : (limit : ℕ) (ns : List ℕ) (es : List (Entry X)) → ((n : ℕ) → times n ns ≡ below n (length ns)) → HasPassed limit ns → AreOf g f limit ns es → (n : ℕ) → times n (map number_of es) ≡ below n limit
+  once_each limit ns es once past a n =
       let o = once past.number in let t = past.taken in let b = past.is_beyond in let l : past.number < length ns = below_from past.number (length ns) (omega arith) in
-      ap (times n) a.numbers ∙ (times_kept (λ (m : ℕ). nat_lt m parts) n ns
-      ∙ ⊎_elim (λ (w : n < parts). let y = below_yes n (length ns) (omega arith) in rw (lt-ltb n parts w) (once n ∙ y)) (λ (w : parts ≤ n). rw (le-ltb n parts w) refl) (cases_lt n parts))
+      ap (times n) a.numbers ∙ (times_kept (λ (m : ℕ). nat_lt m limit) n ns
+      ∙ ⊎_elim (λ (w : n < limit). let y = below_yes n (length ns) (omega arith) in rw (lt-ltb n limit w) (once n ∙ y)) (λ (w : limit ≤ n). rw (le-ltb n limit w) refl) (cases_lt n limit))
 
   -- Of ascending numbers from a on, each once, every one stands at its place.
   stand : (es : List (Entry X)) (a count : ℕ) → IsNonDecreasingBy number_of es → ((n : ℕ) → times n (map number_of es) + below n a ≡ below n (a + count)) → All (IsGiven g f) es
@@ -75,12 +75,12 @@ module _ {F X : Type 0} (g : Shared F (ℕ × Unit {0}) (Result X NoMemory)) (f 
       at is rest zero n d l s = let z : e.number ≡ n = omega arith in subst (λ (k : ℕ). FnReturns g f (k, tt) (Ok e.value)) z (All-head (IsGiven g f) e es given)
       at is rest (suc i) n d l s = rest i n d (omega arith) (omega arith)
 
-  -- Put in ascending order, the results are those for the parts from 0 on.
-  pub sorted_gives : (parts : ℕ) (ns : List ℕ) (es ss : List (Entry X)) → ((n : ℕ) → times n ns ≡ below n (length ns)) → HasPassed parts ns → AreOf g f parts ns es → IsPermutation es ss → IsNonDecreasingBy number_of ss
-      → (length (map value_of ss) ≡ parts) × GivesEachOk g f parts (map value_of ss)
-  sorted_gives parts ns es ss once past are p up =
-      let s = stand ss 0 parts up
-      (λ n. let o = once_each parts ns es once past are n in let t = times_permuted n (map number_of es) (map number_of ss) (IsPermutation-map number_of es ss p) in let z = below_no n 0 (omega arith) in
-      let e : 0 + parts ≡ parts = omega arith in let b = ap (below n) e in omega arith)
+  -- Put in ascending order, the results are those for the numbers from 0 on.
+  pub sorted_gives : (limit : ℕ) (ns : List ℕ) (es ss : List (Entry X)) → ((n : ℕ) → times n ns ≡ below n (length ns)) → HasPassed limit ns → AreOf g f limit ns es → IsPermutation es ss → IsNonDecreasingBy number_of ss
+      → (length (map value_of ss) ≡ limit) × GivesEachOk g f limit (map value_of ss)
+  sorted_gives limit ns es ss once past are p up =
+      let s = stand ss 0 limit up
+      (λ n. let o = once_each limit ns es once past are n in let t = times_permuted n (map number_of es) (map number_of ss) (IsPermutation-map number_of es ss p) in let z = below_no n 0 (omega arith) in
+      let e : 0 + limit ≡ limit = omega arith in let b = ap (below n) e in omega arith)
       (All-permutation (IsGiven g f) es ss p are.given) in
       (length-map ss value_of ∙ s.0, λ i d l. (refl, s.1 i i d l (omega arith)))

@@ -13,5 +13,5 @@ mod desk;
 mod numbered;
 mod rule;
 
-pub use desk::{Desk, MAX_PARTS, Turn};
+pub use desk::{Desk, MAX_NUMBERS, Turn};
 pub use numbered::map_numbered;

@@ -1,11 +1,11 @@
 // Calls for numbers, shared among threads.
 ghost use Rattle.std.specs.Prelude.{ℕ, ◌≡◌, ◌+◌, ◌*◌, ◌^◌, ◌<◌, ◌≤◌, [], vec_len, All, IfOk, OnOk};
 ghost use Rattle.abuf_num.specs.declared.limits.TheConstants.{MAX_THREADS};
-ghost use Rattle.abuf_share.specs.Desk.{whole_hand};
+ghost use Rattle.abuf_share.specs.Desk.{whole_view};
 ghost use Rattle.abuf_share.specs.Numbered.{GivesEachOk, HasCalled, IsFresh};
-ghost use Rattle.abuf_share.specs.declared.desk.TheConstants.{MAX_PARTS};
+ghost use Rattle.abuf_share.specs.declared.desk.TheConstants.{MAX_NUMBERS};
 
-use crate::desk::{Desk, MAX_PARTS, Turn};
+use crate::desk::{Desk, MAX_NUMBERS, Turn};
 use abuf_num::NoMemory;
 use std::alloc::Global;
 use std::thread::{Threads, map_vec};
@@ -24,23 +24,23 @@ pub(crate) struct Done<X> {
     pub(crate) entries: Vec<Entry<X>>,
 }
 
-/// A turn for each worker, with credit for the numbers of all parts and one beyond.
+/// A turn for each worker, with credit for all numbers below the limit and one more.
 fn turns_of(
     alloc: Global,
     desk: &Desk,
     turn: &mut Turn,
     workers: u32,
 ) -> Result<Vec<Turn>, NoMemory>
-    requires turn { (turn.old.table ≡ desk.now.table) × (turn.old.hand ≡ whole_hand) }
+    requires turn { (turn.old.table ≡ desk.now.table) × (turn.old.view ≡ whole_view) }
     requires workers { workers ≤ MAX_THREADS }
     ensures table { turn.new.table ≡ turn.old.table }
-    ensures rest { OnOk result ((turn.new.hand.drawn ≡ []) × (turn.new.hand.credit + workers * (MAX_PARTS + 1) ≡ 2 ^ 60)) }
+    ensures rest { OnOk result ((turn.new.view.drawn ≡ []) × (turn.new.view.credit + workers * (MAX_NUMBERS + 1) ≡ 2 ^ 60)) }
     ensures len { IfOk result (λ turns. vec_len turns ≡ workers) }
     ensures each { IfOk result (λ turns. All (IsFresh desk.now) turns.items) }
 {
     let mut turns = Vec::with_capacity(alloc, workers as usize)?;
     for _worker in 0..workers {
-        let other = turn.split(desk, (MAX_PARTS + 1) as u64);
+        let other = turn.split(desk, (MAX_NUMBERS + 1) as u64);
         turns.push(other)?;
     }
     Ok(turns)
@@ -54,8 +54,8 @@ fn call_each<X: Drop, F: Fn(u32) -> Result<X, NoMemory>>(
     f: &F,
 ) -> Result<Done<X>, NoMemory>
     requires turn { IsFresh desk.now turn }
-    requires parts { desk.now.parts ≤ MAX_PARTS }
-    requires accepts { (i : ℕ) → i < desk.now.parts → F.pre f.now i }
+    requires limit { desk.now.limit ≤ MAX_NUMBERS }
+    requires accepts { (i : ℕ) → i < desk.now.limit → F.pre f.now i }
     ensures { IfOk result (λ done. HasCalled F.Fn f.now desk.now done) }
 {
     let mut entries = Vec::new(alloc);
@@ -76,7 +76,7 @@ pub fn map_numbered<R: Threads + Sync, X: Send + Drop, F: Fn(u32) -> Result<X, N
     threads: u32,
     f: &F,
 ) -> Result<Vec<X>, NoMemory>
-    requires count { count ≤ MAX_PARTS }
+    requires count { count ≤ MAX_NUMBERS }
     requires threads { (1 ≤ threads) × (threads ≤ MAX_THREADS) }
     requires accepts { (i : ℕ) → i < count → F.pre f.now i }
     ensures len { IfOk result (λ v. vec_len v ≡ count) }

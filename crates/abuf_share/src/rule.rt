@@ -3,21 +3,21 @@ use atomic_table::{Join, Play, Seat, Shared, Split, TableRule};
 use std::marker::{Brand, PhantomData};
 
 /// What a turn knows. No value of this type is ever made: a clause reads the array as a list.
-pub struct Hand {
+pub struct TurnView {
     /// How many numbers it may still draw.
     pub credit: u64,
     pub drawn: [u64; 0],
 }
 
 /// The rule of a desk.
-pub struct Numbers;
+pub struct DeskRule;
 
-impl TableRule<(), Hand, ()> for Numbers {
-    ghost use Rattle.abuf_share.specs.Desk.{Lawful, whole_hand};
+impl TableRule<(), TurnView, ()> for DeskRule {
+    ghost use Rattle.abuf_share.specs.Desk.{Lawful, whole_view};
 
     ghost holds = { λ _. Lawful };
 
-    ghost first = { λ _. whole_hand };
+    ghost first = { λ _. whole_view };
 }
 
 /// How much credit moves to the turn that is split off.
@@ -32,11 +32,11 @@ impl Moved for Brand {
 }
 
 /// The split that moves this credit.
-pub struct SplitOff<N> {
+pub struct TurnSplit<N> {
     moved: PhantomData<N>,
 }
 
-impl<N: Moved> Split<Hand> for SplitOff<N> {
+impl<N: Moved> Split<TurnView> for TurnSplit<N> {
     ghost use Rattle.abuf_share.specs.Desk.{holding, with_less};
     ghost use Rattle.std.specs.Prelude.{[]};
 
@@ -46,9 +46,9 @@ impl<N: Moved> Split<Hand> for SplitOff<N> {
 }
 
 /// The join that adds credits and numbers.
-pub struct Union;
+pub struct TurnJoin;
 
-impl Join<Hand> for Union {
+impl Join<TurnView> for TurnJoin {
     ghost use Rattle.abuf_share.specs.Desk.{holding, united};
     ghost use Rattle.std.specs.Prelude.{[]};
 
@@ -58,9 +58,9 @@ impl Join<Hand> for Union {
 }
 
 /// The addition that draws a number.
-pub struct Take;
+pub struct TakeStep;
 
-impl Play<(), Hand> for Take {
+impl Play<(), TurnView> for TakeStep {
     ghost use Rattle.abuf_share.specs.Desk.{Shown, drawing};
     ghost use Rattle.std.specs.Prelude.{◌≡◌, []};
 
@@ -68,16 +68,16 @@ impl Play<(), Hand> for Take {
 }
 
 /// The load that a turn makes after a join.
-pub struct Tell;
+pub struct CountStep;
 
-impl Play<(), Hand> for Tell {
+impl Play<(), TurnView> for CountStep {
     ghost use Rattle.abuf_share.specs.Desk.{EachOnceIfWhole};
     ghost use Rattle.std.specs.Prelude.{◌≡◌};
 
     ghost then = { λ _ me found now. (now ≡ me) × EachOnceIfWhole me.0 };
 }
 
-pub(crate) type Words = Shared<(), Hand, (), Numbers>;
+pub(crate) type Words = Shared<(), TurnView, (), DeskRule>;
 
 /// A turn's seat at the desk's table.
-pub(crate) type DeskSeat = Seat<(), Hand>;
+pub(crate) type DeskSeat = Seat<(), TurnView>;

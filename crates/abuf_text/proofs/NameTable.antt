@@ -10,7 +10,7 @@ use Rattle.std.proofs.lemmas.Bool.{cases_Bool, cases_lt}
 use Rattle.std.proofs.Math.ListN.{get_or-append}
 use Rattle.std.proofs.Math.Seq.{get_or-append_seam, take-append_seam}
 use Rattle.std.proofs.lemmas.List.{take-append-le}
-use Rattle.abuf_text.specs.Names.{place_of, IsEachOnce}
+use Rattle.abuf_text.specs.Names.{index_of, IsEachOnce}
 use Rattle.abuf_text.proofs.Places.{position-push, or_last}
 
 -- what the map has at a name
@@ -51,16 +51,16 @@ at_all true later n none = rw (none refl) refl
 at_all false None n none = refl
 at_all false (Some k) n none = refl
 
--- the places of the names, and of one more that is new
-pub place_of-push : (name other : List ℕ) (names : List (List ℕ)) → place_of name names ≡ None
-    → cond (bytes_eq name other) (Some (length names)) (place_of other names) ≡ place_of other (names ++ name ∷ [])
-place_of-push name other names none =
+-- the indices of the names, and of one more that is new
+pub index_of-push : (name other : List ℕ) (names : List (List ℕ)) → index_of name names ≡ None
+    → cond (bytes_eq name other) (Some (length names)) (index_of other names) ≡ index_of other (names ++ name ∷ [])
+index_of-push name other names none =
     let flip : bytes_eq other name ≡ bytes_eq name other = nat_list_eq_equiv.symm other name in
-    at_all (bytes_eq name other) (place_of other names) (length names) (λ same. subst (λ (l : List ℕ). place_of l names ≡ None) ((bytes_decides name other).0 same) none)
-    ∙ ap (λ same. or_last (place_of other names) same (length names)) (sym flip) ∙ sym (position-push (bytes_eq other) names name)
+    at_all (bytes_eq name other) (index_of other names) (length names) (λ same. subst (λ (l : List ℕ). index_of l names ≡ None) ((bytes_decides name other).0 same) none)
+    ∙ ap (λ same. or_last (index_of other names) same (length names)) (sym flip) ∙ sym (position-push (bytes_eq other) names name)
 
 -- a new name leaves each name once
-pub each_once-push : (names : List (List ℕ)) (name : List ℕ) → place_of name names ≡ None → IsEachOnce names → IsEachOnce (names ++ name ∷ [])
+pub each_once-push : (names : List (List ℕ)) (name : List ℕ) → index_of name names ≡ None → IsEachOnce names → IsEachOnce (names ++ name ∷ [])
 each_once-push names name none once = λ i here.
     let longer : length (names ++ name ∷ []) ≡ length names + 1 = length-append names (name ∷ []) in
     ⊎_elim
@@ -73,8 +73,8 @@ each_once-push names name none once = λ i here.
     rw (last, get_or-append_seam names name [] [], take-append_seam names (name ∷ [])) none)
     (cases_lt i (length names))
 
--- a new name has the last place
-pub place_of-last : (name : List ℕ) (names : List (List ℕ)) → place_of name names ≡ None → place_of name (names ++ name ∷ []) ≡ Some (length names)
-place_of-last name names none =
+-- a new name has the last index
+pub index_of-last : (name : List ℕ) (names : List (List ℕ)) → index_of name names ≡ None → index_of name (names ++ name ∷ []) ≡ Some (length names)
+index_of-last name names none =
     let same : bytes_eq name name ≡ true = (bytes_decides name name).1 refl in
-    sym (place_of-push name name names none) ∙ ap (λ v. cond v (Some (length names)) (place_of name names)) same
+    sym (index_of-push name name names none) ∙ ap (λ v. cond v (Some (length names)) (index_of name names)) same

@@ -1,6 +1,6 @@
 // A table of names.
 ghost use Rattle.std.specs.Prelude.{◌≡◌, ◌<◌, ◌≤◌, ◌^◌, ◌++◌, ◌∷◌, [], List as Items, ℕ, length, None, Some, IfOk, OnOk, OnErr};
-ghost use Rattle.abuf_text.specs.Names.{place_of, IsEachOnce};
+ghost use Rattle.abuf_text.specs.Names.{index_of, IsEachOnce};
 
 use abuf_num::{List, NoMemory};
 use std::alloc::Global;
@@ -13,7 +13,7 @@ use std::marker::Model;
 #[derive(Drop)]
 pub struct Names {
     list: Vec<List<u8>>,
-    places: BTreeMap<Vec<u8>, u32>,
+    indices: BTreeMap<Vec<u8>, u32>,
 }
 
 impl Model for Names {
@@ -21,13 +21,13 @@ impl Model for Names {
     ghost use Rattle.std.specs.BTreeMap.{get_by};
     ghost use Rattle.std.specs.Cmp.Lexicographic.{slice_cmp};
     ghost use Rattle.std.specs.Ordering.{nat_cmp};
-    ghost use Rattle.abuf_text.specs.Names.{FindsPlaces, IsEachOnce};
+    ghost use Rattle.abuf_text.specs.Names.{FindsIndices, IsEachOnce};
 
     ghost Value = { Items (Items ℕ) };
 
     ghost view = { λ n. n.list.items };
 
-    ghost invariant = { λ n. FindsPlaces (λ name. get_by (λ k. slice_cmp nat_cmp name k.items) n.places) n.list.items
+    ghost invariant = { λ n. FindsIndices (λ name. get_by (λ k. slice_cmp nat_cmp name k.items) n.indices) n.list.items
         × IsEachOnce n.list.items × (length n.list.items ≤ 2 ^ 32) };
 }
 
@@ -38,7 +38,7 @@ impl Names {
     {
         Names {
             list: Vec::new(alloc),
-            places: BTreeMap::new(alloc),
+            indices: BTreeMap::new(alloc),
         }
     }
 
@@ -49,33 +49,33 @@ impl Names {
         self.list.as_slice()
     }
 
-    /// The place of a name, if it is there.
+    /// The index of a name, if it is there.
     pub fn find(&self, name: &[u8]) -> Option<u32>
-        ensures { result ≡ place_of name.now self.now }
+        ensures { result ≡ index_of name.now self.now }
     {
-        self.places.get(name).copied()
+        self.indices.get(name).copied()
     }
 
     /// Puts a new name last.
     pub fn push(&mut self, alloc: Global, name: &[u8]) -> Result<(), NoMemory>
-        requires new { place_of name.now self.old ≡ None }
+        requires new { index_of name.now self.old ≡ None }
         requires few { length self.old < 2 ^ 32 }
         ensures ok { OnOk result (self.new ≡ self.old ++ name.now ∷ []) }
-        ensures place { OnOk result (place_of name.now self.new ≡ Some (length self.old)) }
+        ensures index { OnOk result (index_of name.now self.new ≡ Some (length self.old)) }
         ensures err { OnErr result (self.new ≡ self.old) }
     {
-        let place = self.list.len() as u32;
+        let index = self.list.len() as u32;
         let item = List::from_vec(name.to_vec(alloc)?);
         let key = name.to_vec(alloc)?;
         self.list.reserve(1)?;
-        self.places.insert(key, place)?;
+        self.indices.insert(key, index)?;
         self.list.push_reserved(item);
         Ok(())
     }
 
     /// A copy of the names.
-    pub fn copy(&self, alloc: Global) -> Result<Names, NoMemory>
-        ensures { IfOk result (λ copy. copy ≡ self.now) }
+    pub fn try_clone(&self, alloc: Global) -> Result<Names, NoMemory>
+        ensures { IfOk result (λ copied. copied ≡ self.now) }
     {
         with_all(alloc, self.list.as_slice())
     }
@@ -91,7 +91,7 @@ impl Names {
     pub fn into_list(self) -> List<List<u8>>
         ensures { result ≡ self }
     {
-        let Names { list, places: _ } = self;
+        let Names { list, indices: _ } = self;
         List::from_vec(list)
     }
 }

@@ -60,7 +60,7 @@ impl<'a> Statement<'a> {
     }
 
     /// A second statement with the tokens that are left, for a caller that counts them before it reads.
-    pub fn again(&self) -> Statement<'a>
+    pub fn clone(&self) -> Statement<'a>
         ensures { result ≡ self.now }
     {
         Statement { left: self.left }

@@ -5,7 +5,7 @@ use Rattle.std.specs.Io.KnownBytes.{Appends}
 use Rattle.abuf_io.specs.Sinks.{Taken}
 use Rattle.abuf_frame.specs.Closing.{Ended}
 use Rattle.abuf_num.specs.declared.plain.PixelSum.{PixelSum}
-use Rattle.abuf_resolve.specs.declared.scene.runs.Resolved.{Resolved}
+use Rattle.abuf_resolve.specs.declared.shading.spans.Resolved.{Resolved}
 use Rattle.abuf_cli.specs.declared.job.Storage.TheVariants.{OneFrame}
 use Rattle.abuf_cli.specs.declared.job.What.{What}
 use Rattle.abuf_cli.specs.declared.job.What.TheVariants as what

@@ -5,7 +5,7 @@ use Rattle.abuf_num.specs.declared.plain.PixelSum.{PixelSum}
 use Rattle.abuf_frame.specs.Closing.{Ended}
 use Rattle.abuf_io.specs.Sinks.{Taken}
 use Rattle.abuf_raster.specs.Samples.{offsets_of}
-use Rattle.abuf_resolve.specs.declared.scene.runs.Resolved.{Resolved}
+use Rattle.abuf_resolve.specs.declared.shading.spans.Resolved.{Resolved}
 use Rattle.abuf_pam.specs.Image as pam
 use Rattle.abuf_picture.specs.Resolving.{Subject, Way, Agrees, FitsIn}
 use Rattle.abuf_cli.specs.declared.job.What.{What}

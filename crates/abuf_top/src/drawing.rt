@@ -17,7 +17,7 @@ use std::marker::Model;
 pub struct Drawing {
     job: Job,
     what: What,
-    shown: Projected,
+    projected: Projected,
 }
 
 impl Model for Drawing {
@@ -28,18 +28,22 @@ impl Model for Drawing {
 
     ghost Value = { Drawing };
 
-    ghost view = { λ d. record { job = d.job; what = d.what; triangles = d.shown.tris; paints = d.shown.paints } };
+    ghost view = { λ d. record { job = d.job; what = d.what; triangles = d.projected.tris; paints = d.projected.paints } };
 
     ghost invariant = { λ d. (d.job.command ≡ command.Draw d.what) × IsJob d.job };
 }
 
 impl Drawing {
     /// The drawing of a job's scene.
-    pub fn new(job: Job, what: What, shown: Projected) -> Drawing
+    pub fn new(job: Job, what: What, projected: Projected) -> Drawing
         requires { job.command ≡ command.Draw what }
-        ensures { result ≡ record { job = job; what = what; triangles = shown.tris; paints = shown.paints } }
+        ensures { result ≡ record { job = job; what = what; triangles = projected.tris; paints = projected.paints } }
     {
-        Drawing { job, what, shown }
+        Drawing {
+            job,
+            what,
+            projected,
+        }
     }
 
     pub fn job(&self) -> &Job
@@ -56,11 +60,11 @@ impl Drawing {
         self.what
     }
 
-    pub fn shown(&self) -> &Projected
+    pub fn projected(&self) -> &Projected
         ensures triangles { result.now.tris ≡ self.now.triangles }
         ensures paints { result.now.paints ≡ self.now.paints }
     {
-        &self.shown
+        &self.projected
     }
 
     /// All pixels of the image.
@@ -76,7 +80,7 @@ impl Drawing {
         ensures triangles { result.triangles.now ≡ self.now.triangles }
         ensures paints { result.paints.now ≡ self.now.paints }
     {
-        Primitives::of(self.shown())
+        Primitives::of(self.projected())
     }
 
     /// What they are drawn into.

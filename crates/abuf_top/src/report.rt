@@ -184,7 +184,7 @@ pub fn report_of(
 {
     pixel_report(
         alloc,
-        drawing.shown().tris.as_slice(),
+        drawing.projected().tris.as_slice(),
         drawing.job().pattern(),
         drawing.region(),
         Pixel { x, y },

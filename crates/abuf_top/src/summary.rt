@@ -65,7 +65,7 @@ pub fn summary_from(
     let sum = sum_of_values(drawing, bytes.as_slice());
     let text = text_of(
         alloc,
-        drawing.shown().tris.as_slice().len(),
+        drawing.projected().tris.as_slice().len(),
         fragments,
         resolved.longest,
         sum,

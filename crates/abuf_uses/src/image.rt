@@ -19,18 +19,18 @@ use std::thread::Threads;
 pub fn image_of<R: Threads + Sync>(
     rt: &R,
     alloc: Global,
-    shown: &Projected,
+    projected: &Projected,
     target: &Target,
 ) -> Result<List<u8>, NoImage>
-    ensures bytes { IfOk result (λ bytes. bytes ≡ image_of shown.now.tris shown.now.paints target.now.pattern target.now.background target.now.region) }
-    ensures full { IfErr result (IsFullOrMemory shown.now.tris target.now.pattern target.now.region target.now.nodes) }
+    ensures bytes { IfOk result (λ bytes. bytes ≡ image_of projected.now.tris projected.now.paints target.now.pattern target.now.background target.now.region) }
+    ensures full { IfErr result (IsFullOrMemory projected.now.tris target.now.pattern target.now.region target.now.nodes) }
 {
     let Target {
         region,
         pattern,
         ..
     } = *target;
-    let primitives = Primitives::of(shown);
+    let primitives = Primitives::of(projected);
     let closed = draw(rt, alloc, &primitives, target, &OpenGate)?;
     if let Some(full) = closed.full() {
         return Err(NoImage::Full(full));
@@ -54,7 +54,7 @@ pub fn render<R: Threads + Sync>(
     requires camera { IsCamera camera.now }
     ensures { IfOk result (λ bytes. bytes ≡ file camera.now pattern scene.now library.now) }
 {
-    let shown = seen_by(rt, alloc, scene, library, camera)?;
+    let projected = seen_by(rt, alloc, scene, library, camera)?;
     let target = Target {
         region: Region::whole_image(camera.width(), camera.height()),
         pattern,
@@ -62,5 +62,5 @@ pub fn render<R: Threads + Sync>(
         nodes: MAX_NODES,
         threads: 2,
     };
-    image_of(rt, alloc, &shown, &target)
+    image_of(rt, alloc, &projected, &target)
 }

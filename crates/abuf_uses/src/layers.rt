@@ -14,16 +14,16 @@ use std::alloc::Global;
 /// fewer.
 pub fn lowest_layers(
     alloc: Global,
-    shown: &Projected,
+    projected: &Projected,
     region: Region,
     pattern: Pattern,
     background: [u16; 3],
     count: u32,
 ) -> Result<List<PixelSum>, NoMemory>
-    ensures { IfOk result (λ sums. sums ≡ lowest_sums (offsets_of pattern) background shown.now.tris shown.now.paints count region) }
+    ensures { IfOk result (λ sums. sums ≡ lowest_sums (offsets_of pattern) background projected.now.tris projected.now.paints count region) }
 {
-    let tris = shown.tris.as_slice();
-    let paints = shown.paints.as_slice();
+    let tris = projected.tris.as_slice();
+    let paints = projected.paints.as_slice();
     let mut layer = Layer::start(alloc, region, pattern, background)?;
     for _step in 0..count {
         layer.step(tris, paints);

@@ -109,11 +109,11 @@ fn films(alloc: Global) -> Result<Projected, Fail> {
 #[test]
 fn the_far_film_lies_lowest(rt: HostRuntime) -> Result<(), Fail> {
     let alloc = rt.alloc();
-    let shown = films(alloc)?;
+    let projected = films(alloc)?;
     let pixel = Region::whole_image(1, 1);
-    let one = lowest_layers(alloc, &shown, pixel, Pattern::One, [0; 3], 1)?;
+    let one = lowest_layers(alloc, &projected, pixel, Pattern::One, [0; 3], 1)?;
     assert_eq!(rt; one.as_slice()[0].channels, [32768, 0, 0]);
-    let all = lowest_layers(alloc, &shown, pixel, Pattern::One, [0; 3], 9)?;
+    let all = lowest_layers(alloc, &projected, pixel, Pattern::One, [0; 3], 9)?;
     assert_eq!(rt; all.as_slice()[0].channels, [16384, 32768, 0]);
     Ok(())
 }
@@ -122,7 +122,7 @@ fn the_far_film_lies_lowest(rt: HostRuntime) -> Result<(), Fail> {
 #[test]
 fn a_full_pool_is_told(rt: HostRuntime) -> Result<(), Fail> {
     let alloc = rt.alloc();
-    let shown = films(alloc)?;
+    let projected = films(alloc)?;
     let target = Target {
         region: Region::whole_image(1, 1),
         pattern: Pattern::One,
@@ -130,7 +130,7 @@ fn a_full_pool_is_told(rt: HostRuntime) -> Result<(), Fail> {
         nodes: 1,
         threads: 1,
     };
-    match image_of(&rt, alloc, &shown, &target) {
+    match image_of(&rt, alloc, &projected, &target) {
         Err(NoImage::Full(full)) => assert!(rt; full.fragments == 2 && full.nodes == 1),
         _ => assert!(rt; false),
     }

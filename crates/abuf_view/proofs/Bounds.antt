@@ -52,7 +52,7 @@ module _ (a b c d : ℤ) where
   pub diagonal_z : unsigned_abs (a *ℤ a -ℤ b *ℤ b -ℤ c *ℤ c +ℤ d *ℤ d) ≤ squares a b c d
   diagonal_z = rw (square_is a, square_is b, square_is c, square_is d) (omega (arith, ints))
 
-  -- Nor is twice the sum or the difference of two products of different parts.
+  -- Nor is twice the sum or the difference of two products of different components.
   twice_le : (z : ℤ) → unsigned_abs z ≤ unsigned_abs (b *ℤ c) + unsigned_abs (a *ℤ d) → unsigned_abs (pos 2 *ℤ z) ≤ squares a b c d
   twice_le z h =
       let p = twice_product (unsigned_abs b) (unsigned_abs c) in

@@ -11,7 +11,7 @@ use Rattle.abuf_view.specs.declared.near_plane.EyeTriangle.{EyeTriangle}
 use Rattle.abuf_view.specs.Camera.{Camera}
 use Rattle.abuf_view.specs.NearPlane.{clip_by}
 use Rattle.abuf_view.specs.declared.eye.Eye.{Eye}
-use Rattle.abuf_view.specs.Eye.{eye_of, clipped_by, shown_by, tris_by, paints_by}
+use Rattle.abuf_view.specs.Eye.{eye_of, clipped_by, on_screen_by, tris_by, paints_by}
 use Rattle.abuf_view.specs.Primitives.{Primitive, primitive, prims, prims_of}
 
 -- two pushes in a row
@@ -22,7 +22,7 @@ both_pushed f old mid new xs ys zs first second all =
 
 module _ (k : Camera) where
   -- What is made of all triangles are the triangles of the primitives.
-  pub tris_are : (ts : List Triangle) → flat_map (λ t. map (shown_by (eye_of k)) (clipped_by (eye_of k) t)) ts ≡ map (λ q. q.triangle) (prims k ts)
+  pub tris_are : (ts : List Triangle) → flat_map (λ t. map (on_screen_by (eye_of k)) (clipped_by (eye_of k) t)) ts ≡ map (λ q. q.triangle) (prims k ts)
   tris_are [] = refl
   tris_are (t ∷ ts) =
       ap₂ (λ (xs ys : List OnScreen). xs ++ ys) (sym (map-map (λ (q : Primitive). q.triangle) (primitive k t.paint) (clipped_by (eye_of k) t))) (tris_are ts)
@@ -38,9 +38,9 @@ module _ (k : Camera) where
 -- the parts of all triangles, as the eye of the camera sees them
 module _ (k : Camera) (e : Eye) (is : e ≡ eye_of k) (ts us : List Triangle) (same : us ≡ ts) (i : ℕ) (all : length us ≤ i) where
   -- The triangles.
-  pub all_tris : (made : List OnScreen) → made ≡ flat_map (λ t. map (shown_by e) (clipped_by e t)) (take i us) → made ≡ map (λ q. q.triangle) (prims k ts)
+  pub all_tris : (made : List OnScreen) → made ≡ flat_map (λ t. map (on_screen_by e) (clipped_by e t)) (take i us) → made ≡ map (λ q. q.triangle) (prims k ts)
   all_tris made h =
-      h ∙ (λ j. flat_map (λ (t : Triangle). map (shown_by (is j)) (clipped_by (is j) t)) ((take_all i us all ∙ same) j)) ∙ tris_are k ts
+      h ∙ (λ j. flat_map (λ (t : Triangle). map (on_screen_by (is j)) (clipped_by (is j) t)) ((take_all i us all ∙ same) j)) ∙ tris_are k ts
 
   -- The paints.
   pub all_paints : (made : List Paint) → made ≡ flat_map (λ t. map (λ (c : EyeTriangle). t.paint) (clipped_by e t)) (take i us) → made ≡ map (λ q. q.paint) (prims k ts)

@@ -10,8 +10,8 @@ use Rattle.abuf_raster.specs.Triangle.{Triangle as OnScreen}
 use Rattle.abuf_scene.specs.declared.triangles.Triangle.{Triangle}
 use Rattle.abuf_view.specs.Camera.{point_of}
 use Rattle.abuf_view.specs.NearPlane.{is_inside, clip_by, three}
-use Rattle.abuf_view.specs.Screen.{shown, depth_value}
-use Rattle.abuf_view.specs.Eye.{eye_point_by, clipped_by, shown_by}
+use Rattle.abuf_view.specs.Screen.{screen_position, depth_value}
+use Rattle.abuf_view.specs.Eye.{eye_point_by, clipped_by, on_screen_by}
 use Rattle.abuf_view.specs.declared.eye.Eye.{Eye}
 use Rattle.abuf_view.specs.declared.eye.EyePoint.{EyePoint}
 use Rattle.abuf_view.specs.declared.near_plane.EyeTriangle.{EyeTriangle}
@@ -69,12 +69,12 @@ short_is z w is = go (nat_lt (unsigned_abs z) 2147483648) is where
   go true h = same_Some z w h
   go false h = absurd (none-some w h)
 
--- What an entry says of a place on the screen and a depth value.
+-- What an entry says of a position on the screen and a depth value.
 pub record IsAt (p : Point) (depth : ℕ) (s : ShortPoint) : Type 0 where
-  pub place : p ≡ record { x = s.x; y = s.y }
+  pub position : p ≡ record { x = s.x; y = s.y }
   pub depth_is : depth ≡ s.depth
 
--- A point in short numbers is in its place.
+-- A point in short numbers is at its position.
 short_at : (p : Point) (depth : ℕ) (s : ShortPoint) → short_of (short p.x) (short p.y) depth ≡ Some s → IsAt p depth s
 short_at p depth s is = go (short p.x) (short p.y) refl refl is where
   go : (x y : Option ℤ) → short p.x ≡ x → short p.y ≡ y → short_of x y depth ≡ Some s → IsAt p depth s
@@ -84,17 +84,17 @@ short_at p depth s is = go (short p.x) (short p.y) refl refl is where
       let same = same_Some _ s h in
       let px = short_is p.x x ex ∙ ap (λ (q : ShortPoint). q.x) same in
       let py = short_is p.y y ey ∙ ap (λ (q : ShortPoint). q.y) same in
-      record { place = λ i. record { x = px i; y = py i }; depth_is = ap (λ (q : ShortPoint). q.depth) same }
+      record { position = λ i. record { x = px i; y = py i }; depth_is = ap (λ (q : ShortPoint). q.depth) same }
 
 -- What an entry says of a point of eye space.
 pub record IsSeen (inside : Bool) (e : Eye) (q : EyePoint) (s : ShortPoint) : Type 0 where
   pub is_in : inside ≡ true
-  pub at : IsAt (shown e.screen.width e.screen.height e.screen.focal q) (depth_value e.near_plane.w q) s
+  pub at : IsAt (screen_position e.screen.width e.screen.height e.screen.focal q) (depth_value e.near_plane.w q) s
 
 -- An entry is of a point in front of the near plane, and says where it is on the screen.
 seen : (b : Bool) (e : Eye) (q : EyePoint) (s : ShortPoint) → short_if b e q ≡ Some s → IsSeen b e q s
 seen false e q s is = absurd (none-some s is)
-seen true e q s is = record { is_in = refl; at = short_at (shown e.screen.width e.screen.height e.screen.focal q) (depth_value e.near_plane.w q) s is }
+seen true e q s is = record { is_in = refl; at = short_at (screen_position e.screen.width e.screen.height e.screen.focal q) (depth_value e.near_plane.w q) s is }
 
 -- ---- triangles
 
@@ -115,15 +115,15 @@ module _ (e : Eye) (t : Triangle) (a b c : ShortPoint) where
       let sb = seen (is_inside e.near_plane.w eye_b) e eye_b b hb in
       let sc = seen (is_inside e.near_plane.w eye_c) e eye_c c hc in
       let part : clipped_by e t ≡ three eye_a eye_b eye_c ∷ [] = λ i. clip_by (sa.is_in i) (sb.is_in i) (sc.is_in i) e.near_plane.w eye_a eye_b eye_c in
-      let pa = sa.at.place in
-      let pb = sb.at.place in
-      let pc = sc.at.place in
+      let pa = sa.at.position in
+      let pb = sb.at.position in
+      let pc = sc.at.position in
       let da = sa.at.depth_is in
       let db = sb.at.depth_is in
       let dc = sc.at.depth_is in
-      let corners : shown_by e (three eye_a eye_b eye_c) ≡ joined a b c = λ i. record { a = pa i; b = pb i; c = pc i; qa = da i; qb = db i; qc = dc i } in
+      let corners : on_screen_by e (three eye_a eye_b eye_c) ≡ joined a b c = λ i. record { a = pa i; b = pb i; c = pc i; qa = da i; qb = db i; qc = dc i } in
       record {
-        tris = ap (map (shown_by e)) part ∙ ap (λ (o : OnScreen). o ∷ []) corners;
+        tris = ap (map (on_screen_by e)) part ∙ ap (λ (o : OnScreen). o ∷ []) corners;
         paints = ap (map (λ (k : EyeTriangle). t.paint)) part;
       }
 

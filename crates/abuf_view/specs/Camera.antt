@@ -14,14 +14,14 @@ pub record Camera : Type 0 where
   pub focal : ℤ
   pub near : ℤ
 
--- The quaternion and the point of these parts.
+-- The quaternion and the point of these components.
 abbrev pub quaternion_of : List ℤ → Quaternion
 quaternion_of t = record { a = slice_index_or t 0 (pos 0); b = slice_index_or t 1 (pos 0); c = slice_index_or t 2 (pos 0); d = slice_index_or t 3 (pos 0) }
 
 abbrev pub point_of : List ℤ → Point3
 point_of p = record { x = slice_index_or p 0 (pos 0); y = slice_index_or p 1 (pos 0); z = slice_index_or p 2 (pos 0) }
 
--- The camera of these parts.
+-- The camera of these components.
 abbrev pub camera_of : ℕ → ℕ → Quaternion → Point3 → ℤ → ℤ → Camera
 camera_of width height turn shift focal near = record { width = width; height = height; turn = turn; shift = shift; focal = focal; near = near }
 
@@ -33,7 +33,7 @@ camera width height turn shift focal near = camera_of width height (quaternion_o
 abbrev pub IsSize : ℕ → ℕ → Type 0
 IsSize width height = (1 ≤ width) × (width ≤ MAX_SIDE) × (1 ≤ height) × (height ≤ MAX_SIDE) × (width * height ≤ MAX_PIXELS)
 
--- Each part is from -1024 to 1024, and not all are 0.
+-- Each component is from -1024 to 1024, and not all are 0.
 abbrev pub IsTurn : Quaternion → Type 0
 IsTurn t =
     (unsigned_abs t.a ≤ 1024) × (unsigned_abs t.b ≤ 1024) × (unsigned_abs t.c ≤ 1024) × (unsigned_abs t.d ≤ 1024)
@@ -62,7 +62,7 @@ pub record IsCamera (k : Camera) : Type 0 where
 abbrev pub IsMade : Option Camera → Camera → Type 0
 IsMade made k = MatchOption made (¬ (IsCamera k)) (λ m. (m ≡ k) × IsCamera m)
 
--- The norm of the turn (a, b, c, d), a quaternion: the sum of the squares of its parts.
+-- The norm of the turn (a, b, c, d), a quaternion: the sum of the squares of its components.
 
 abbrev pub norm : Quaternion → ℤ
 norm t = t.a *ℤ t.a +ℤ t.b *ℤ t.b +ℤ t.c *ℤ t.c +ℤ t.d *ℤ t.d

@@ -35,8 +35,8 @@ abbrev pub clipped_by : Eye → Triangle → List EyeTriangle
 clipped_by e t = clipped e.near_plane.w (eye_point_by e (point_of t.a)) (eye_point_by e (point_of t.b)) (eye_point_by e (point_of t.c))
 
 -- A part on its screen.
-abbrev pub shown_by : Eye → EyeTriangle → OnScreen
-shown_by e t = on_screen e.screen.width e.screen.height e.screen.focal e.near_plane.w t
+abbrev pub on_screen_by : Eye → EyeTriangle → OnScreen
+on_screen_by e t = on_screen e.screen.width e.screen.height e.screen.focal e.near_plane.w t
 
 -- No entry of a row is above the norm.
 abbrev pub IsRow : ℤ → Point3 → Type 0
@@ -55,7 +55,7 @@ pub record IsEye (e : Eye) : Type 0 where
 
 -- The parts of triangles on its screen, and the paint of each.
 abbrev pub tris_by : Eye → List Triangle → List OnScreen
-tris_by e = flat_map (λ t. map (shown_by e) (clipped_by e t))
+tris_by e = flat_map (λ t. map (on_screen_by e) (clipped_by e t))
 
 abbrev pub paints_by : Eye → List Triangle → List Paint
 paints_by e = flat_map (λ t. map (λ (c : EyeTriangle). t.paint) (clipped_by e t))

@@ -1,4 +1,4 @@
--- The primitives of a scene's triangles. The place of one in the list is its number.
+-- The primitives of a scene's triangles. The index of one in the list is its number.
 use Rattle.std.specs.Prelude.{◌≡◌, ◌≤◌, All, List, length, map, flat_map, Result, IfOk}
 use Rattle.abuf_num.specs.declared.limits.TheConstants.{MAX_TRIANGLES}
 use Rattle.abuf_num.specs.declared.plain.Paint.{Paint}

@@ -8,8 +8,8 @@ use Rattle.abuf_view.specs.declared.eye.EyePoint.{EyePoint}
 use Rattle.abuf_view.specs.declared.near_plane.EyeTriangle.{EyeTriangle}
 
 -- The position on the screen: x to the right and y downward from the upper left corner, both scaled by the height.
-abbrev pub shown : ℕ → ℕ → ℤ → EyePoint → Point
-shown width height focal s = record {
+abbrev pub screen_position : ℕ → ℕ → ℤ → EyePoint → Point
+screen_position width height focal s = record {
   x = pos (128 * width) +ℤ round_div (pos (128 * height) *ℤ focal *ℤ s.x) (pos 65536 *ℤ s.w);
   y = pos (128 * height) -ℤ round_div (pos (128 * height) *ℤ focal *ℤ s.y) (pos 65536 *ℤ s.w);
 }
@@ -21,9 +21,9 @@ depth_value m s = unsigned_abs (floor_div (pos MAX_DEPTH *ℤ m) s.w)
 -- A triangle on the screen.
 abbrev pub on_screen : ℕ → ℕ → ℤ → ℤ → EyeTriangle → Triangle
 on_screen width height focal m t = record {
-  a = shown width height focal t.a;
-  b = shown width height focal t.b;
-  c = shown width height focal t.c;
+  a = screen_position width height focal t.a;
+  b = screen_position width height focal t.b;
+  c = screen_position width height focal t.c;
   qa = depth_value m t.a;
   qb = depth_value m t.b;
   qc = depth_value m t.c;

@@ -4,8 +4,8 @@ use Rattle.abuf_raster.specs.Triangle.{Triangle as OnScreen}
 use Rattle.abuf_scene.specs.declared.triangles.Triangle.{Triangle}
 use Rattle.abuf_view.specs.Camera.{point_of}
 use Rattle.abuf_view.specs.NearPlane.{is_inside}
-use Rattle.abuf_view.specs.Screen.{shown, depth_value}
-use Rattle.abuf_view.specs.Eye.{eye_point_by, clipped_by, shown_by}
+use Rattle.abuf_view.specs.Screen.{screen_position, depth_value}
+use Rattle.abuf_view.specs.Eye.{eye_point_by, clipped_by, on_screen_by}
 use Rattle.abuf_view.specs.declared.eye.Eye.{Eye}
 use Rattle.abuf_view.specs.declared.eye.EyePoint.{EyePoint}
 use Rattle.abuf_view.specs.declared.near_plane.EyeTriangle.{EyeTriangle}
@@ -23,7 +23,7 @@ short_of None y depth = None
 
 -- Where the eye sees a point in eye space, if that is in front of the near plane.
 abbrev pub short_if : Bool → Eye → EyePoint → Option ShortPoint
-short_if true e s = short_of (short (shown e.screen.width e.screen.height e.screen.focal s).x) (short (shown e.screen.width e.screen.height e.screen.focal s).y) (depth_value e.near_plane.w s)
+short_if true e s = short_of (short (screen_position e.screen.width e.screen.height e.screen.focal s).x) (short (screen_position e.screen.width e.screen.height e.screen.focal s).y) (depth_value e.near_plane.w s)
 short_if false e s = None
 
 -- Where it sees a point of the scene.
@@ -55,5 +55,5 @@ joined a b c = record {
 
 -- The whole of a triangle is in front of the near plane, and is seen as this one.
 pub record IsWhole (e : Eye) (u : Triangle) (t : OnScreen) : Type 0 where
-  pub tris : map (shown_by e) (clipped_by e u) ≡ t ∷ []
+  pub tris : map (on_screen_by e) (clipped_by e u) ≡ t ∷ []
   pub paints : map (λ (c : EyeTriangle). u.paint) (clipped_by e u) ≡ u.paint ∷ []

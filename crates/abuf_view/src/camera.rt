@@ -41,7 +41,13 @@ impl Model for Camera {
 impl Camera {
     /// The camera of these numbers, for callers who know that they are within its bounds, which [`new`](Camera::new) names and
     /// checks. Nothing is checked here. The focal length and the near distance are those of the lens.
-    pub fn of_parts(width: u32, height: u32, turn: [i32; 4], shift: [i64; 3], lens: Lens) -> Camera
+    pub fn new_unchecked(
+        width: u32,
+        height: u32,
+        turn: [i32; 4],
+        shift: [i64; 3],
+        lens: Lens,
+    ) -> Camera
         requires bounds { IsCamera (camera width height turn shift lens.focal lens.near) }
         ensures { result ≡ camera width height turn shift lens.focal lens.near }
     {
@@ -68,7 +74,7 @@ impl Camera {
         self.height
     }
 
-    /// The four parts of the camera's turn, a quaternion.
+    /// The four components of the camera's turn, a quaternion.
     pub fn turn(&self) -> [i32; 4]
         ensures { result ≡ self.now.turn.a ∷ self.now.turn.b ∷ self.now.turn.c ∷ self.now.turn.d ∷ [] }
     {

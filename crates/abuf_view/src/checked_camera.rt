@@ -19,7 +19,7 @@ fn is_size(width: u32, height: u32) -> bool
         && width * height <= MAX_PIXELS
 }
 
-fn is_part(part: i32) -> bool
+fn is_component(part: i32) -> bool
     ensures { IsTrue result ↔ (unsigned_abs part ≤ 1024) }
 {
     -1024 <= part && part <= 1024
@@ -28,10 +28,10 @@ fn is_part(part: i32) -> bool
 fn is_turn(turn: Quaternion) -> bool
     ensures { IsTrue result ↔ IsTurn turn }
 {
-    is_part(turn.a)
-        && is_part(turn.b)
-        && is_part(turn.c)
-        && is_part(turn.d)
+    is_component(turn.a)
+        && is_component(turn.b)
+        && is_component(turn.c)
+        && is_component(turn.d)
         && !(turn.a == 0 && turn.b == 0 && turn.c == 0 && turn.d == 0)
 }
 
@@ -68,8 +68,8 @@ fn is_camera(width: u32, height: u32, turn: Quaternion, shift: Point3, lens: Len
 impl Camera {
     /// The camera of these numbers, or none where they are past its bounds.
     ///
-    /// The width and height are from 1 to 4096 pixels, and their product is at most 4194304. Each part of the turn is from -1024
-    /// to 1024, and not all are 0; the quaternion need not have length 1. The parts of the shift are at most 2147483647 either way,
+    /// The width and height are from 1 to 4096 pixels, and their product is at most 4194304. Each component of the turn is from -1024
+    /// to 1024, and not all are 0; the quaternion need not have length 1. The coordinates of the shift are at most 2147483647 either way,
     /// the focal length is from 1 to 1048576, and the near distance from 4096 to 2147483647, in units of 1/65536.
     pub fn new(
         width: u32,
@@ -83,7 +83,7 @@ impl Camera {
     {
         let lens = Lens { focal, near };
         if is_camera(width, height, Quaternion::of(turn), Point3::of(shift), lens) {
-            Some(Camera::of_parts(width, height, turn, shift, lens))
+            Some(Camera::new_unchecked(width, height, turn, shift, lens))
         } else {
             None
         }

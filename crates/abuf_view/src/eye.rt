@@ -30,7 +30,7 @@ pub struct Eye {
     pub screen: Screen,
 }
 
-/// A product of an entry of the matrix and a part of a point.
+/// A product of an entry of the matrix and a coordinate of a point.
 pub fn times(entry: i64, part: i64) -> i64
     requires entry { unsigned_abs entry ≤ 2 ^ 22 }
     requires part { unsigned_abs part ≤ MAX_COORDINATE }
@@ -50,8 +50,8 @@ pub fn sum(a: i64, b: i64) -> i64
     a + b
 }
 
-/// One coordinate of a point in eye space, but for its sign: by a row of the matrix, the norm and one part of the shift.
-fn eye_part(row: Point3, norm: i64, p: Point3, shift: i64) -> i64
+/// One coordinate of a point in eye space, but for its sign: by a row of the matrix, the norm and one coordinate of the shift.
+fn eye_coordinate(row: Point3, norm: i64, p: Point3, shift: i64) -> i64
     requires norm { unsigned_abs norm ≤ 4194304 }
     requires row { IsRow norm row }
     requires p { IsBounded p }
@@ -76,9 +76,9 @@ impl Eye {
         ensures bounded { IsEyePoint self.now.near_plane.norm result }
     {
         let norm = self.near_plane.norm;
-        let x = eye_part(self.x, norm, p, self.shift.x);
-        let y = eye_part(self.y, norm, p, self.shift.y);
-        let z = eye_part(self.z, norm, p, self.shift.z);
+        let x = eye_coordinate(self.x, norm, p, self.shift.x);
+        let y = eye_coordinate(self.y, norm, p, self.shift.y);
+        let z = eye_coordinate(self.z, norm, p, self.shift.z);
         EyePoint { x, y, w: -z }
     }
 }

@@ -3,6 +3,7 @@
 
 mod camera;
 mod checked_camera;
+mod chunks;
 mod eye;
 pub mod laws;
 mod near_plane;
@@ -12,7 +13,7 @@ mod point_table;
 mod primitive_lists;
 mod projection;
 mod quaternion;
-mod runs;
+mod room;
 mod scenes;
 mod screen;
 mod short_points;
@@ -23,6 +24,7 @@ pub use camera::{Camera, Lens};
 pub use eye::EyePoint;
 pub use near_plane::EyeTriangle;
 pub use projection::Projected;
+pub use room::Room;
 pub use scenes::project;
 pub use threads::project_faces;
 pub use turns::turn_from;

@@ -25,8 +25,8 @@ fn cut_product(p: i64, q: i64, near: i64) -> i128
     product(q - p, near)
 }
 
-/// The part of a cut point, between those of the two ends.
-fn cut_part(p: i64, q: i64, near: i64, span: i64) -> i64
+/// A coordinate of a cut point, between those of the two ends.
+fn cut_coordinate(p: i64, q: i64, near: i64, span: i64) -> i64
     requires p { unsigned_abs p < 2 ^ 55 }
     requires q { unsigned_abs q < 2 ^ 55 }
     requires near { pos 0 ≤ℤ near }
@@ -69,8 +69,8 @@ fn cut(near_plane: NearPlane, p: EyePoint, q: EyePoint) -> EyePoint
     let near = difference(p.w, near_plane.w);
     let span = difference(p.w, q.w);
     EyePoint {
-        x: cut_part(p.x, q.x, near, span),
-        y: cut_part(p.y, q.y, near, span),
+        x: cut_coordinate(p.x, q.x, near, span),
+        y: cut_coordinate(p.y, q.y, near, span),
         w: near_plane.w,
     }
 }

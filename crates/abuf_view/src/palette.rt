@@ -39,7 +39,7 @@ impl Palette {
         })
     }
 
-    /// The paint of a face by the place of its name, if the name has a material. White and opaque without a name.
+    /// The paint of a face by the index of its name, if the name has a material. White and opaque without a name.
     pub fn paint_of(&self, name: Option<u32>) -> Option<Paint>
         requires { IfSome name (λ n. n < length self.now.names.value) }
         ensures { result ≡ paint_by (look_up self.now.materials.value) self.now.names.value name }

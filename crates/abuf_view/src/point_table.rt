@@ -16,10 +16,10 @@ use std::alloc::Global;
 use std::thread::{Threads, map_chunks};
 
 // The least number of points for each of several workers. Starting a thread takes as long as some hundred points.
-const LEAST_CHUNK: u64 = 4096;
+const MIN_POINTS: u64 = 4096;
 
 // The chunks' size is at most 2 to this power.
-const MOST_BITS: u32 = 31;
+const MAX_BITS: u32 = 31;
 
 /// What a camera sees of a scene's points: the eye, the points, and a table of those that it sees in short numbers. What isn't in
 /// the table is computed of the points, so it may lack any of them. It is cut into chunks, which workers make side by side: chunk n
@@ -53,7 +53,7 @@ pub fn chunk_bits(points: usize, least: u64, threads: u32) -> u32
     ensures workers { points ≤ 2 ^ 31 → points ≤ 2 ^ result * threads }
 {
     let size = (points as u64).div_ceil(threads as u64).max(least);
-    ((size - 1).ilog2() + 1).min(MOST_BITS)
+    ((size - 1).ilog2() + 1).min(MAX_BITS)
 }
 
 // Two to this power.
@@ -176,7 +176,7 @@ impl<'a> PointTable<'a> {
         ensures eye { IfOk result (λ table. table.eye ≡ eye) }
         ensures points { IfOk result (λ table. table.points.now ≡ points.now) }
     {
-        let bits = chunk_bits(points.len(), LEAST_CHUNK, threads);
+        let bits = chunk_bits(points.len(), MIN_POINTS, threads);
         let chunks = chunks_of(rt, alloc, &eye, points, faces, bits)?;
         Ok(PointTable {
             eye,

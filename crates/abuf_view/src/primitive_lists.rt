@@ -2,7 +2,7 @@
 ghost use Rattle.std.specs.Prelude.{◌≡◌, ◌≤◌, ◌++◌, ◌∷◌, [], map, length, option_to_list, OnOk, IfOk, IfSome};
 ghost use Rattle.abuf_num.specs.declared.limits.TheConstants.{MAX_PRIMITIVES};
 ghost use Rattle.abuf_scene.specs.Triangles.{IsTriangleInRange};
-ghost use Rattle.abuf_view.specs.Eye.{IsEye, clipped_by, shown_by};
+ghost use Rattle.abuf_view.specs.Eye.{IsEye, clipped_by, on_screen_by};
 ghost use Rattle.abuf_view.specs.NearPlane.{IsInFront};
 
 pub(crate) mod faces;
@@ -25,8 +25,19 @@ pub struct PrimitiveLists {
 }
 
 impl PrimitiveLists {
+    /// No primitives. Takes no memory.
+    pub fn new(alloc: Global) -> PrimitiveLists
+        ensures tris { result.tris ≡ [] }
+        ensures paints { result.paints ≡ [] }
+    {
+        PrimitiveLists {
+            tris: List::new(alloc),
+            paints: List::new(alloc),
+        }
+    }
+
     /// No primitives, with room for so many.
-    pub fn with_room(alloc: Global, count: usize) -> Result<PrimitiveLists, NoMemory>
+    pub fn with_capacity(alloc: Global, count: usize) -> Result<PrimitiveLists, NoMemory>
         ensures tris { IfOk result (λ p. p.tris ≡ []) }
         ensures paints { IfOk result (λ p. p.paints ≡ []) }
     {
@@ -49,8 +60,8 @@ impl PrimitiveLists {
         self.paints.push(paint)
     }
 
-    /// Puts the part of a triangle last, if there is one.
-    fn push_part(
+    /// Puts a clipped triangle last, if there is one.
+    fn push_clipped(
         &mut self,
         eye: &Eye,
         part: Option<EyeTriangle>,
@@ -58,7 +69,7 @@ impl PrimitiveLists {
     ) -> Result<(), NoMemory>
         requires eye { IsEye eye.now }
         requires part { IfSome part (IsInFront eye.now.near_plane.norm eye.now.near_plane.w) }
-        ensures tris { OnOk result (self.new.tris ≡ self.old.tris ++ map (shown_by eye.now) (option_to_list part)) }
+        ensures tris { OnOk result (self.new.tris ≡ self.old.tris ++ map (on_screen_by eye.now) (option_to_list part)) }
         ensures paints { OnOk result (self.new.paints ≡ self.old.paints ++ map (λ _. paint) (option_to_list part)) }
     {
         match part {
@@ -71,15 +82,15 @@ impl PrimitiveLists {
     pub fn push_triangle(&mut self, eye: &Eye, t: &Triangle) -> Result<(), NoMemory>
         requires eye { IsEye eye.now }
         requires range { IsTriangleInRange t.now }
-        ensures tris { OnOk result (self.new.tris ≡ self.old.tris ++ map (shown_by eye.now) (clipped_by eye.now t.now)) }
+        ensures tris { OnOk result (self.new.tris ≡ self.old.tris ++ map (on_screen_by eye.now) (clipped_by eye.now t.now)) }
         ensures paints { OnOk result (self.new.paints ≡ self.old.paints ++ map (λ _. t.now.paint) (clipped_by eye.now t.now)) }
     {
         let a = eye.sees(Point3::of(t.a));
         let b = eye.sees(Point3::of(t.b));
         let c = eye.sees(Point3::of(t.c));
         let (first, second) = clip(eye.near_plane, a, b, c);
-        self.push_part(eye, first, t.paint)?;
-        self.push_part(eye, second, t.paint)?;
+        self.push_clipped(eye, first, t.paint)?;
+        self.push_clipped(eye, second, t.paint)?;
         Ok(())
     }
 

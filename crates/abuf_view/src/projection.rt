@@ -5,7 +5,7 @@ ghost use Rattle.abuf_num.specs.declared.limits.TheConstants.{MAX_PRIMITIVES};
 use abuf_num::{List, Paint};
 use abuf_raster::ScreenTri;
 
-/// The primitives of a scene, and the paint of each: two lists of one length, at most 2097152. The place in the lists is the
+/// The primitives of a scene, and the paint of each: two lists of one length, at most 2097152. The index in the lists is the
 /// primitive's number.
 #[derive(Drop)]
 pub struct Projected {

@@ -15,8 +15,8 @@ pub struct Quaternion {
     pub d: i32,
 }
 
-/// A product of two parts of a turn.
-fn part_product(a: i32, b: i32) -> i64
+/// A product of two components of a turn.
+fn product_of(a: i32, b: i32) -> i64
     requires a { unsigned_abs a ≤ 1024 }
     requires b { unsigned_abs b ≤ 1024 }
     ensures value { result ≡ a *ℤ b }
@@ -57,7 +57,7 @@ fn diagonal(p: i64, q: i64, r: i64, s: i64) -> i64
 }
 
 impl Quaternion {
-    /// The turn of these parts.
+    /// The turn of these components.
     pub fn of(parts: [i32; 4]) -> Quaternion
         ensures { result ≡ quaternion_of parts }
     {
@@ -69,17 +69,17 @@ impl Quaternion {
         }
     }
 
-    /// The sum of the squares of the parts.
+    /// The sum of the squares of the components.
     pub fn norm(self) -> i64
         requires { IsTurn self }
         ensures { result ≡ norm self }
     {
         sum(
             sum(
-                sum(part_product(self.a, self.a), part_product(self.b, self.b)),
-                part_product(self.c, self.c),
+                sum(product_of(self.a, self.a), product_of(self.b, self.b)),
+                product_of(self.c, self.c),
             ),
-            part_product(self.d, self.d),
+            product_of(self.d, self.d),
         )
     }
 
@@ -89,13 +89,13 @@ impl Quaternion {
     {
         Point3 {
             x: diagonal(
-                part_product(self.a, self.a),
-                part_product(self.b, self.b),
-                part_product(self.c, self.c),
-                part_product(self.d, self.d),
+                product_of(self.a, self.a),
+                product_of(self.b, self.b),
+                product_of(self.c, self.c),
+                product_of(self.d, self.d),
             ),
-            y: twice_difference(part_product(self.b, self.c), part_product(self.a, self.d)),
-            z: twice_sum(part_product(self.b, self.d), part_product(self.a, self.c)),
+            y: twice_difference(product_of(self.b, self.c), product_of(self.a, self.d)),
+            z: twice_sum(product_of(self.b, self.d), product_of(self.a, self.c)),
         }
     }
 
@@ -104,14 +104,14 @@ impl Quaternion {
         ensures { result ≡ row_y self }
     {
         Point3 {
-            x: twice_sum(part_product(self.b, self.c), part_product(self.a, self.d)),
+            x: twice_sum(product_of(self.b, self.c), product_of(self.a, self.d)),
             y: diagonal(
-                part_product(self.a, self.a),
-                part_product(self.c, self.c),
-                part_product(self.b, self.b),
-                part_product(self.d, self.d),
+                product_of(self.a, self.a),
+                product_of(self.c, self.c),
+                product_of(self.b, self.b),
+                product_of(self.d, self.d),
             ),
-            z: twice_difference(part_product(self.c, self.d), part_product(self.a, self.b)),
+            z: twice_difference(product_of(self.c, self.d), product_of(self.a, self.b)),
         }
     }
 
@@ -120,13 +120,13 @@ impl Quaternion {
         ensures { result ≡ row_z self }
     {
         Point3 {
-            x: twice_difference(part_product(self.b, self.d), part_product(self.a, self.c)),
-            y: twice_sum(part_product(self.c, self.d), part_product(self.a, self.b)),
+            x: twice_difference(product_of(self.b, self.d), product_of(self.a, self.c)),
+            y: twice_sum(product_of(self.c, self.d), product_of(self.a, self.b)),
             z: diagonal(
-                part_product(self.a, self.a),
-                part_product(self.d, self.d),
-                part_product(self.b, self.b),
-                part_product(self.c, self.c),
+                product_of(self.a, self.a),
+                product_of(self.d, self.d),
+                product_of(self.b, self.b),
+                product_of(self.c, self.c),
             ),
         }
     }

@@ -4,7 +4,7 @@ ghost use Rattle.abuf_num.specs.declared.limits.TheConstants.{MAX_DEPTH, MAX_SID
 ghost use Rattle.abuf_num.specs.Division.{floor_div, round_div, nearest};
 ghost use Rattle.abuf_raster.specs.Triangle.{IsWithin};
 ghost use Rattle.abuf_view.specs.NearPlane.{IsNearPlane, IsEyePoint, IsInFront};
-ghost use Rattle.abuf_view.specs.Screen.{shown, depth_value, on_screen, signed_by};
+ghost use Rattle.abuf_view.specs.Screen.{screen_position, depth_value, on_screen, signed_by};
 
 use crate::eye::EyePoint;
 use crate::near_plane::{EyeTriangle, NearPlane};
@@ -33,8 +33,8 @@ fn wide_size(height: u32, focal: i64, x: i64) -> i128
     product(scale, x)
 }
 
-// `screen_part` in 128 bits.
-fn wide_part(height: u32, focal: i64, x: i64, w: i64) -> i64
+// `screen_coordinate` in 128 bits.
+fn wide_coordinate(height: u32, focal: i64, x: i64, w: i64) -> i64
     requires height { height ≤ MAX_SIDE }
     requires focal { (pos 0 ≤ℤ focal) × (focal ≤ℤ pos 1048576) }
     requires x { unsigned_abs x < 2 ^ 55 }
@@ -64,7 +64,7 @@ fn size_of(height: u32, focal: i64, x: i64) -> Option<u64>
 }
 
 // 128 times the size over 65536 times w, to the nearest: with the common factor 128 left out, (size + 256 w) / (512 w).
-fn nearest_part(size: u64, w: Reciprocal) -> u64
+fn nearest_coordinate(size: u64, w: Reciprocal) -> u64
     requires size { size < 2 ^ 62 }
     requires small { w.divisor < 2 ^ 54 }
     ensures value { result ≡ nearest (128 * size) (65536 * w.divisor) }
@@ -82,7 +82,7 @@ fn with_sign(x: i64, size: u64) -> i64
 }
 
 /// How far a point is from the middle of the screen. It takes the reciprocal of w.
-fn screen_part(height: u32, focal: i64, x: i64, w: i64, reciprocal: Reciprocal) -> i64
+fn screen_coordinate(height: u32, focal: i64, x: i64, w: i64, reciprocal: Reciprocal) -> i64
     requires height { height ≤ MAX_SIDE }
     requires focal { (pos 0 ≤ℤ focal) × (focal ≤ℤ pos 1048576) }
     requires x { unsigned_abs x < 2 ^ 55 }
@@ -94,9 +94,9 @@ fn screen_part(height: u32, focal: i64, x: i64, w: i64, reciprocal: Reciprocal) 
 {
     match size_of(height, focal, x) {
         Some(size) if reciprocal.divisor < SHORT_W => {
-            with_sign(x, nearest_part(size, reciprocal))
+            with_sign(x, nearest_coordinate(size, reciprocal))
         }
-        _ => wide_part(height, focal, x, w),
+        _ => wide_coordinate(height, focal, x, w),
     }
 }
 
@@ -109,7 +109,12 @@ pub struct Screen {
 }
 
 /// Where a point of eye space is on the screen.
-fn shown(screen: Screen, near_plane: NearPlane, s: EyePoint, reciprocal: Reciprocal) -> Point
+fn screen_position(
+    screen: Screen,
+    near_plane: NearPlane,
+    s: EyePoint,
+    reciprocal: Reciprocal,
+) -> Point
     requires near_plane { IsNearPlane near_plane.norm near_plane.w }
     requires width { screen.width ≤ MAX_SIDE }
     requires height { screen.height ≤ MAX_SIDE }
@@ -117,14 +122,14 @@ fn shown(screen: Screen, near_plane: NearPlane, s: EyePoint, reciprocal: Recipro
     requires bounded { IsEyePoint near_plane.norm s }
     requires inside { near_plane.w ≤ℤ s.w }
     requires reciprocal { reciprocal.divisor ≡ unsigned_abs s.w }
-    ensures value { result ≡ shown screen.width screen.height screen.focal s }
+    ensures value { result ≡ screen_position screen.width screen.height screen.focal s }
     ensures range { IsWithin (2 ^ 45) result }
 {
     Point {
         x: (128 * screen.width) as i64
-            + screen_part(screen.height, screen.focal, s.x, s.w, reciprocal),
+            + screen_coordinate(screen.height, screen.focal, s.x, s.w, reciprocal),
         y: (128 * screen.height) as i64
-            - screen_part(screen.height, screen.focal, s.y, s.w, reciprocal),
+            - screen_coordinate(screen.height, screen.focal, s.y, s.w, reciprocal),
     }
 }
 
@@ -156,7 +161,7 @@ fn depth_value(near_plane: NearPlane, s: EyePoint, reciprocal: Reciprocal) -> u3
 /// A point on the screen, and its depth value.
 #[derive(Clone, Copy)]
 pub struct ScreenPoint {
-    pub place: Point,
+    pub position: Point,
     pub depth: u32,
 }
 
@@ -168,14 +173,14 @@ pub fn corner(screen: Screen, near_plane: NearPlane, s: EyePoint) -> ScreenPoint
     requires focal { (pos 0 ≤ℤ screen.focal) × (screen.focal ≤ℤ pos 1048576) }
     requires bounded { IsEyePoint near_plane.norm s }
     requires inside { near_plane.w ≤ℤ s.w }
-    ensures place { result.place ≡ shown screen.width screen.height screen.focal s }
-    ensures range { IsWithin (2 ^ 45) result.place }
+    ensures position { result.position ≡ screen_position screen.width screen.height screen.focal s }
+    ensures range { IsWithin (2 ^ 45) result.position }
     ensures depth { result.depth ≡ depth_value near_plane.w s }
     ensures small { result.depth ≤ MAX_DEPTH }
 {
     let reciprocal = Reciprocal::of(s.w.unsigned_abs());
     ScreenPoint {
-        place: shown(screen, near_plane, s, reciprocal),
+        position: screen_position(screen, near_plane, s, reciprocal),
         depth: depth_value(near_plane, s, reciprocal),
     }
 }
@@ -192,5 +197,7 @@ pub fn on_screen(screen: Screen, near_plane: NearPlane, t: EyeTriangle) -> Scree
     let a = corner(screen, near_plane, t.a);
     let b = corner(screen, near_plane, t.b);
     let c = corner(screen, near_plane, t.c);
-    ScreenTri::of_corners(a.place, b.place, c.place, a.depth, b.depth, c.depth)
+    ScreenTri::of_corners(
+        a.position, b.position, c.position, a.depth, b.depth, c.depth,
+    )
 }

@@ -49,7 +49,11 @@ pub fn short_point(eye: &Eye, point: [i64; 3]) -> Option<ShortPoint>
     let seen = eye.sees(Point3::of(point));
     if eye.near_plane.is_inside(seen) {
         let corner = corner(eye.screen, eye.near_plane, seen);
-        short_of(short(corner.place.x), short(corner.place.y), corner.depth)
+        short_of(
+            short(corner.position.x),
+            short(corner.position.y),
+            corner.depth,
+        )
     } else {
         None
     }

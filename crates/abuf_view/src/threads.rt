@@ -1,5 +1,5 @@
 // The primitives of a file's faces, on threads.
-ghost use Rattle.std.specs.Prelude.{◌≡◌, ◌*◌, ◌≤◌, ◌<◌, All, List as Items, ℕ, length, map, None, OnOk, IfOk, IfErr};
+ghost use Rattle.std.specs.Prelude.{◌≡◌, ◌*◌, ◌≤◌, ◌<◌, [], All, List as Items, ℕ, length, map, None, OnOk, IfOk, IfErr};
 ghost use Rattle.abuf_num.specs.declared.limits.TheConstants.{MAX_THREADS};
 ghost use Rattle.abuf_obj.specs.Sound.{IsScene};
 ghost use Rattle.abuf_mtl.specs.StandsFor.{StandsFor};
@@ -7,15 +7,16 @@ ghost use Rattle.abuf_scene.specs.Triangles.{triangles_by, unknown_by, triangles
 ghost use Rattle.abuf_scene.specs.Lookup.{look_up};
 ghost use Rattle.abuf_view.specs.Eye.{tris_by, paints_by};
 ghost use Rattle.abuf_view.specs.Primitives.{prims, HasTriangles, HasPaints};
-ghost use Rattle.abuf_view.specs.Runs.{AreRuns};
+ghost use Rattle.abuf_view.specs.Chunks.{AreFaceChunks};
 
 use crate::camera::Camera;
+use crate::chunks::{face_chunks, put_together};
 use crate::palette::Palette;
 use crate::point_table::PointTable;
 use crate::primitive_lists::PrimitiveLists;
-use crate::primitive_lists::faces::project_run;
+use crate::primitive_lists::faces::{project_chunk, project_into};
 use crate::projection::Projected;
-use crate::runs::{put_together, room_for, runs_of};
+use crate::room::Room;
 use abuf_mtl::Materials;
 use abuf_num::NoMemory;
 use abuf_obj::FlatObj;
@@ -25,11 +26,11 @@ use std::thread::{Threads, map_vec};
 
 // The least number of faces for each of several workers. Starting a thread takes as long as making the primitives of some
 // hundred faces.
-const LEAST_RUN: usize = 4096;
+const MIN_FACES: usize = 4096;
 
-// How many faces a run has, so that no worker has two runs: the longest is as short as whole faces allow, and there is one run
+// How many faces a chunk has, so that no worker has two chunks: the longest is as short as whole faces allow, and there is one chunk
 // alone where two workers would have fewer than the least number each.
-pub fn faces_per_run(faces: usize, least: usize, threads: u32) -> usize
+pub fn faces_per_chunk(faces: usize, least: usize, threads: u32) -> usize
     requires least { 1 ≤ least }
     requires threads { (1 ≤ threads) × (threads ≤ MAX_THREADS) }
     ensures some { 1 ≤ result }
@@ -40,70 +41,72 @@ pub fn faces_per_run(faces: usize, least: usize, threads: u32) -> usize
     faces.div_ceil(workers).max(1)
 }
 
-// What the workers give of all faces, each of a run of so many.
-fn project_runs<R: Threads + Sync>(
+// What the workers give of all faces, each of a chunk of so many.
+fn project_chunks<R: Threads + Sync>(
     rt: &R,
     alloc: Global,
     table: &PointTable,
     obj: &FlatObj,
     palette: &Palette,
-    per_run: usize,
+    per_chunk: usize,
 ) -> Result<Vec<Result<PrimitiveLists, SceneFault>>, NoMemory>
     requires points { table.now.points.now ≡ obj.now.points }
     requires names { palette.now.names.value ≡ obj.now.names }
     requires scene { IsScene obj.now }
-    requires per_run { 1 ≤ per_run }
-    ensures { IfOk result (λ runs. AreRuns (look_up palette.now.materials.value) obj.now table.now.eye per_run obj.now.faces runs.items) }
+    requires per_chunk { 1 ≤ per_chunk }
+    ensures { IfOk result (λ chunks. AreFaceChunks (look_up palette.now.materials.value) obj.now table.now.eye per_chunk obj.now.faces chunks.items) }
 {
-    let runs = runs_of(alloc, obj.faces(), per_run)?;
+    let chunks = face_chunks(alloc, obj.faces(), per_chunk)?;
     let made = map_vec(
         rt,
-        runs,
-        &|run| project_run(alloc, table, obj, palette, run),
+        chunks,
+        &|chunk| project_chunk(alloc, table, obj, palette, chunk),
     )?;
     Ok(made)
 }
 
-// The primitives of all faces as the eye of the table sees them, by the paints of the palette. Where one run of so many
-// faces has all of them, no thread is started.
+// The primitives of all faces as the eye of the table sees them, by the paints of the palette, in the room for them. Where one chunk
+// of so many faces has all of them, no thread is started.
 pub fn all_faces<R: Threads + Sync>(
     rt: &R,
-    alloc: Global,
+    room: Room,
     table: &PointTable,
     obj: &FlatObj,
     palette: &Palette,
-    per_run: usize,
+    per_chunk: usize,
 ) -> Result<PrimitiveLists, SceneFault>
+    requires empty { (room.0 ≡ []) × (room.1 ≡ []) }
     requires points { table.now.points.now ≡ obj.now.points }
     requires names { palette.now.names.value ≡ obj.now.names }
     requires scene { IsScene obj.now }
-    requires per_run { 1 ≤ per_run }
+    requires per_chunk { 1 ≤ per_chunk }
     ensures fault { IfErr result (Tells (unknown_by (look_up palette.now.materials.value) obj.now)) }
     ensures known { OnOk result (unknown_by (look_up palette.now.materials.value) obj.now ≡ None) }
     ensures tris { IfOk result (λ p. p.tris ≡ tris_by table.now.eye (triangles_by (look_up palette.now.materials.value) obj.now)) }
     ensures paints { IfOk result (λ p. p.paints ≡ paints_by table.now.eye (triangles_by (look_up palette.now.materials.value) obj.now)) }
 {
+    let Room { alloc, lists } = room;
     let faces = obj.faces();
-    if faces.len() <= per_run {
-        return project_run(alloc, table, obj, palette, faces);
+    if faces.len() <= per_chunk {
+        return project_into(lists, table, obj, palette, faces);
     }
-    let room = room_for(alloc, &faces)?;
-    let runs = project_runs(rt, alloc, table, obj, palette, per_run)?;
-    put_together(room, runs)
+    let chunks = project_chunks(rt, alloc, table, obj, palette, per_chunk)?;
+    put_together(lists, chunks)
 }
 
 /// What [`assemble`](abuf_scene::assemble) and then [`project`](crate::project) give: the primitives of the faces' triangles, in
 /// order, or the line of the first face whose name has no material. No list of the triangles is made, which would take 80 bytes each.
 /// The faces are shared among 1 to 64 workers, and the answer is the same for every number of them; where there are few, one
-/// worker has them all. Memory may run out at any time.
+/// worker has them all. The primitives are made in the room, which has none yet. Memory may run out at any time.
 pub fn project_faces<R: Threads + Sync>(
     rt: &R,
-    alloc: Global,
+    room: Room,
     obj: &FlatObj,
     materials: &Materials,
     camera: &Camera,
     threads: u32,
 ) -> Result<Projected, SceneFault>
+    requires room { (room.0 ≡ []) × (room.1 ≡ []) }
     requires scene { IsScene obj.now }
     requires threads { (1 ≤ threads) × (threads ≤ MAX_THREADS) }
     ensures fault { (libraries : Items (Items ℕ)) → StandsFor libraries materials.now → IfErr result (Tells (unknown libraries obj.now)) }
@@ -113,10 +116,11 @@ pub fn project_faces<R: Threads + Sync>(
     ensures paints { (libraries : Items (Items ℕ)) → StandsFor libraries materials.now →
         HasPaints result (prims camera.now (triangles libraries obj.now)) }
 {
+    let alloc = room.alloc;
     let faces = obj.faces().len();
     let table = PointTable::new(rt, alloc, camera.eye(), obj.points(), faces, threads)?;
     let palette = Palette::new(alloc, obj.names(), materials)?;
-    let per_run = faces_per_run(faces, LEAST_RUN, threads);
-    let made = all_faces(rt, alloc, &table, obj, &palette, per_run)?;
+    let per_chunk = faces_per_chunk(faces, MIN_FACES, threads);
+    let made = all_faces(rt, room, &table, obj, &palette, per_chunk)?;
     Ok(made.into_projected())
 }

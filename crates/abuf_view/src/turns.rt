@@ -1,13 +1,13 @@
-// A turn written as the texts of its four parts.
+// A turn written as the texts of its four components.
 ghost use Rattle.std.specs.Prelude.{◌≡◌, ◌≤◌, IfSome, unsigned_abs};
 ghost use Rattle.abuf_view.specs.Camera.{IsTurn, quaternion_of};
-ghost use Rattle.abuf_view.specs.Turns.{turn_part, some_turn, turn_from};
+ghost use Rattle.abuf_view.specs.Turns.{turn_component, some_turn, turn_from};
 
 use abuf_num::signed_number;
 
-// A part of a turn.
-fn turn_part(text: &[u8]) -> Option<i32>
-    ensures value { result ≡ turn_part text.now }
+// A component of a turn.
+fn turn_component(text: &[u8]) -> Option<i32>
+    ensures value { result ≡ turn_component text.now }
     ensures small { IfSome result (λ z. unsigned_abs z ≤ 1024) }
 {
     match signed_number(text) {
@@ -16,7 +16,7 @@ fn turn_part(text: &[u8]) -> Option<i32>
     }
 }
 
-// A quaternion whose parts are not all 0.
+// A quaternion whose components are not all 0.
 fn some_turn(a: i32, b: i32, c: i32, d: i32) -> Option<[i32; 4]>
     requires a { unsigned_abs a ≤ 1024 }
     requires b { unsigned_abs b ≤ 1024 }
@@ -35,10 +35,15 @@ fn some_turn(a: i32, b: i32, c: i32, d: i32) -> Option<[i32; 4]>
 /// The turn of these four texts, a quaternion that [`Camera::new`](crate::Camera::new) takes: each an optional `-` and one to
 /// four digits, from -1024 to 1024, and not all 0. None where a text is anything else. Takes no memory.
 pub fn turn_from(a: &[u8], b: &[u8], c: &[u8], d: &[u8]) -> Option<[i32; 4]>
-    ensures value { result ≡ turn_from (turn_part a.now) (turn_part b.now) (turn_part c.now) (turn_part d.now) }
+    ensures value { result ≡ turn_from (turn_component a.now) (turn_component b.now) (turn_component c.now) (turn_component d.now) }
     ensures turn { IfSome result (λ t. IsTurn (quaternion_of t)) }
 {
-    match (turn_part(a), turn_part(b), turn_part(c), turn_part(d)) {
+    match (
+        turn_component(a),
+        turn_component(b),
+        turn_component(c),
+        turn_component(d),
+    ) {
         (Some(a), Some(b), Some(c), Some(d)) => some_turn(a, b, c, d),
         _ => None,
     }

@@ -12,7 +12,7 @@ use abuf_frame::{Frame, Look, Pass};
 pub const ROOM: usize = 8;
 
 /// How many looks a watcher makes at most, so that it ends whatever the drawers do.
-const MOST_LOOKS: u64 = 1 << 32;
+const MAX_LOOKS: u64 = 1 << 32;
 
 /// Counts, looks at one pixel, and tallies the look.
 fn look_once(frame: &Frame, pass: &mut Pass, place: u32, out: &mut [u64], looks: &mut Looks)
@@ -49,7 +49,7 @@ pub fn look_around(frame: &Frame, pass: &mut Pass, places: &[u32], signal: &Sign
         more: 0,
     };
     let mut out = [0; ROOM];
-    for turn in 0..MOST_LOOKS {
+    for turn in 0..MAX_LOOKS {
         if signal.has_ended() {
             break;
         }

@@ -25,7 +25,7 @@ mod watch;
 mod watching;
 
 use crate::load::load;
-use crate::show::{Shown, show};
+use crate::show::{WatchOutput, show};
 use crate::stop::Stop;
 use abuf_cli::{Command, Storage, What, read_words};
 use abuf_io::{FolderShelf, ReadSource, Shelf, Source};
@@ -52,7 +52,7 @@ fn run<R: Threads + Sync, S: Source, H: Shelf>(
     words: &[String],
     source: &mut S,
     shelf: &mut H,
-) -> Result<Shown, Stop> {
+) -> Result<WatchOutput, Stop> {
     let job = read_words(alloc, words)?;
     match (job.command(), job.storage()) {
         (Command::Draw(What::Render), Storage::OneFrame) => {}
@@ -63,7 +63,7 @@ fn run<R: Threads + Sync, S: Source, H: Shelf>(
 }
 
 /// Writes what was seen: how the looks ended to standard error, and the report to standard output.
-fn tell(rt: &(impl Print + Eprint), shown: &Shown) -> io::Result<()> {
+fn tell(rt: &(impl Print + Eprint), shown: &WatchOutput) -> io::Result<()> {
     let looks = shown.looks;
     eprintln!(rt; "entries {} to {}", looks.first, looks.last)?;
     eprintln!(rt;

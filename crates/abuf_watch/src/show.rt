@@ -12,7 +12,7 @@ use crate::stop::Stop;
 use crate::watch::Watch;
 use crate::watching::watch;
 use abuf_cli::Job;
-use abuf_fan::most_fragments;
+use abuf_fan::max_fragments;
 use abuf_picture::{Primitives, Target};
 use abuf_raster::Region;
 use abuf_view::Projected;
@@ -21,7 +21,7 @@ use std::thread::Threads;
 
 /// What there is to be written.
 #[derive(Drop)]
-pub struct Shown {
+pub struct WatchOutput {
     pub looks: Looks,
     pub report: String,
 }
@@ -51,7 +51,7 @@ pub fn watch_and_report<R: Threads + Sync>(
     rt: &R,
     alloc: Global,
     drawing: &Watch,
-) -> Result<Shown, Stop>
+) -> Result<WatchOutput, Stop>
     ensures report { IfOk result (λ s. string_bytes s.report ≡ report_text drawing.now.primitives.triangles.now drawing.now.primitives.paints.now
         drawing.now.target.pattern drawing.now.target.background drawing.now.target.region drawing.now.places.now) }
     ensures looks { IfOk result (λ s. TellsLooks drawing.now.primitives.triangles.now drawing.now.target.pattern drawing.now.target.region
@@ -74,7 +74,7 @@ pub fn watch_and_report<R: Threads + Sync>(
         watched.words.as_slice(),
         &watched.closed,
     )?;
-    Ok(Shown {
+    Ok(WatchOutput {
         looks: watched.looks,
         report,
     })
@@ -85,13 +85,13 @@ pub fn show<R: Threads + Sync>(
     rt: &R,
     alloc: Global,
     job: &Job,
-    shown: &Projected,
-) -> Result<Shown, Stop> {
+    projected: &Projected,
+) -> Result<WatchOutput, Stop> {
     let region = Region::whole_image(job.camera().width(), job.camera().height());
-    let primitives = Primitives::of(shown);
+    let primitives = Primitives::of(projected);
     let pattern = job.pattern();
     let threads = drawers(job.threads());
-    let most = most_fragments(
+    let most = max_fragments(
         rt,
         primitives.triangles,
         region,

@@ -4,11 +4,11 @@ ghost use Rattle.abuf_frame.specs.Lanes.{Advances, AllAdvance, Refers, head_or_e
 ghost use Rattle.abuf_frame.specs.Reading.{HoldsEight};
 
 use crate::closed::Closed;
-use crate::still::Still;
+use crate::frozen_words::FrozenWords;
 use abuf_num::NoMemory;
 
 // Where the walks along the lists of the eight pixels from this one on begin.
-fn heads(words: &Still, pixels: u32, pixel: u32) -> [u64; 8]
+fn heads(words: &FrozenWords, pixels: u32, pixel: u32) -> [u64; 8]
     requires { pixels < length words.now }
     ensures length { length result ≡ 8 }
     ensures heads { (k : ℕ) → k < 8 → slice_index result k ≡ head_or_end words.now pixels (pixel + k) }
@@ -44,7 +44,7 @@ fn all_ended(at: &[u64; 8]) -> bool
 // Passes the node to which the word refers, if it isn't 0: puts its payload last in the list, and returns its next.
 #[inline(always)]
 pub(crate) fn advance(
-    words: &Still,
+    words: &FrozenWords,
     pixels: u32,
     at: u64,
     list: &mut Vec<u64>,
@@ -63,7 +63,7 @@ pub(crate) fn advance(
 // Each lane passes one node, as by `advance`. No lane's loads wait for those of another.
 #[inline(always)]
 fn advance_all(
-    words: &Still,
+    words: &FrozenWords,
     pixels: u32,
     at: &mut [u64; 8],
     lists: &mut [Vec<u64>; 8],

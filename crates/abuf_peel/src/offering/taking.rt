@@ -7,10 +7,10 @@ ghost use Rattle.abuf_peel.specs.Taking.{AreKnown, marked, marked_by, no_word, p
 ghost use Rattle.abuf_peel.specs.Offers.{AreNext};
 ghost use Rattle.abuf_peel.specs.Seen.{seen_of};
 
+use crate::input::PaintedTriangles;
 use crate::offering::{NO_WORD, Samples};
-use crate::scene::Primitives;
 use abuf_num::Paint;
-use abuf_resolve::{SampleWord, laid_over};
+use abuf_resolve::{SampleWord, composite_over};
 
 /// The word from which on primitives are left, once the one of this word is taken.
 fn marked(word: u64, from: u64) -> u64
@@ -39,7 +39,7 @@ fn painted(paints: &[Paint], word: u64, under: [u16; 3]) -> [u16; 3]
     if word == NO_WORD {
         under
     } else {
-        laid_over(under, paints[SampleWord(word).primitive() as usize])
+        composite_over(under, paints[SampleWord(word).primitive() as usize])
     }
 }
 
@@ -61,7 +61,7 @@ impl Samples {
     /// Every sample takes the primitives of its first `count` words, one after another. True exactly where some sample has so many.
     pub(crate) fn take(
         &self,
-        drawn: &Primitives,
+        drawn: &PaintedTriangles,
         count: usize,
         best: &[[u64; 16]],
         from: &mut [u64],
@@ -73,7 +73,8 @@ impl Samples {
         requires from { length from.old ≡ count_of self.now.region self.now.pattern }
         requires colours { length colours.old ≡ count_of self.now.region self.now.pattern }
         ensures sizes { (length from.new ≡ length from.old) × (length colours.new ≡ length colours.old) }
-        ensures takes { TakesTimes drawn.now.tris.now drawn.now.paints.now count (seen_of self.now from.old colours.old) (seen_of self.now from.new colours.new) }
+        ensures takes { TakesTimes drawn.now.tris.now drawn.now.paints.now count (seen_of self.now from.old colours.old)
+            (seen_of self.now from.new colours.new) }
         ensures none { result ≡ false → (j : ℕ) → j < length best.now → slice_index_or (slice_index_or best.now j []) (count - 1) 0 ≡ no_word }
         ensures some { result ≡ true → (j : ℕ) × (j < length best.now) × (slice_index_or (slice_index_or best.now j []) (count - 1) 0 < no_word) }
     {
@@ -90,7 +91,7 @@ impl Samples {
     /// those of which nothing was left are dropped. False only where no sample has one left afterwards.
     pub(crate) fn take_next_of(
         &self,
-        drawn: &Primitives,
+        drawn: &PaintedTriangles,
         members: &mut Vec<u32>,
         from: &mut [u64],
         best: &mut [[u64; 16]],

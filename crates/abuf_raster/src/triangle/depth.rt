@@ -5,10 +5,10 @@ ghost use Rattle.abuf_num.specs.declared.limits.TheConstants.{MAX_DEPTH, MAX_SID
 ghost use Rattle.abuf_raster.specs.Triangle.{IsWithin};
 ghost use Rattle.abuf_raster.specs.Samples.{offsets_of};
 ghost use Rattle.abuf_raster.specs.Coverage.{covers};
-ghost use Rattle.abuf_raster.specs.Depth.{weighted_depth, depth_key, spread, IsLeastKey, IsGreatestKey, IsLeastQuotient, IsGreatestQuotient, least_depth, greatest_depth, HasNoKeyAbove, HasNoKeyBelow};
+ghost use Rattle.abuf_raster.specs.Depth.{weighted_depth, depth_key, spread, IsLeastKey, IsGreatestKey, IsLeastQuotient, IsGreatestQuotient, min_depth, max_depth, HasNoKeyAbove, HasNoKeyBelow};
 
 use crate::edge::edge_function;
-use crate::pattern::{Pattern, sample_place};
+use crate::pattern::{Pattern, sample_position};
 use crate::point::Point;
 use crate::triangle::ScreenTri;
 use abuf_num::floor_div;
@@ -87,17 +87,17 @@ impl ScreenTri {
     }
 
     /// Bounds of the quotients, from 0 to 16777215, of weighted depths that differ from that at a position by at most the spread.
-    fn bounds_at(&self, place: Point, area: i128) -> (u32, u32)
-        requires place { IsWithin (2 ^ 45) place }
+    fn bounds_at(&self, position: Point, area: i128) -> (u32, u32)
+        requires position { IsWithin (2 ^ 45) position }
         ensures rising { result.0 ≤ result.1 }
         ensures small { result.1 ≤ MAX_DEPTH }
-        ensures low { pos 0 <ℤ area → IsLeastQuotient self.now place area result.0 }
-        ensures high { pos 0 <ℤ area → IsGreatestQuotient self.now place area result.1 }
+        ensures low { pos 0 <ℤ area → IsLeastQuotient self.now position area result.0 }
+        ensures high { pos 0 <ℤ area → IsGreatestQuotient self.now position area result.1 }
     {
         if area <= 0 {
             return (0, MAX_DEPTH);
         }
-        let sum = self.weighted_depth(place);
+        let sum = self.weighted_depth(position);
         let spread = self.spread();
         let low = quotient_below(sum, spread, area);
         let high = quotient_above(sum, spread, area);
@@ -106,8 +106,8 @@ impl ScreenTri {
 
     /// The least of the depth values at its corners, below which no depth key is.
     #[inline(always)]
-    pub fn least_depth(&self) -> u32
-        ensures value { result ≡ least_depth self.now }
+    pub fn min_depth(&self) -> u32
+        ensures value { result ≡ min_depth self.now }
         ensures keys { HasNoKeyBelow self.now result }
     {
         self.qa.min(self.qb.min(self.qc))
@@ -115,8 +115,8 @@ impl ScreenTri {
 
     /// The greatest of the depth values at its corners, which no depth key passes.
     #[inline(always)]
-    pub fn greatest_depth(&self) -> u32
-        ensures value { result ≡ greatest_depth self.now }
+    pub fn max_depth(&self) -> u32
+        ensures value { result ≡ max_depth self.now }
         ensures small { result ≤ MAX_DEPTH }
         ensures keys { HasNoKeyAbove self.now result }
     {
@@ -136,7 +136,7 @@ pub fn depth_at(t: &ScreenTri, x: u32, y: u32, pattern: Pattern, k: u32) -> u32
 {
     let t = t.positive_order();
     let area = edge_function(t.a, t.b, t.c);
-    let sum = t.weighted_depth(sample_place(pattern.offset(k), x, y));
+    let sum = t.weighted_depth(sample_position(pattern.offset(k), x, y));
     floor_div(sum, area) as u32
 }
 
@@ -151,7 +151,7 @@ pub fn depth_bounds(t: &ScreenTri, x: u32, y: u32, pattern: Pattern) -> (u32, u3
     ensures low { IsLeastKey t.now (offsets_of pattern) x y result.0 }
     ensures high { IsGreatestKey t.now (offsets_of pattern) x y result.1 }
 {
-    let centre = sample_place((0, 0), x, y);
+    let centre = sample_position((0, 0), x, y);
     let t = t.positive_order();
     let area = edge_function(t.a, t.b, t.c);
     t.bounds_at(centre, area)

@@ -10,7 +10,7 @@ use crate::report::report_of;
 use crate::stop::FullPool;
 use abuf_fan::Gate;
 use abuf_num::List;
-use abuf_picture::{Sight, draw_and_look};
+use abuf_picture::{PixelView, draw_and_look};
 use std::alloc::Global;
 use std::thread::Threads;
 
@@ -30,14 +30,15 @@ pub fn pick<R: Threads + Sync, G: Gate + Sync>(
 {
     let place = y * drawing.job().camera().width() + x;
     let target = drawing.target();
-    let Ok(sight) = draw_and_look(rt, alloc, &drawing.primitives(), &target, place, gate) else {
+    let Ok(pixel_view) = draw_and_look(rt, alloc, &drawing.primitives(), &target, place, gate)
+    else {
         return Outcome::out_of_memory();
     };
-    let Sight {
+    let PixelView {
         entries: fragments,
         words,
         closed,
-    } = sight;
+    } = pixel_view;
     let nodes = drawing.job().nodes();
     if fragments > u64::from(nodes) {
         return Outcome::full(FullPool::Image { fragments, nodes }, Some(closed));

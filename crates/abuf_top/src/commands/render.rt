@@ -55,7 +55,7 @@ fn render_banded<R: Threads + Sync>(
     let rendered = render_bands(
         rt,
         alloc,
-        drawing.shown(),
+        drawing.projected(),
         job.camera().width(),
         job.camera().height(),
         job.pattern(),
@@ -94,7 +94,7 @@ fn render_peeled<R: Threads + Sync>(rt: &R, alloc: Global, drawing: &Drawing) ->
     let peeled = peel(
         rt,
         alloc,
-        drawing.shown(),
+        drawing.projected(),
         job.camera().width(),
         job.camera().height(),
         job.pattern(),

@@ -9,7 +9,7 @@ use Rattle.abuf_band.proofs.rendering.render_bands.Given as goal
 
 abbrev pub invariant-loop-band : goal.invariant-loop-band
 invariant-loop-band g l = record {
-  sums : l.sums.items ≡ region_sums (offsets_of l.pattern) l.background l.shown.tris l.shown.paints (above (whole_image l.width l.height) l.bands l.band);
+  sums : l.sums.items ≡ region_sums (offsets_of l.pattern) l.background l.projected.tris l.projected.paints (above (whole_image l.width l.height) l.bands l.band);
   small : All (IsSmall (length (offsets_of l.pattern))) l.sums.items;
-  fit : (k : ℕ) → k < l.band → band_total l.shown.tris l.pattern l.width l.height l.bands k ≤ l.nodes;
+  fit : (k : ℕ) → k < l.band → band_total l.projected.tris l.pattern l.width l.height l.bands k ≤ l.nodes;
 }

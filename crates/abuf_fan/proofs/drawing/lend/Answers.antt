@@ -1,5 +1,5 @@
 use Rattle.std.proofs.Common.{arith, length}
-use Rattle.abuf_fan.proofs.Parts.{need_small}
+use Rattle.abuf_fan.proofs.Chunks.{need_small}
 use Rattle.abuf_fan.proofs.drawing.lend.Goals as goal
 
 pub overflow_mul-right : goal.overflow_mul-right

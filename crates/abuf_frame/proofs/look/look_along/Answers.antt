@@ -1,15 +1,15 @@
 use Rattle.std.proofs.Common.{rules, ◌≡◌, ◌≢◌, ◌<◌, arith, length}
-use Rattle.abuf_frame.specs.declared.view.Size.{Size}
+use Rattle.abuf_frame.specs.declared.view.FrameSize.{FrameSize}
 use Rattle.abuf_frame.specs.Words.{mark}
 use Rattle.abuf_frame.proofs.Looks.{looks_head}
 use Rattle.abuf_frame.proofs.Along.{has_noted, may_note, may_go, goes_on, stops_at, stops_full, reaches_end, never_stops, ends_list, full_list}
 use Rattle.abuf_frame.proofs.look.look_along.Goals as goal
 
 pub look_head_at-at-requires : goal.look_head_at-at-requires
-look_head_at-at-requires c = let k : Size = record { pixels = c.args.pixels; nodes = c.args.nodes } in (search rules, search rules, rw c.requires.key.0 (looks_head k _ _ c.args.seat.now.me c.requires.table.2 c.args.pixel c.requires.key.2))
+look_head_at-at-requires c = let k : FrameSize = record { pixels = c.args.pixels; nodes = c.args.nodes } in (search rules, search rules, rw c.requires.key.0 (looks_head k _ _ c.args.seat.now.me c.requires.table.2 c.args.pixel c.requires.key.2))
 
 pub look_payload_at-payload-requires-clause-step : goal.look_payload_at-payload-requires-clause-step
-look_payload_at-payload-requires-clause-step c = let k : Size = record { pixels = c.args.pixels; nodes = c.args.nodes } in let g = c.loop-at.invariant.2 in let away : c.loop-at.at ≢ 0 = search rules in let s = g.small in
+look_payload_at-payload-requires-clause-step c = let k : FrameSize = record { pixels = c.args.pixels; nodes = c.args.nodes } in let g = c.loop-at.invariant.2 in let away : c.loop-at.at ≢ 0 = search rules in let s = g.small in
     (search rules, search rules, rw c.requires.key.0 (may_note _ _ _ _ _ _ _ _ g away k _ _))
 
 pub look_next_at-next-requires-clause-noted : goal.look_next_at-next-requires-clause-noted
@@ -17,7 +17,7 @@ look_next_at-next-requires-clause-noted c = let g = c.loop-at.invariant.2 in let
     has_noted _ _ _ _ _ _ _ _ g away c.look_payload_at-payload.result c.look_payload_at-payload.new.seat.me c.look_payload_at-payload.ensures.2
 
 pub look_next_at-next-requires-clause-step : goal.look_next_at-next-requires-clause-step
-look_next_at-next-requires-clause-step c = let k : Size = record { pixels = c.args.pixels; nodes = c.args.nodes } in let g = c.loop-at.invariant.2 in let away : c.loop-at.at ≢ 0 = search rules in let s = g.small in
+look_next_at-next-requires-clause-step c = let k : FrameSize = record { pixels = c.args.pixels; nodes = c.args.nodes } in let g = c.loop-at.invariant.2 in let away : c.loop-at.at ≢ 0 = search rules in let s = g.small in
     let few : c.args.nodes < mark = search rules in
     (search rules, search rules, rw c.requires.key.0 (may_go _ _ _ _ _ _ _ _ g away c.look_payload_at-payload.result c.look_payload_at-payload.new.seat.me c.look_payload_at-payload.ensures.2 k _ _ few))
 

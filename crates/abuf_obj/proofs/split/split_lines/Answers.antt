@@ -6,8 +6,8 @@ use Rattle.abuf_obj.proofs.split.split_lines.Goals as goal
 pub returns-in-Some-clause-lines : goal.returns-in-Some-clause-lines
 returns-in-Some-clause-lines c =
     let bytes = c.args.bytes.now in
-    let k : ℕ = c.args.place + c.in-Some.feed in
-    let one : suc k ≡ c.args.place + c.in-Some.feed + 1 = omega arith in
+    let k : ℕ = c.args.offset + c.in-Some.feed in
+    let one : suc k ≡ c.args.offset + c.in-Some.feed + 1 = omega arith in
     lines-cut bytes k c.in-Some.ensures.within c.in-Some.ensures.feed
     ∙ ap₂ (λ (front back : List ℕ). lines front ++ lines back)
     (ap (λ n. take n bytes) one ∙ sym c.split_at.ensures.front)

@@ -2,7 +2,7 @@ use Rattle.std.proofs.Common.{ℕ, List, ap, ap₂, arith}
 use Rattle.abuf_num.specs.declared.plain.PixelSum.{PixelSum}
 use Rattle.abuf_raster.specs.Samples.{offsets_of}
 use Rattle.abuf_raster.proofs.Masks.{offsets_few}
-use Rattle.abuf_resolve.specs.declared.scene.runs.Resolved.{Resolved}
+use Rattle.abuf_resolve.specs.declared.shading.spans.Resolved.{Resolved}
 use Rattle.abuf_resolve.specs.Lengths.{greatest}
 use Rattle.abuf_resolve.proofs.Present.{lengths_are}
 use Rattle.abuf_resolve.proofs.Totals.{sums_are}
@@ -17,7 +17,7 @@ returns c =
     λ (lists : List (List ℕ)) size are.
     let sums = sums_are os t.background p.triangles.now p.paints.now t.region lists few (omega (arith, p.few)) c.region_law.ensures size are in
     let lengths = lengths_are os p.triangles.now t.region lists few (omega (arith, p.few)) c.region_law.ensures size are in
-    ap₂ of_parts sums (ap greatest lengths)
+    ap₂ new_unchecked sums (ap greatest lengths)
   where
-    of_parts : List PixelSum → ℕ → Resolved
-    of_parts sums longest = record { sums = sums; longest = longest }
+    new_unchecked : List PixelSum → ℕ → Resolved
+    new_unchecked sums longest = record { sums = sums; longest = longest }

@@ -6,5 +6,5 @@ pub returns-clause-behind : goal.returns-clause-behind
 returns-clause-behind c = λ p l g.
     let h = c.pixel_of.ensures.behind p l g in
     let v = c.raised.ensures.value in
-    let e = c.greatest.ensures in
+    let e = c.max_of.ensures in
     (omega (arith, ints), omega (arith, ints), omega (arith, ints))

@@ -6,5 +6,5 @@ pub returns-clause-before : goal.returns-clause-before
 returns-clause-before c = λ p l g.
     let h = c.pixel_of.ensures.before p l g in
     let v = c.lowered.ensures.value in
-    let e = c.least.ensures in
+    let e = c.min_of.ensures in
     (omega (arith, ints), omega (arith, ints), omega (arith, ints))

@@ -24,21 +24,21 @@ behind_one p m k r l z w h e f b g n v = rw (← v) (omega (arith, ints))
 pub returns-then-end-top : goal.returns-then-end-top
 returns-then-end-top c = λ before x y left right top bottom.
     let n = c.t.invariant in
-    let e = c.least.ensures in
+    let e = c.min_of.ensures in
     let h : pos (256 * y + 256) ≤ℤ c.lowered-top.result =
     let k = up_to (c.y0.result + c.h.result) c.lowered-top.result (omega (arith, c.y0.ensures.value, c.h.ensures.value, c.y0.ensures.region.y_within)) c.lowered-top.ensures.small before in
     omega (arith, ints, k, c.y0.ensures.value, c.h.ensures.value) in
-    let one = λ (z w : ℤ). before_one y _ _ c.lowered-top.result c.least.result z w h c.lowered-top.ensures.value c.reach-margin.ensures (near c.least.result c.t.inside.a.y c.t.inside.b.y c.t.inside.c.y n.a_near.1 n.b_near.1 n.c_near.1 e.bound) in
+    let one = λ (z w : ℤ). before_one y _ _ c.lowered-top.result c.min_of.result z w h c.lowered-top.ensures.value c.reach-margin.ensures (near c.min_of.result c.t.inside.a.y c.t.inside.b.y c.t.inside.c.y n.a_near.1 n.b_near.1 n.c_near.1 e.bound) in
     none_above c.args.t.now c.args.pattern x y
     (one c.t.inside.a.y c.args.t.now.a.y e.x n.a_near.1 (ap (λ (t : Triangle). t.a.y) c.t.view_is)) (one c.t.inside.b.y c.args.t.now.b.y e.y n.b_near.1 (ap (λ (t : Triangle). t.b.y) c.t.view_is)) (one c.t.inside.c.y c.args.t.now.c.y e.z n.c_near.1 (ap (λ (t : Triangle). t.c.y) c.t.view_is))
 
 pub returns-else-end-top : goal.returns-else-end-top
 returns-else-end-top c = λ behind x y left right top bottom.
     let n = c.t.invariant in
-    let e = c.greatest.ensures in
+    let e = c.max_of.ensures in
     let h : c.raised-bottom.result <ℤ pos (256 * y + 256) =
     let k = from c.y0-else-end-top.result c.raised-bottom.result (omega (arith, c.y0-else-end-top.ensures.value, c.y0.ensures.region.y_within, c.y0.ensures.region.h_some)) c.raised-bottom.ensures.small behind in
     omega (arith, ints, k, c.y0-else-end-top.ensures.value) in
-    let one = λ (z w : ℤ). behind_one y _ _ c.raised-bottom.result c.greatest.result z w h c.raised-bottom.ensures.value c.reach-margin.ensures (near c.greatest.result c.t.inside.a.y c.t.inside.b.y c.t.inside.c.y n.a_near.1 n.b_near.1 n.c_near.1 e.bound) in
+    let one = λ (z w : ℤ). behind_one y _ _ c.raised-bottom.result c.max_of.result z w h c.raised-bottom.ensures.value c.reach-margin.ensures (near c.max_of.result c.t.inside.a.y c.t.inside.b.y c.t.inside.c.y n.a_near.1 n.b_near.1 n.c_near.1 e.bound) in
     none_under c.args.t.now c.args.pattern x y
     (one c.t.inside.a.y c.args.t.now.a.y e.x n.a_near.1 (ap (λ (t : Triangle). t.a.y) c.t.view_is)) (one c.t.inside.b.y c.args.t.now.b.y e.y n.b_near.1 (ap (λ (t : Triangle). t.b.y) c.t.view_is)) (one c.t.inside.c.y c.args.t.now.c.y e.z n.c_near.1 (ap (λ (t : Triangle). t.c.y) c.t.view_is))

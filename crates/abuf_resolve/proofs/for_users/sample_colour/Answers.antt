@@ -9,6 +9,6 @@ returns c =
     let first = c.first_seen-first.result in
     let words = c.args.sorted.now in
     let whole : take (length words - first) (drop first words) ≡ drop first words = take_all (length words - first) (drop first words) (omega (arith, length-drop first words)) in
-    c.lay_all.ensures
+    c.composite_all.ensures
     ∙ (ap (λ (ws : List ℕ). folded c.args.background c.args.paints.now ws) whole
     ∙ from_hidden c.args.paints.now c.args.background words first c.first_seen-first.ensures.hidden)

@@ -8,8 +8,8 @@ use Rattle.abuf_uses.proofs.layers.lowest_layers.Goals as goal
 
 pub returns : goal.returns
 returns c =
-    let tris = c.args.shown.now.tris in
-    let paints = c.args.shown.now.paints in
+    let tris = c.args.projected.now.tris in
+    let paints = c.args.projected.now.paints in
     let l = c.loop-step.layer in
     c.in_ok-sums.ensures.value
     ∙ (sums_lowest c.args.background tris paints c.args.count l (search rules)

@@ -30,18 +30,18 @@ module _ (c : After-difference-span) where
   span_fits : SFits w64 c.difference-span.result
   span_fits = record { sfits = c.difference-span.type_inv }
 
-pub cut_part-requires : goal.cut_part-requires
-cut_part-requires c =
-    let d = (goal.at.cut_part-requires c).After-difference-span in
+pub cut_coordinate-requires : goal.cut_coordinate-requires
+cut_coordinate-requires c =
+    let d = (goal.at.cut_coordinate-requires c).After-difference-span in
     let f1 : SFits w64 c.args.p.x = fits55 _ (p_small d).0 in
     let f2 : SFits w64 c.args.q.x = fits55 _ (q_small d).0 in
     let f3 = near_fits d in
     let f4 = span_fits d in
     simp to_z-of_z (record { p = (p_small d).0; q = (q_small d).0; near = (spans d).0; small = near_small d; span = (spans d).1; order = (spans d).2 })
 
-pub cut_part-requires-2 : goal.cut_part-requires-2
-cut_part-requires-2 c =
-    let d = (goal.at.cut_part-requires-2 c).After-difference-span in
+pub cut_coordinate-requires-2 : goal.cut_coordinate-requires-2
+cut_coordinate-requires-2 c =
+    let d = (goal.at.cut_coordinate-requires-2 c).After-difference-span in
     let f1 : SFits w64 c.args.p.y = fits55 _ (p_small d).1 in
     let f2 : SFits w64 c.args.q.y = fits55 _ (q_small d).1 in
     let f3 = near_fits d in
@@ -57,13 +57,13 @@ returns c =
     let f4 : SFits w64 c.args.q.y = fits55 _ (q_small d).1 in
     let f5 = near_fits d in
     let f6 = span_fits d in
-    let f7 : SFits w64 c.cut_part.result = record { sfits = c.cut_part.type_inv } in
-    let f8 : SFits w64 c.cut_part-2.result = record { sfits = c.cut_part-2.type_inv } in
+    let f7 : SFits w64 c.cut_coordinate.result = record { sfits = c.cut_coordinate.type_inv } in
+    let f8 : SFits w64 c.cut_coordinate-2.result = record { sfits = c.cut_coordinate-2.type_inv } in
     let f9 : SFits w64 c.args.near_plane.w = fits55 _ (omega (arith, c.requires.near_plane.w_high)) in
-    let ex = (simp to_z-of_z at c.cut_part.ensures.value) ∙ ap₂ (λ (n s : ℤ). c.args.p.x +ℤ floor_div ((c.args.q.x -ℤ c.args.p.x) *ℤ n) s) (near_is d) (span_is d) in
-    let ey = (simp to_z-of_z at c.cut_part-2.ensures.value) ∙ ap₂ (λ (n s : ℤ). c.args.p.y +ℤ floor_div ((c.args.q.y -ℤ c.args.p.y) *ℤ n) s) (near_is d) (span_is d) in
-    let wx = simp to_z-of_z at c.cut_part.ensures.within in
-    let wy = simp to_z-of_z at c.cut_part-2.ensures.within in
+    let ex = (simp to_z-of_z at c.cut_coordinate.ensures.value) ∙ ap₂ (λ (n s : ℤ). c.args.p.x +ℤ floor_div ((c.args.q.x -ℤ c.args.p.x) *ℤ n) s) (near_is d) (span_is d) in
+    let ey = (simp to_z-of_z at c.cut_coordinate-2.ensures.value) ∙ ap₂ (λ (n s : ℤ). c.args.p.y +ℤ floor_div ((c.args.q.y -ℤ c.args.p.y) *ℤ n) s) (near_is d) (span_is d) in
+    let wx = simp to_z-of_z at c.cut_coordinate.ensures.within in
+    let wy = simp to_z-of_z at c.cut_coordinate-2.ensures.within in
     simp to_z-of_z (record {
       value = λ i. record { x = ex i; y = ey i; w = c.args.near_plane.w };
       bounded = record {

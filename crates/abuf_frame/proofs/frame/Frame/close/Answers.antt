@@ -1,7 +1,7 @@
 use Rattle.std.proofs.Common.{rules, ℕ, ◌∙◌, ap, sym, subst, List, arith}
 use Rattle.std.specs.Mem.Slots.{slots_items}
 use Rattle.atomic_table.specs.Table.{Final, Seen}
-use Rattle.abuf_frame.specs.declared.view.Size.{Size}
+use Rattle.abuf_frame.specs.declared.view.FrameSize.{FrameSize}
 use Rattle.abuf_frame.specs.Lawful.{Lawful}
 use Rattle.abuf_frame.specs.Pass.{AllInRange}
 use Rattle.abuf_frame.specs.Views.{IsSettled, IsWhole}
@@ -11,10 +11,10 @@ use Rattle.abuf_frame.proofs.frame.Frame.close.Goals as goal
 
 -- what the words of the closed table are good for
 good : (c : goal.After-new) → Good (record { pixels = c.self.inside.pixels; nodes = c.self.inside.nodes }) c.args.pass.view c.new.result
-good c = let k : Size = record { pixels = c.self.inside.pixels; nodes = c.self.inside.nodes } in let id = c.pass.inside.seat.id in let v = c.pass.inside.seat.me.0 in
+good c = let k : FrameSize = record { pixels = c.self.inside.pixels; nodes = c.self.inside.nodes } in let id = c.pass.inside.seat.id in let v = c.pass.inside.seat.me.0 in
     let whole : IsWhole v = search rules in let settled : IsSettled v = search rules in let sound : AllInRange c.self.inside.pixels c.self.inside.nodes v.entries = search rules in
     let table = c.close_with.result in let words : List ℕ = slots_items table.words in let slots : List (Unit {0}) = slots_items table.slots in
-    let final = subst (λ (z : Size). Final (Seen (Lawful z) id v) words slots) c.self.invariant.key_is c.close_with.ensures.values.2 in
+    let final = subst (λ (z : FrameSize). Final (Seen (Lawful z) id v) words slots) c.self.invariant.key_is c.close_with.ensures.values.2 in
     subst (λ h. Good k h.view c.new.result) c.pass.view_is (subst (Good k v) (sym c.new.ensures) (closes k id v whole settled c.self.invariant.sized sound words slots final))
 
 pub invariant_of-result : goal.invariant_of-result

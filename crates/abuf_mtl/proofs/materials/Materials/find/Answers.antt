@@ -2,7 +2,7 @@ use Rattle.std.proofs.Common.{◌∙◌, sym, ap, option_map, Some, None, get_or
 use Rattle.std.proofs.lemmas.List.{get_or_default}
 use Rattle.abuf_mtl.specs.Material.{paint_of}
 use Rattle.abuf_mtl.specs.StandsFor.{find_paint}
-use Rattle.abuf_mtl.proofs.Paints.{lookup-zip, place_within}
+use Rattle.abuf_mtl.proofs.Paints.{lookup-zip, index_within}
 use Rattle.abuf_mtl.proofs.materials.Materials.find.Goals as goal
 
 pub returns-in-Some : goal.returns-in-Some
@@ -10,11 +10,11 @@ returns-in-Some c =
     let names = c.self.inside.names in
     let paints = c.self.inside.paints.items in
     let name = c.args.name.now in
-    let place = sym c.find.ensures ∙ c.in-Some.is in
-    let within = place_within name names c.in-Some.place place in
+    let index = sym c.find.ensures ∙ c.in-Some.is in
+    let within = index_within name names c.in-Some.index index in
     let found =
-    ap Some (c.index.ensures ∙ get_or_default paints c.in-Some.place _ (paint_of None None) (omega (arith, c.self.invariant.0)))
-    ∙ sym (ap (option_map (λ k. get_or paints k (paint_of None None))) place)
+    ap Some (c.index.ensures ∙ get_or_default paints c.in-Some.index _ (paint_of None None) (omega (arith, c.self.invariant.0)))
+    ∙ sym (ap (option_map (λ k. get_or paints k (paint_of None None))) index)
     ∙ sym (lookup-zip name names paints c.self.invariant.0) ∙ ap (find_paint name) c.self.view_is in
     record { found = found; material = λ libraries stands. found ∙ stands.paints name }
 

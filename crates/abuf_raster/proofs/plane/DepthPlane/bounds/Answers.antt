@@ -1,13 +1,13 @@
 use Rattle.std.proofs.Common.{◌≡◌, ◌∙◌, ◌≤◌, ◌<◌, ◌*◌, ◌+◌, ap, sym, subst, ℕ, pos, ◌+ℤ◌, ◌-ℤ◌, w64, length, slice_index_or, unsigned_abs, true}
 use Rattle.abuf_raster.specs.declared.point.Point.{Point}
 use Rattle.abuf_raster.specs.Triangle.{Triangle, positive_order}
-use Rattle.abuf_raster.specs.Samples.{offsets_of, reach_of, sample_place, pixel_centre}
+use Rattle.abuf_raster.specs.Samples.{offsets_of, reach_of, sample_position, pixel_centre}
 use Rattle.abuf_raster.specs.Coverage.{covers}
 use Rattle.abuf_raster.specs.Depth.{weighted_depth, depth_key}
 use Rattle.abuf_raster.specs.Slopes.{slope_across, slope_down}
 use Rattle.std.specs.Int.{int_wrap}
 use Rattle.abuf_raster.specs.Plane.{sum_at}
-use Rattle.abuf_raster.proofs.Bounds.{sample_place-centre}
+use Rattle.abuf_raster.proofs.Bounds.{sample_position-centre}
 use Rattle.std.proofs.lemmas.Bool.{and_parts}
 use Rattle.abuf_raster.proofs.Keys.{plane_of, key_of, between_bounds, near_centre}
 use Rattle.abuf_raster.proofs.Spread.{sample_reach}
@@ -20,9 +20,9 @@ found c k l h =
     let u : Triangle = positive_order c.args.self.now in
     let p = c.in-Some.coefficients in
     let d : ℕ = p.area.divisor in
-    let s : Point = sample_place (slice_index_or (offsets_of c.args.pattern) k (pos 0, pos 0)) c.args.x c.args.y in
+    let s : Point = sample_position (slice_index_or (offsets_of c.args.pattern) k (pos 0, pos 0)) c.args.x c.args.y in
     let m : Point = pixel_centre c.args.x c.args.y in
-    let same : c.sample_place.result ≡ m = c.sample_place.ensures.value ∙ sample_place-centre c.args.x c.args.y in
+    let same : c.sample_position.result ≡ m = c.sample_position.ensures.value ∙ sample_position-centre c.args.x c.args.y in
     let plane = plane_of c.args.self.now c.self.inside.triangle.value c.self.inside.coefficients p c.self.invariant c.in-Some.is c.self.view_is in
     let key = key_of u p s plane (and_parts _ _ h).1 in
     let n = sample_reach c.args.pattern k c.args.x c.args.y l in

@@ -10,7 +10,7 @@ use Rattle.abuf_raster.specs.Edge.{edge_function}
 use Rattle.abuf_raster.specs.Triangle.{Triangle, has_area, positive_order}
 use Rattle.abuf_raster.specs.declared.point.Point.{Point}
 use Rattle.abuf_raster.specs.Coverage.{all_accept}
-use Rattle.abuf_raster.specs.Samples.{sample_place, offsets_of}
+use Rattle.abuf_raster.specs.Samples.{sample_position, offsets_of}
 use Rattle.abuf_raster.specs.Depth.{weighted_depth, depth_of, depth_key}
 use Rattle.abuf_raster.proofs.triangle.depth.depth_at.Goals as goal
 use Rattle.abuf_raster.proofs.triangle.depth.depth_at.Goals.{After-weighted_depth-sum, After-floor_div}
@@ -43,8 +43,8 @@ found : (c : After-floor_div) → IsKey c.floor_div.result (depth_key c.args.t.n
 found c =
     let t : Triangle = c.args.t.now in
     let u : Triangle = positive_order t in
-    let s : Point = sample_place (slice_index_or (offsets_of c.args.pattern) c.args.k (pos 0, pos 0)) c.args.x c.args.y in
-    let p : c.sample_place.result ≡ s = c.sample_place.ensures.value ∙ ap (λ (o : ℤ × ℤ). sample_place o c.args.x c.args.y) c.offset.ensures.value in
+    let s : Point = sample_position (slice_index_or (offsets_of c.args.pattern) c.args.k (pos 0, pos 0)) c.args.x c.args.y in
+    let p : c.sample_position.result ≡ s = c.sample_position.ensures.value ∙ ap (λ (o : ℤ × ℤ). sample_position o c.args.x c.args.y) c.offset.ensures.value in
     let split = and_parts (has_area t) (all_accept u.a u.b u.c s) c.requires.covered in
     let same = c.t.view_is ∙ c.positive_order-t.ensures.value in
     is_key c.floor_div.result u s (positive_area t split.0) split.1

@@ -1,5 +1,5 @@
 use Rattle.std.proofs.Common.{◌∙◌, ap}
-use Rattle.abuf_resolve.specs.declared.scene.runs.Resolved.{Resolved}
+use Rattle.abuf_resolve.specs.declared.shading.spans.Resolved.{Resolved}
 use Rattle.abuf_top.proofs.Listing.{rendered}
 use Rattle.abuf_top.proofs.commands.render.render_whole.Goals as goal
 

@@ -29,8 +29,7 @@ drawn job what seen line scene tris paints d same none t p is =
 
 pub returns-clause-told : goal.returns-clause-told
 returns-clause-told g c = λ libraries stands.
-    let shown = c.in_ok-shown.ensures in
+    let projected = c.in_ok-projected.ensures in
     drawn c.args.job c.args.what c.camera.result.now (unknown libraries c.args.self.obj) (triangles libraries c.args.self.obj) _ _ c.new.result
-    c.camera.ensures.value (shown.known libraries stands)
-    (ap (λ (p : Projected). p.tris) c.settled.ensures ∙ shown.tris libraries stands)
-    (ap (λ (p : Projected). p.paints) c.settled.ensures ∙ shown.paints libraries stands) c.new.ensures
+    c.camera.ensures.value (projected.known libraries stands)
+    (projected.tris libraries stands) (projected.paints libraries stands) c.new.ensures

@@ -2,9 +2,9 @@ use Rattle.std.proofs.Common.{arith, ◌∙◌, ap, ◌≤◌, ◌*◌, ℤ, neg
 use Rattle.std.proofs.lemmas.Int.{ints, to_z-of_z}
 use Rattle.abuf_view.proofs.Bounds.{fits55, neg_back}
 use Rattle.abuf_view.proofs.eye.Eye.sees.Goals as goal
-use Rattle.abuf_view.proofs.eye.Eye.sees.Goals.{After-eye_part-z}
+use Rattle.abuf_view.proofs.eye.Eye.sees.Goals.{After-eye_coordinate-z}
 
-module _ (c : After-eye_part-z) where
+module _ (c : After-eye_coordinate-z) where
   abbrev norm : ℤ
   norm = c.args.self.now.near_plane.norm
 
@@ -14,33 +14,33 @@ module _ (c : After-eye_part-z) where
   norm_fits : SFits w64 norm
   norm_fits = fits55 norm (omega (arith, norm_le))
 
-  z_le : unsigned_abs c.eye_part-z.result ≤ unsigned_abs norm * 8589934588
-  z_le = let f = norm_fits in simp to_z-of_z at c.eye_part-z.ensures.bound
+  z_le : unsigned_abs c.eye_coordinate-z.result ≤ unsigned_abs norm * 8589934588
+  z_le = let f = norm_fits in simp to_z-of_z at c.eye_coordinate-z.ensures.bound
 
 pub overflow_sub-result : goal.overflow_sub-result
-overflow_sub-result c = let d = (goal.at.overflow_sub-result c).After-eye_part-z in omega (arith, ints, z_le d, norm_le d)
+overflow_sub-result c = let d = (goal.at.overflow_sub-result c).After-eye_coordinate-z in omega (arith, ints, z_le d, norm_le d)
 
 pub returns : goal.returns
 returns c =
-    let d = (goal.at.returns c).After-eye_part-z in
+    let d = (goal.at.returns c).After-eye_coordinate-z in
     let eye = c.args.self.now in
     let f1 = norm_fits d in
-    let f2 : SFits w64 c.eye_part-x.result = record { sfits = c.eye_part-x.type_inv } in
-    let f3 : SFits w64 c.eye_part-y.result = record { sfits = c.eye_part-y.type_inv } in
+    let f2 : SFits w64 c.eye_coordinate-x.result = record { sfits = c.eye_coordinate-x.type_inv } in
+    let f3 : SFits w64 c.eye_coordinate-y.result = record { sfits = c.eye_coordinate-y.type_inv } in
     let f4 = fits55 eye.shift.x (omega (arith, c.requires.eye.shift.0)) in
     let f5 = fits55 eye.shift.y (omega (arith, c.requires.eye.shift.1)) in
     let f6 = fits55 eye.shift.z (omega (arith, c.requires.eye.shift.2)) in
-    let x = to_z-of_z w64 c.eye_part-x.result f2 in
-    let y = to_z-of_z w64 c.eye_part-y.result f3 in
-    let w = neg_back c.eye_part-z.result (omega (arith, z_le d, norm_le d)) in
-    let ex = x ∙ simp to_z-of_z at c.eye_part-x.ensures.value in
-    let ey = y ∙ simp to_z-of_z at c.eye_part-y.ensures.value in
-    let ew = w ∙ ap neg_ℤ (simp to_z-of_z at c.eye_part-z.ensures.value) in
+    let x = to_z-of_z w64 c.eye_coordinate-x.result f2 in
+    let y = to_z-of_z w64 c.eye_coordinate-y.result f3 in
+    let w = neg_back c.eye_coordinate-z.result (omega (arith, z_le d, norm_le d)) in
+    let ex = x ∙ simp to_z-of_z at c.eye_coordinate-x.ensures.value in
+    let ey = y ∙ simp to_z-of_z at c.eye_coordinate-y.ensures.value in
+    let ew = w ∙ ap neg_ℤ (simp to_z-of_z at c.eye_coordinate-z.ensures.value) in
     record {
       value = λ i. record { x = ex i; y = ey i; w = ew i };
       bounded = record {
-        x_small = rw x (simp to_z-of_z at c.eye_part-x.ensures.bound);
-        y_small = rw y (simp to_z-of_z at c.eye_part-y.ensures.bound);
+        x_small = rw x (simp to_z-of_z at c.eye_coordinate-x.ensures.bound);
+        y_small = rw y (simp to_z-of_z at c.eye_coordinate-y.ensures.bound);
         w_small = rw w (omega (arith, ints, z_le d));
       };
     }

@@ -2,7 +2,7 @@ use Rattle.std.proofs.Common.{arith, refl, map}
 use Rattle.abuf_scene.specs.Triangles.{triangle}
 use Rattle.abuf_scene.specs.declared.triangles.Triangle.{Triangle}
 use Rattle.abuf_view.specs.declared.near_plane.EyeTriangle.{EyeTriangle}
-use Rattle.abuf_view.specs.Eye.{clipped_by, shown_by}
+use Rattle.abuf_view.specs.Eye.{clipped_by, on_screen_by}
 use Rattle.abuf_view.proofs.Fans.{one_more}
 use Rattle.abuf_view.proofs.primitive_lists.PrimitiveLists.push_fan.Goals as goal
 
@@ -14,6 +14,6 @@ loop-i-preserved c =
     let pushed = c.in_ok-push_fan_triangle.ensures in
     record {
       low = omega arith;
-      tris = one_more (λ (t : Triangle). map (shown_by eye) (clipped_by eye t)) g _ _ _ c.loop-i.i (g c.loop-i.i) before.low before.tris refl pushed.tris;
+      tris = one_more (λ (t : Triangle). map (on_screen_by eye) (clipped_by eye t)) g _ _ _ c.loop-i.i (g c.loop-i.i) before.low before.tris refl pushed.tris;
       paints = one_more (λ (t : Triangle). map (λ (k : EyeTriangle). t.paint) (clipped_by eye t)) g _ _ _ c.loop-i.i (g c.loop-i.i) before.low before.paints refl pushed.paints;
     }

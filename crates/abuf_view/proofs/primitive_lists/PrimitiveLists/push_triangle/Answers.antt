@@ -1,7 +1,7 @@
 use Rattle.std.proofs.Common.{◌≡◌, ◌∙◌, ap, ◌++◌, option_to_list}
 use Rattle.abuf_view.specs.declared.near_plane.EyeTriangle.{EyeTriangle}
 use Rattle.abuf_view.specs.NearPlane.{clipped}
-use Rattle.abuf_view.specs.Eye.{clipped_by, shown_by, eye_point_by}
+use Rattle.abuf_view.specs.Eye.{clipped_by, on_screen_by, eye_point_by}
 use Rattle.abuf_view.proofs.Joining.{both_pushed}
 use Rattle.abuf_view.proofs.primitive_lists.PrimitiveLists.push_triangle.Goals as goal
 use Rattle.abuf_view.proofs.primitive_lists.PrimitiveLists.push_triangle.Goals.{After-clip-first}
@@ -17,9 +17,9 @@ parts c =
 pub returns-clause-tris : goal.returns-clause-tris
 returns-clause-tris c =
     let d = (goal.at.returns-clause-tris c).After-clip-first in
-    both_pushed (shown_by c.args.eye.now) _ _ _ _ _ _ c.in_ok-push_part.ensures.tris c.in_ok-push_part-2.ensures.tris (parts d)
+    both_pushed (on_screen_by c.args.eye.now) _ _ _ _ _ _ c.in_ok-push_clipped.ensures.tris c.in_ok-push_clipped-2.ensures.tris (parts d)
 
 pub returns-clause-paints : goal.returns-clause-paints
 returns-clause-paints c =
     let d = (goal.at.returns-clause-paints c).After-clip-first in
-    both_pushed (λ (k : EyeTriangle). c.args.t.now.paint) _ _ _ _ _ _ c.in_ok-push_part.ensures.paints c.in_ok-push_part-2.ensures.paints (parts d)
+    both_pushed (λ (k : EyeTriangle). c.args.t.now.paint) _ _ _ _ _ _ c.in_ok-push_clipped.ensures.paints c.in_ok-push_clipped-2.ensures.paints (parts d)

@@ -1,0 +1,91 @@
+// How many fragments triangles have at most.
+ghost use Rattle.std.specs.Prelude.{ℕ, ◌+◌, ◌*◌, ◌<◌, ◌≤◌, IsTrue, ◌↔◌, length};
+ghost use Rattle.abuf_num.specs.declared.limits.TheConstants.{MAX_PIXELS, MAX_PRIMITIVES, MAX_THREADS};
+ghost use Rattle.abuf_raster.specs.Samples.{offsets_of};
+ghost use Rattle.abuf_raster.specs.Hits.{hits};
+ghost use Rattle.abuf_fan.specs.Bound.{CanCount, IsBound};
+ghost use Rattle.abuf_fan.specs.declared.bound.TheConstants.{LITTLE};
+ghost use denote.Param.Send.{IsSync};
+
+use abuf_raster::{Pattern, Region, ScreenTri, max_hits, meets, region_law};
+use std::thread::{Threads, join};
+
+/// At least as many as the triangle's hits. For a triangle outside of the region, [`meets`] takes much less than to set up its
+/// tiles.
+#[inline(always)]
+fn max_of(t: &ScreenTri, region: Region, pattern: Pattern) -> u32
+    ensures bound { (prim : ℕ) → length (hits t.now prim (offsets_of pattern) region) ≤ result }
+    ensures few { result ≤ region.w * region.h }
+{
+    if !meets(t, region, pattern) {
+        return 0;
+    }
+    max_hits(t, region, pattern)
+}
+
+/// The sum of what each of the triangles has at most, up to what is enough.
+fn sum_of(tris: &[ScreenTri], region: Region, pattern: Pattern, enough: u64) -> u64
+    requires few { length tris.now ≤ MAX_PRIMITIVES }
+    ensures bound { IsBound tris.now (offsets_of pattern) region enough result }
+    ensures small { result ≤ length tris.now * MAX_PIXELS }
+{
+    region_law(region);
+    let mut sum = 0;
+    for t in tris {
+        if enough <= sum {
+            return sum;
+        }
+        sum += u64::from(max_of(t, region, pattern));
+    }
+    sum
+}
+
+/// About how many pixels may be asked of one thread: where there are no more, starting another takes longer.
+const LITTLE: u64 = 4194304;
+
+/// The triangles are so few that one thread soon has asked all about the tiles of the region.
+fn is_little(count: usize, region: Region) -> bool
+    requires few { count ≤ MAX_PRIMITIVES }
+    ensures { IsTrue result ↔ (count * (region.w * region.h + 64) ≤ LITTLE) }
+{
+    count as u64 * u64::from(region.pixels() + 64) <= LITTLE
+}
+
+/// At least as many as the triangles have fragments in the region, whatever number the first of them has: the sum of what each
+/// has at most, found on 1 to 64 threads, or on one where that is soon done. A frame of so many nodes loses none, and more nodes
+/// would only take memory, and time to clear them. Where the sum reaches what is enough, the rest isn't asked: no caller needs a
+/// bound above the nodes that its pool may have. The call takes no memory.
+pub fn max_fragments<R: Threads + Sync>(
+    rt: &R,
+    tris: &[ScreenTri],
+    region: Region,
+    pattern: Pattern,
+    threads: u32,
+    enough: u64,
+) -> u64
+    requires few { length tris.now ≤ MAX_PRIMITIVES }
+    requires threads { (1 ≤ threads) × (threads ≤ MAX_THREADS) }
+    ensures bound { IsBound tris.now (offsets_of pattern) region enough result }
+    ensures small { result ≤ length tris.now * MAX_PIXELS }
+{
+    if threads == 1 || is_little(tris.len(), region) {
+        return sum_of(tris, region, pattern, enough);
+    }
+    let left = threads / 2;
+    let right = threads - left;
+    let (front, back) = tris.split_at(tris.len() * left as usize / threads as usize);
+    // In a recursion a closure can be lent a struct with a model, and not be given it.
+    let shared = &region;
+    let (before, after) = join(
+        rt,
+        move || -> u64
+            requires { IsSync R.row × CanCount front.now left }
+            ensures { IsBound front.entry.now (offsets_of pattern) shared.entry.now enough result × (result ≤ length front.entry.now * MAX_PIXELS) }
+        { max_fragments(rt, front, *shared, pattern, left, enough) },
+        move || -> u64
+            requires { IsSync R.row × CanCount back.now right }
+            ensures { IsBound back.entry.now (offsets_of pattern) shared.entry.now enough result × (result ≤ length back.entry.now * MAX_PIXELS) }
+        { max_fragments(rt, back, *shared, pattern, right, enough) },
+    );
+    before + after
+}

@@ -1,6 +1,0 @@
-use Rattle.std.proofs.Common.{◌*◌}
-use Rattle.abuf_peel.specs.Rows.{AreSums}
-use Rattle.abuf_peel.proofs.scene.Scene.block_sums.Given as goal
-
-abbrev pub invariant-loop-i : goal.invariant-loop-i
-invariant-loop-i l = AreSums l.self (4 * l.n) l.i l.sums.items

@@ -1,8 +1,0 @@
-use Rattle.std.proofs.Common.{◌∙◌, ap, length, arith, refl}
-use Rattle.std.proofs.lemmas.Int.{ints}
-use Rattle.abuf_scene.proofs.Putting.{piece_fits}
-use Rattle.abuf_scene.proofs.pieces.drawn_piece.Goals as goal
-
-pub piece_of-requires : goal.piece_of-requires
-piece_of-requires c =
-    piece_fits _ _ _ _ (c.as_slice.ensures.value ∙ c.in_ok-push_coordinate.ensures.text) (ap length c.new-text.ensures.items) refl (c.push_coordinate.ensures.short (omega (arith, ints)))

@@ -1,6 +1,0 @@
-use Rattle.std.proofs.Common.{arith}
-use Rattle.abuf_scene.proofs.Putting.{put_is}
-use Rattle.abuf_scene.proofs.pieces.put.Goals as goal
-
-pub returns-clause-text : goal.returns-clause-text
-returns-clause-text c = put_is c.args.at c.args.piece.length c.args.buf.now c.args.piece.bytes c.requires.room (omega arith) c.requires.short
