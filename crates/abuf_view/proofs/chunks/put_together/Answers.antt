@@ -13,11 +13,11 @@ loop-chunk-init c =
 pub returns-in_err-made : goal.returns-in_err-made
 returns-in_err-made c =
     let p = err_from_is_err_and c.from_residual.result c.from_residual.ensures.1 in
-    rw (p.1, p.2) (is_answer _ _ (sym c.loop-chunk.invariant ∙ refused_first _ _ c.next.new.self.rest.items c.in-Some.chunk' _ c.in-Some.ensures.steps.0 c.in_err-made.was))
+    rw (p.1, p.2) (is_answer _ _ (sym c.loop-chunk.invariant ∙ refused_first _ _ c.next.new.self.rest.items c.in-Some.chunk _ c.in-Some.ensures.steps.0 c.in_err-made.was))
 
 pub loop-chunk-preserved : goal.loop-chunk-preserved
 loop-chunk-preserved c =
-    one_more _ _ c.in_ok-made.made _ c.next.new.self.rest.items c.in-Some.chunk' c.in-Some.ensures.steps.0 c.in_ok-made.was
+    one_more _ _ c.in_ok-made.made _ c.next.new.self.rest.items c.in-Some.chunk c.in-Some.ensures.steps.0 c.in_ok-made.was
     (c.in_ok-append.ensures ∙ ap (λ (l : List OnScreen). c.loop-chunk.tris.items ++ l) c.into_vec.ensures)
     (c.in_ok-append-2.ensures ∙ ap (λ (l : List Paint). c.loop-chunk.paints.items ++ l) c.into_vec-in-loop-chunk.ensures)
     ∙ c.loop-chunk.invariant
