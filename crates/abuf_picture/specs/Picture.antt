@@ -8,7 +8,7 @@ use Rattle.abuf_raster.specs.Hits.{all_fragments}
 use Rattle.abuf_raster.specs.Samples.{offsets_of}
 use Rattle.abuf_raster.specs.Triangle.{Triangle}
 use Rattle.abuf_resolve.specs.Laws.{counts}
-use Rattle.abuf_resolve.specs.Lengths.{greatest}
+use Rattle.abuf_resolve.specs.Lengths.{maximum}
 use Rattle.abuf_resolve.specs.Words.{AreListsOf}
 
 -- The fragments of all triangles in a region: each the place of its pixel, and its packed word.
@@ -21,7 +21,7 @@ total triangles pattern r = length (fragments triangles pattern r)
 
 -- The length of the longest list of a pixel: no pixel has fragments of more triangles than this.
 abbrev pub longest : List Triangle → Pattern → Region → ℕ
-longest triangles pattern r = greatest (counts (offsets_of pattern) triangles r)
+longest triangles pattern r = maximum (counts (offsets_of pattern) triangles r)
 
 -- The lists hold these fragments but for so many: entries and a rest of this length are the fragments in some order, and the list
 -- of each place has the words of the entries there, in an order of its own.

@@ -8,7 +8,7 @@ use Rattle.abuf_raster.specs.Region.{Region}
 use Rattle.abuf_raster.specs.Samples.{offsets_of}
 use Rattle.abuf_raster.specs.Triangle.{Triangle}
 use Rattle.abuf_resolve.specs.declared.shading.spans.Resolved.{Resolved}
-use Rattle.abuf_resolve.specs.Lengths.{greatest}
+use Rattle.abuf_resolve.specs.Lengths.{maximum}
 use Rattle.abuf_resolve.specs.Sums.{IsSmall, region_sums}
 use Rattle.abuf_resolve.specs.Words.{frame_sums, AreFragmentLists, AreListsOf}
 use Rattle.abuf_picture.specs.declared.primitives.Primitives.{Primitives}
@@ -44,7 +44,7 @@ Way = Subject → List (List ℕ) → Resolved
 abbrev pub composited : Way
 composited s lists = record {
   sums = frame_sums (offsets_of s.pattern) s.background s.triangles s.paints s.region lists;
-  longest = greatest (map length lists);
+  longest = maximum (map length lists);
 }
 
 -- What the definition says, from the primitives alone.
