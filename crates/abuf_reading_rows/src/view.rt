@@ -7,7 +7,7 @@ use abuf_num::{List, NoMemory, Paint};
 use abuf_obj::read_flat;
 use abuf_raster::{Pattern, Region, ScreenTri, TileWalk, depth_at, mask_at};
 use abuf_scene::{Scene, SceneFault, Triangle};
-use abuf_view::{Camera, Projected, Room, project, project_faces};
+use abuf_view::{Camera, Projected, project, project_faces};
 use std::alloc::{AllocError, Global};
 use std::test::Fail;
 use std::thread::Threads;
@@ -190,7 +190,7 @@ fn seen_by_faces<R: Threads + Sync>(
         return None;
     }
     match read_flat(alloc, SQUARE) {
-        Ok(obj) => Some(project_faces(rt, Room::new(alloc, 0), &obj, &materials, camera, 2)),
+        Ok(obj) => Some(project_faces(rt, alloc, &obj, &materials, camera, 2)),
         Err(_) => None,
     }
 }
@@ -271,7 +271,7 @@ fn seen_on_threads<R: Threads + Sync>(
         return None;
     }
     match read_flat(alloc, text.as_slice()) {
-        Ok(obj) => Some(project_faces(rt, Room::new(alloc, 0), &obj, &materials, camera, 3)),
+        Ok(obj) => Some(project_faces(rt, alloc, &obj, &materials, camera, 3)),
         Err(_) => None,
     }
 }

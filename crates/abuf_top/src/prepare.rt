@@ -13,8 +13,6 @@ use crate::stop::Stop;
 use crate::task::Task;
 use abuf_cli::{Command, Job, read_words};
 use abuf_io::{Shelf, Source};
-use abuf_num::limits::MAX_TRIANGLES;
-use abuf_view::Room;
 use std::alloc::Global;
 use std::thread::Threads;
 
@@ -32,9 +30,8 @@ fn task_of<R: Threads + Sync, S: Source, H: Shelf>(
     match job.command() {
         Command::Draw(what) => {
             let what = *what;
-            let room = Room::new(alloc, MAX_TRIANGLES as usize);
             let loaded = load(rt, alloc, what, scene, shelf, job.threads())?;
-            loaded.drawing(rt, room, job, what)
+            loaded.drawing(rt, alloc, job, what)
         }
         Command::Sequence { name } => {
             prepare_images(rt, alloc, &job, name.as_slice(), scene, shelf)

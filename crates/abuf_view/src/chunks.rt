@@ -27,6 +27,22 @@ pub fn face_chunks<'a>(
     Ok(chunks)
 }
 
+// How many primitives the faces have where none is cut. It decides only how much memory is taken at once, so no clause tells it.
+fn primitives_of(faces: &FaceSlice) -> usize {
+    faces
+        .corner_count()
+        .saturating_sub(faces.len().saturating_mul(2))
+}
+
+// No primitives, with room for those of the faces. Taken before the workers' own lists, this room lies below them in memory: what
+// they free is then one piece, into which the words of a frame fit.
+pub fn with_capacity_for(alloc: Global, faces: &FaceSlice) -> Result<PrimitiveLists, NoMemory>
+    ensures tris { IfOk result (λ p. p.tris ≡ []) }
+    ensures paints { IfOk result (λ p. p.paints ≡ []) }
+{
+    PrimitiveLists::with_capacity(alloc, primitives_of(faces))
+}
+
 // Puts the items of a chunk last.
 fn append<T: Drop>(items: &mut Vec<T>, chunk: Vec<T>) -> Result<(), NoMemory>
     ensures { OnOk result (items.new.items ≡ items.old.items ++ chunk.items) }
@@ -39,14 +55,14 @@ fn append<T: Drop>(items: &mut Vec<T>, chunk: Vec<T>) -> Result<(), NoMemory>
 // The primitives of all chunks, in the order of the chunks, put into lists that have none yet; or the refusal of the first that was
 // refused.
 pub fn put_together(
-    lists: PrimitiveLists,
+    room: PrimitiveLists,
     chunks: Vec<Result<PrimitiveLists, SceneFault>>,
 ) -> Result<PrimitiveLists, SceneFault>
-    requires empty { (lists.tris ≡ []) × (lists.paints ≡ []) }
+    requires empty { (room.tris ≡ []) × (room.paints ≡ []) }
     ensures { IsAnswer (together chunks.items) result }
 {
-    let mut tris = lists.tris.into_vec();
-    let mut paints = lists.paints.into_vec();
+    let mut tris = room.tris.into_vec();
+    let mut paints = room.paints.into_vec();
     for chunk in chunks {
         let made = chunk?;
         append(&mut tris, made.tris.into_vec())?;

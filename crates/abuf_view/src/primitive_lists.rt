@@ -25,17 +25,6 @@ pub struct PrimitiveLists {
 }
 
 impl PrimitiveLists {
-    /// No primitives. Takes no memory.
-    pub fn new(alloc: Global) -> PrimitiveLists
-        ensures tris { result.tris ≡ [] }
-        ensures paints { result.paints ≡ [] }
-    {
-        PrimitiveLists {
-            tris: List::new(alloc),
-            paints: List::new(alloc),
-        }
-    }
-
     /// No primitives, with room for so many.
     pub fn with_capacity(alloc: Global, count: usize) -> Result<PrimitiveLists, NoMemory>
         ensures tris { IfOk result (λ p. p.tris ≡ []) }

@@ -1,5 +1,5 @@
 // The primitives of a file's faces, on threads.
-ghost use Rattle.std.specs.Prelude.{◌≡◌, ◌*◌, ◌≤◌, ◌<◌, [], All, List as Items, ℕ, length, map, None, OnOk, IfOk, IfErr};
+ghost use Rattle.std.specs.Prelude.{◌≡◌, ◌*◌, ◌≤◌, ◌<◌, All, List as Items, ℕ, length, map, None, OnOk, IfOk, IfErr};
 ghost use Rattle.abuf_num.specs.declared.limits.TheConstants.{MAX_THREADS};
 ghost use Rattle.abuf_obj.specs.Sound.{IsScene};
 ghost use Rattle.abuf_mtl.specs.StandsFor.{StandsFor};
@@ -10,13 +10,12 @@ ghost use Rattle.abuf_view.specs.Primitives.{prims, HasTriangles, HasPaints};
 ghost use Rattle.abuf_view.specs.Chunks.{AreFaceChunks};
 
 use crate::camera::Camera;
-use crate::chunks::{face_chunks, put_together};
+use crate::chunks::{face_chunks, put_together, with_capacity_for};
 use crate::palette::Palette;
 use crate::point_table::PointTable;
 use crate::primitive_lists::PrimitiveLists;
-use crate::primitive_lists::faces::{project_chunk, project_into};
+use crate::primitive_lists::faces::project_chunk;
 use crate::projection::Projected;
-use crate::room::Room;
 use abuf_mtl::Materials;
 use abuf_num::NoMemory;
 use abuf_obj::FlatObj;
@@ -65,17 +64,16 @@ fn project_chunks<R: Threads + Sync>(
     Ok(made)
 }
 
-// The primitives of all faces as the eye of the table sees them, by the paints of the palette, in the room for them. Where one chunk
-// of so many faces has all of them, no thread is started.
+// The primitives of all faces as the eye of the table sees them, by the paints of the palette. Where one chunk of so many
+// faces has all of them, no thread is started.
 pub fn all_faces<R: Threads + Sync>(
     rt: &R,
-    room: Room,
+    alloc: Global,
     table: &PointTable,
     obj: &FlatObj,
     palette: &Palette,
     per_chunk: usize,
 ) -> Result<PrimitiveLists, SceneFault>
-    requires empty { (room.0 ≡ []) × (room.1 ≡ []) }
     requires points { table.now.points.now ≡ obj.now.points }
     requires names { palette.now.names.value ≡ obj.now.names }
     requires scene { IsScene obj.now }
@@ -85,28 +83,27 @@ pub fn all_faces<R: Threads + Sync>(
     ensures tris { IfOk result (λ p. p.tris ≡ tris_by table.now.eye (triangles_by (look_up palette.now.materials.value) obj.now)) }
     ensures paints { IfOk result (λ p. p.paints ≡ paints_by table.now.eye (triangles_by (look_up palette.now.materials.value) obj.now)) }
 {
-    let Room { alloc, lists } = room;
     let faces = obj.faces();
     if faces.len() <= per_chunk {
-        return project_into(lists, table, obj, palette, faces);
+        return project_chunk(alloc, table, obj, palette, faces);
     }
+    let room = with_capacity_for(alloc, &faces)?;
     let chunks = project_chunks(rt, alloc, table, obj, palette, per_chunk)?;
-    put_together(lists, chunks)
+    put_together(room, chunks)
 }
 
 /// What [`assemble`](abuf_scene::assemble) and then [`project`](crate::project) give: the primitives of the faces' triangles, in
 /// order, or the line of the first face whose name has no material. No list of the triangles is made, which would take 80 bytes each.
 /// The faces are shared among 1 to 64 workers, and the answer is the same for every number of them; where there are few, one
-/// worker has them all. The primitives are made in the room, which has none yet. Memory may run out at any time.
+/// worker has them all. Memory may run out at any time.
 pub fn project_faces<R: Threads + Sync>(
     rt: &R,
-    room: Room,
+    alloc: Global,
     obj: &FlatObj,
     materials: &Materials,
     camera: &Camera,
     threads: u32,
 ) -> Result<Projected, SceneFault>
-    requires room { (room.0 ≡ []) × (room.1 ≡ []) }
     requires scene { IsScene obj.now }
     requires threads { (1 ≤ threads) × (threads ≤ MAX_THREADS) }
     ensures fault { (libraries : Items (Items ℕ)) → StandsFor libraries materials.now → IfErr result (Tells (unknown libraries obj.now)) }
@@ -116,11 +113,10 @@ pub fn project_faces<R: Threads + Sync>(
     ensures paints { (libraries : Items (Items ℕ)) → StandsFor libraries materials.now →
         HasPaints result (prims camera.now (triangles libraries obj.now)) }
 {
-    let alloc = room.alloc;
     let faces = obj.faces().len();
     let table = PointTable::new(rt, alloc, camera.eye(), obj.points(), faces, threads)?;
     let palette = Palette::new(alloc, obj.names(), materials)?;
     let per_chunk = faces_per_chunk(faces, MIN_FACES, threads);
-    let made = all_faces(rt, room, &table, obj, &palette, per_chunk)?;
+    let made = all_faces(rt, alloc, &table, obj, &palette, per_chunk)?;
     Ok(made.into_projected())
 }

@@ -7,9 +7,9 @@ use abuf_cli::Job;
 use abuf_io::{Fetch, Shelf, Source, read_all};
 use abuf_mtl::{Materials, MtlFault, read_mtl};
 use abuf_num::List;
-use abuf_num::limits::{MAX_BYTES, MAX_TRIANGLES};
+use abuf_num::limits::MAX_BYTES;
 use abuf_obj::read_obj_on_threads;
-use abuf_view::{Projected, Room, project_faces};
+use abuf_view::{Projected, project_faces};
 use std::alloc::Global;
 use std::thread::Threads;
 
@@ -56,10 +56,9 @@ pub fn load<R: Threads + Sync, S: Source, H: Shelf>(
     source: &mut S,
     shelf: &mut H,
 ) -> Result<Projected, Stop> {
-    let room = Room::new(alloc, MAX_TRIANGLES as usize);
     let bytes = read_all(alloc, source, MAX_BYTES)?;
     let obj = read_obj_on_threads(rt, alloc, bytes.as_slice(), job.threads())?;
     let materials = read_libraries(alloc, shelf, obj.libraries().as_slice())?;
-    let projected = project_faces(rt, room, &obj, &materials, job.camera(), job.threads())?;
+    let projected = project_faces(rt, alloc, &obj, &materials, job.camera(), job.threads())?;
     Ok(projected)
 }

@@ -1,5 +1,5 @@
 // The primitives of faces, without a list of their triangles.
-ghost use Rattle.std.specs.Prelude.{◌≡◌, ◌+◌, ◌≤◌, ◌<◌, ◌++◌, [], All, length, map, flat_map, None, OnOk, IfOk, IfErr};
+ghost use Rattle.std.specs.Prelude.{◌≡◌, ◌+◌, ◌≤◌, ◌<◌, ◌++◌, All, length, map, flat_map, None, OnOk, IfOk, IfErr};
 ghost use Rattle.abuf_obj.specs.Sound.{IsFace};
 ghost use Rattle.abuf_scene.specs.Triangles.{fan, triangle, paint_by, triangles_of, Tells};
 ghost use Rattle.abuf_scene.specs.Lookup.{look_up, line_if_none};
@@ -83,34 +83,7 @@ impl PrimitiveLists {
     }
 }
 
-// The primitives of a chunk of the file's faces as the eye of the table sees them, by the paints of the palette, made in lists that have
-// none yet.
-pub fn project_into(
-    lists: PrimitiveLists,
-    table: &PointTable,
-    obj: &FlatObj,
-    palette: &Palette,
-    faces: FaceSlice,
-) -> Result<PrimitiveLists, SceneFault>
-    requires empty { (lists.tris ≡ []) × (lists.paints ≡ []) }
-    requires points { table.now.points.now ≡ obj.now.points }
-    requires names { palette.now.names.value ≡ obj.now.names }
-    requires faces { All (IsFace (length obj.now.points) (length obj.now.names)) faces }
-    ensures fault { IfErr result (Tells (unknown_in (look_up palette.now.materials.value) obj.now.names faces.entry)) }
-    ensures known { OnOk result (unknown_in (look_up palette.now.materials.value) obj.now.names faces.entry ≡ None) }
-    ensures tris { IfOk result (λ p. p.tris ≡ tris_by table.now.eye (flat_map (triangles_of (look_up palette.now.materials.value) obj.now) faces.entry)) }
-    ensures paints { IfOk result (λ p. p.paints ≡ paints_by table.now.eye (flat_map (triangles_of (look_up palette.now.materials.value) obj.now) faces.entry)) }
-{
-    let mut made = lists;
-    let mut left = faces;
-    while let Some((face, later)) = left.split_first() {
-        made.push_face(table, obj, palette, &face)?;
-        left = later;
-    }
-    Ok(made)
-}
-
-// The primitives of a chunk, in lists of their own.
+// The primitives of a chunk of the file's faces as the eye of the table sees them, by the paints of the palette.
 pub fn project_chunk(
     alloc: Global,
     table: &PointTable,
@@ -126,6 +99,11 @@ pub fn project_chunk(
     ensures tris { IfOk result (λ p. p.tris ≡ tris_by table.now.eye (flat_map (triangles_of (look_up palette.now.materials.value) obj.now) faces.entry)) }
     ensures paints { IfOk result (λ p. p.paints ≡ paints_by table.now.eye (flat_map (triangles_of (look_up palette.now.materials.value) obj.now) faces.entry)) }
 {
-    let lists = PrimitiveLists::with_capacity(alloc, faces.len())?;
-    project_into(lists, table, obj, palette, faces)
+    let mut made = PrimitiveLists::with_capacity(alloc, faces.len())?;
+    let mut left = faces;
+    while let Some((face, later)) = left.split_first() {
+        made.push_face(table, obj, palette, &face)?;
+        left = later;
+    }
+    Ok(made)
 }

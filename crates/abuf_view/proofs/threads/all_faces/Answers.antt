@@ -10,7 +10,7 @@ use Rattle.abuf_view.proofs.threads.all_faces.Given.{Over}
 
 pub returns-then-len-per_chunk-clause-fault : goal.returns-then-len-per_chunk-clause-fault
 returns-then-len-per_chunk-clause-fault g c =
-    subst (λ (faces : List Face). IfErr c.project_into.result (Tells (unknown_in (look_up c.args.palette.now.materials.value) c.args.obj.now.names faces))) c.faces-faces.ensures c.project_into.ensures.fault
+    subst (λ (faces : List Face). IfErr c.project_chunk.result (Tells (unknown_in (look_up c.args.palette.now.materials.value) c.args.obj.now.names faces))) c.faces-faces.ensures c.project_chunk.ensures.fault
 
 -- The workers' chunks, put together, are the chunk of all faces.
 all : (g : Over) (c : After-put_together g) → IsFaceChunk (look_up c.args.palette.now.materials.value) c.args.obj.now c.args.table.now.eye c.args.obj.now.faces c.put_together.result

@@ -3,7 +3,7 @@ use Rattle.abuf_obj.specs.Sound.{IsFace}
 use Rattle.abuf_scene.specs.Triangles.{is_unknown, triangles_of}
 use Rattle.abuf_scene.specs.Lookup.{look_up}
 use Rattle.abuf_view.specs.Eye.{tris_by, paints_by}
-use Rattle.abuf_view.proofs.primitive_lists.faces.project_into.Given as goal
+use Rattle.abuf_view.proofs.primitive_lists.faces.project_chunk.Given as goal
 
 abbrev pub invariant-loop-face : goal.invariant-loop-face
 invariant-loop-face l = record {

@@ -9,7 +9,7 @@ use Rattle.abuf_view.specs.declared.near_plane.EyeTriangle.{EyeTriangle}
 use Rattle.abuf_view.specs.Eye.{clipped_by, on_screen_by}
 use Rattle.abuf_view.proofs.Fans.{next_made}
 use Rattle.abuf_view.proofs.Together.{next_known}
-use Rattle.abuf_view.proofs.primitive_lists.faces.project_into.Goals as goal
+use Rattle.abuf_view.proofs.primitive_lists.faces.project_chunk.Goals as goal
 
 pub loop-face-preserved : goal.loop-face-preserved
 loop-face-preserved c =
