@@ -30,8 +30,9 @@ from abuflib.program import TOP
 from abuflib.report import Fault, Report
 
 CRATES = os.path.join(TOP, "crates")
-# The programs, tests alone, and callers.
-NO_LIBRARY = ("abuf", "abuf_drawing_rows", "abuf_reading_rows", "abuf_refused", "abuf_rows", "abuf_uses", "abuf_watch")
+# The programs, the library of one alone, tests alone, and callers.
+NO_LIBRARY = ("abuf", "abuf_drawing_rows", "abuf_reading_rows", "abuf_refused", "abuf_rows", "abuf_uses", "abuf_watch",
+              "abuf_watching")
 PART = re.compile(r"(?ms)^<!-- quote ([^\n]*?) -->\n(.*?)^<!-- (end|quote[^\n]*) -->$")
 
 

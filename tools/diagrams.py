@@ -218,9 +218,12 @@ ASIDE = [  # rows below
         "C": ("abuf_rows", ("tests of whole", "commands")),
     },
     {
-        "A": ("abuf_watch", ("looks while", "others draw")),
+        "A": ("abuf_watch", ("main, which calls", "the crate below")),
         "B": ("abuf_drawing_rows", ("tests of the calls", "that draw")),
         "C": ("abuf_uses", ("callers of the", "crates")),
+    },
+    {
+        "A": ("abuf_watching", ("looks while", "others draw")),
     },
 ]
 FLOWS = [

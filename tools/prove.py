@@ -31,7 +31,7 @@ from abuflib.report import Fault
 
 PROGRAM = "abuf"
 # Tests, callers, and programs of their own: the program doesn't need them.
-OTHERS = ("abuf_drawing_rows", "abuf_reading_rows", "abuf_refused", "abuf_rows", "abuf_uses", "abuf_watch")
+OTHERS = ("abuf_drawing_rows", "abuf_reading_rows", "abuf_refused", "abuf_rows", "abuf_uses", "abuf_watch", "abuf_watching")
 
 # What a proof takes at most with one processor, and with each further one, in bytes.
 MEMORY = 4_000_000_000
@@ -307,7 +307,7 @@ def ended(number: int, _: object) -> None:
 
 def main() -> int:
     parser = report.words(__doc__)
-    parser.add_argument("--all", action="store_true", help="the crates of tests, the callers, abuf_refused and abuf_watch too")
+    parser.add_argument("--all", action="store_true", help="the crates of tests, the callers, abuf_refused, and abuf_watch with its library too")
     parser.add_argument("--times", action="store_true", help="tell of each crate how long it took")
     parser.add_argument("--processors", type=int, default=len(os.sched_getaffinity(0)), metavar="N", help="use at most so many")
     given = parser.parse_args()

@@ -64,7 +64,7 @@ class Files(unittest.TestCase):
 class Pipeline(unittest.TestCase):
     def test_each_crate_is_drawn_once(self):
         crates = diagrams.crates_of(helping.read(os.path.join(helping.TOP, "crates.txt")).decode())
-        self.assertEqual(len(crates), 27)
+        self.assertEqual(len(crates), 28)
         for crate in crates:
             self.assertEqual(sum(crate == text or text.startswith(crate + ":") for text in texts("pipeline")), 1, crate)
 

@@ -122,7 +122,7 @@ impl Job {
     ghost use Rattle.abuf_cli.specs.Jobs.{job_from};
     ghost use Rattle.abuf_cli.specs.Sound.{IsSettings, IsCommand, IsJob, name_of};
 
-    // The job of these settings that does this.
+    /// The job of these settings that does this.
     fn of(settings: Settings, command: Command) -> Job
         requires settings { IsSettings (name_of command) settings }
         requires command { IsCommand settings.size.width settings.size.height command }
@@ -214,7 +214,7 @@ impl Job {
     }
 }
 
-// The sequence of the path file of this name.
+/// The sequence of the path file of this name.
 fn sequence_of(alloc: Global, name: &[u8]) -> Result<Command, WordFault>
     ensures answer { Answers (sequence_of name.now) result }
     ensures sound { (width height : ℕ) → IfOk result (IsCommand width height) }
@@ -231,7 +231,7 @@ fn sequence_of(alloc: Global, name: &[u8]) -> Result<Command, WordFault>
     }
 }
 
-// The command of this name, where the image has this size.
+/// The command of this name, where the image has this size.
 fn command_of(
     alloc: Global,
     name: CommandName,
@@ -258,7 +258,7 @@ fn command_of(
     }
 }
 
-// The job of the texts, in the order in which they are refused.
+/// The job of the texts, in the order in which they are refused.
 fn job_of(alloc: Global, name: CommandName, matches: &ArgMatches) -> Result<Job, WordFault>
     ensures answer { Answers (job_of name (rows_of (found_of matches.now))) result }
 {
@@ -267,7 +267,7 @@ fn job_of(alloc: Global, name: CommandName, matches: &ArgMatches) -> Result<Job,
     Ok(Job::of(settings, command))
 }
 
-// The job of the words of a command, of which the first is its name.
+/// The job of the words of a command, of which the first is its name.
 fn command_job(alloc: Global, name: CommandName, words: &[String]) -> Result<Job, WordFault>
     ensures answer { Answers (of_matches name (matches (app_of_command name) (map string_bytes words.now))) result }
 {
@@ -275,7 +275,7 @@ fn command_job(alloc: Global, name: CommandName, words: &[String]) -> Result<Job
     job_of(alloc, name, &matches)
 }
 
-// The command that the first word names.
+/// The command that the first word names.
 fn first_command(words: &[String]) -> Option<CommandName>
     ensures { result ≡ first_command (map string_bytes words.now) }
 {

@@ -29,7 +29,7 @@ impl Opt {
     }
 
     /// The text that stands where none is given: none for bands, and for what has to be given.
-    pub fn default_text(self) -> &'static str
+    pub(crate) fn default_text(self) -> &'static str
         ensures { result.now ≡ default_of self }
     {
         match self {
@@ -87,7 +87,7 @@ static SEQUENCE_OPTIONS: [Opt; 8] = [
 ];
 
 /// The options of a command that take a value.
-pub fn options_of(name: CommandName) -> &'static [Opt]
+pub(crate) fn options_of(name: CommandName) -> &'static [Opt]
     ensures { result.now ≡ options_of name }
 {
     match name {

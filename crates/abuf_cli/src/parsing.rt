@@ -14,7 +14,7 @@ use std::alloc::{AllocError, Global};
 
 /// A command, by the word that names it.
 #[derive(Clone, Copy, Debug, PartialEq, Eq)]
-pub enum CommandName {
+pub(crate) enum CommandName {
     /// `render`, the image of a scene.
     Render,
     /// `pick`, the fragments of one pixel.
@@ -26,7 +26,7 @@ pub enum CommandName {
 }
 
 /// The command that this word names.
-pub fn command_named(word: &str) -> Option<CommandName>
+pub(crate) fn command_named(word: &str) -> Option<CommandName>
     ensures { result ≡ command_named word.now }
 {
     match word {
@@ -48,7 +48,7 @@ fn with_option<'a>(
     command.arg(Arg::new(alloc, name).long(name))
 }
 
-// A command with a flag, which takes no value.
+/// A command with a flag, which takes no value.
 fn with_flag<'a>(
     alloc: Global,
     command: Command<'a>,
@@ -59,7 +59,7 @@ fn with_flag<'a>(
     command.arg(Arg::new(alloc, name).long(name).action(ArgAction::SetTrue))
 }
 
-// A command with a positional value, which has to be given.
+/// A command with a positional value, which has to be given.
 fn with_positional<'a>(
     alloc: Global,
     command: Command<'a>,
@@ -70,7 +70,7 @@ fn with_positional<'a>(
     command.arg(Arg::new(alloc, name).required(true))
 }
 
-// A command with each of these options.
+/// A command with each of these options.
 fn with_options_of<'a>(
     alloc: Global,
     command: Command<'a>,
@@ -97,7 +97,7 @@ fn command_of<'a>(alloc: Global, name: CommandName) -> Result<Command<'a>, Alloc
     }
 }
 
-// What `clap` finds in the words, of which the first is the command's name.
+/// What `clap` finds in the words, of which the first is the command's name.
 fn parse<'a>(command: Command<'a>, words: &'a [String]) -> Result<ArgMatches<'a>, WordFault>
     requires { is_simple_and_free (app_of command) ≡ true }
     ensures found { IfOk result (λ m. matches (app_of command.entry) (map string_bytes words.entry.now) ≡ Some (rows_of (found_of m))) }
@@ -114,14 +114,14 @@ fn parse<'a>(command: Command<'a>, words: &'a [String]) -> Result<ArgMatches<'a>
 }
 
 /// The text that an option or a value was given.
-pub fn given_text<'a>(matches: &ArgMatches<'a>, name: &str) -> Option<&'a str>
+pub(crate) fn given_text<'a>(matches: &ArgMatches<'a>, name: &str) -> Option<&'a str>
     ensures { option_map (λ t. t.now) result ≡ first_of name.now (rows_of (found_of matches.now)) }
 {
     matches.get_str(name)
 }
 
 /// The text that an option or a value was given, or that of its default.
-pub fn text_of<'a>(matches: &ArgMatches<'a>, option: Opt) -> &'a str
+pub(crate) fn text_of<'a>(matches: &ArgMatches<'a>, option: Opt) -> &'a str
     ensures { result.now ≡ text_of option (rows_of (found_of matches.now)) }
 {
     match given_text(matches, option.name()) {
@@ -131,7 +131,7 @@ pub fn text_of<'a>(matches: &ArgMatches<'a>, option: Opt) -> &'a str
 }
 
 /// Whether a flag was given.
-pub fn is_given(matches: &ArgMatches, name: &str) -> bool
+pub(crate) fn is_given(matches: &ArgMatches, name: &str) -> bool
     ensures { result ≡ is_given name.now (rows_of (found_of matches.now)) }
 {
     match given_text(matches, name) {
@@ -141,7 +141,7 @@ pub fn is_given(matches: &ArgMatches, name: &str) -> bool
 }
 
 /// What `clap` finds in the words of a command, of which the first is its name.
-pub fn matches_of<'a>(
+pub(crate) fn matches_of<'a>(
     alloc: Global,
     name: CommandName,
     words: &'a [String],

@@ -17,9 +17,9 @@ use clap::ArgMatches;
 
 /// Where the camera stands and looks. The shift is in units of 1/65536.
 #[derive(Clone, Copy)]
-pub struct Pose {
-    pub turn: [i32; 4],
-    pub shift: [i64; 3],
+pub(crate) struct Pose {
+    pub(crate) turn: [i32; 4],
+    pub(crate) shift: [i64; 3],
 }
 
 impl Pose {
@@ -27,7 +27,7 @@ impl Pose {
     ghost use Rattle.abuf_cli.specs.Poses.{IsPose};
     ghost use Rattle.abuf_cli.specs.Jobs.{given_pose, pose_of};
 
-    // The pose that the texts give.
+    /// The pose that the texts give.
     fn given(matches: &ArgMatches) -> Result<Pose, WordFault>
         ensures value { result ≡ given_pose (rows_of (found_of matches.now)) }
         ensures sound { IfOk result IsPose }
@@ -41,7 +41,7 @@ impl Pose {
         Ok(Pose { turn, shift })
     }
 
-    // The pose of a command: that of the texts, where it takes them.
+    /// The pose of a command: that of the texts, where it takes them.
     fn read(name: CommandName, matches: &ArgMatches) -> Result<Pose, WordFault>
         ensures value { result ≡ pose_of name (rows_of (found_of matches.now)) }
         ensures sound { IfOk result IsPose }
@@ -56,7 +56,7 @@ impl Pose {
     }
 }
 
-// The lens that the texts give.
+/// The lens that the texts give.
 fn lens_of(matches: &ArgMatches) -> Result<Lens, WordFault>
     ensures value { result ≡ lens_of (rows_of (found_of matches.now)) }
     ensures sound { IfOk result (λ l. IsLens l.focal l.near) }
@@ -71,7 +71,7 @@ fn lens_of(matches: &ArgMatches) -> Result<Lens, WordFault>
 }
 
 /// The camera of this size, pose and lens. What they keep to is Camera's own invariant, in parts.
-pub fn camera_of(size: ImageSize, pose: Pose, lens: Lens) -> Camera
+pub(crate) fn camera_of(size: ImageSize, pose: Pose, lens: Lens) -> Camera
     requires size { IsSize size.width size.height }
     requires pose { IsPose pose }
     requires lens { IsLens lens.focal lens.near }
@@ -87,7 +87,7 @@ impl Storage {
     ghost use Rattle.abuf_cli.specs.Jobs.{render_storage, storage_of};
     ghost use Rattle.abuf_cli.specs.Sound.{IsWithinHeight, IsStorage};
 
-    // How the fragments of a render are stored, by the text of `bands` and whether `peel` is given.
+    /// How the fragments of a render are stored, by the text of `bands` and whether `peel` is given.
     fn of_render(height: u32, bands: Option<&str>, peel: bool) -> Result<Storage, WordFault>
         ensures value { result ≡ render_storage height (option_map (λ t. t.now) bands.entry) peel }
         ensures sound { IfOk result (IsWithinHeight height) }
@@ -103,7 +103,7 @@ impl Storage {
         }
     }
 
-    // How the fragments of a command are stored, where the image has this height.
+    /// How the fragments of a command are stored, where the image has this height.
     fn read(name: CommandName, height: u32, matches: &ArgMatches) -> Result<Storage, WordFault>
         ensures value { result ≡ storage_of name height (rows_of (found_of matches.now)) }
         ensures sound { IfOk result (IsStorage height name) }
@@ -123,16 +123,16 @@ impl Storage {
 
 /// What the options ask for.
 #[derive(Clone, Copy)]
-pub struct Settings {
-    pub size: ImageSize,
-    pub pattern: Pattern,
-    pub threads: u32,
-    pub nodes: u32,
-    pub pose: Pose,
-    pub lens: Lens,
-    pub background: [u16; 3],
-    pub maxval: u32,
-    pub storage: Storage,
+pub(crate) struct Settings {
+    pub(crate) size: ImageSize,
+    pub(crate) pattern: Pattern,
+    pub(crate) threads: u32,
+    pub(crate) nodes: u32,
+    pub(crate) pose: Pose,
+    pub(crate) lens: Lens,
+    pub(crate) background: [u16; 3],
+    pub(crate) maxval: u32,
+    pub(crate) storage: Storage,
 }
 
 impl Settings {
@@ -142,7 +142,7 @@ impl Settings {
     ghost use Rattle.abuf_cli.specs.Sound.{IsSettings};
 
     /// The settings of the texts, in the order in which they are refused.
-    pub fn read(name: CommandName, matches: &ArgMatches) -> Result<Settings, WordFault>
+    pub(crate) fn read(name: CommandName, matches: &ArgMatches) -> Result<Settings, WordFault>
         ensures value { result ≡ settings_of name (rows_of (found_of matches.now)) }
         ensures sound { IfOk result (IsSettings name) }
     {

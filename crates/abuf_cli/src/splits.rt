@@ -2,7 +2,7 @@
 ghost use Rattle.std.specs.Prelude.{◌≡◌, ◌==◌, option_map, position};
 ghost use Rattle.abuf_cli.specs.Splits.{split_once, three_texts, four_texts};
 
-// Where the first such byte stands.
+/// Where the first such byte stands.
 fn find_byte(text: &[u8], byte: u8) -> Option<usize>
     ensures { result ≡ position (λ b. b == byte) text.now }
 {
@@ -10,7 +10,7 @@ fn find_byte(text: &[u8], byte: u8) -> Option<usize>
 }
 
 /// The parts before and after the first such byte.
-pub fn split_once(text: &[u8], byte: u8) -> Option<(&[u8], &[u8])>
+pub(crate) fn split_once(text: &[u8], byte: u8) -> Option<(&[u8], &[u8])>
     ensures { option_map (λ p. (p.0.now, p.1.now)) result ≡ split_once byte text.now }
 {
     match find_byte(text, byte) {
@@ -20,7 +20,7 @@ pub fn split_once(text: &[u8], byte: u8) -> Option<(&[u8], &[u8])>
 }
 
 /// The three texts between two commas.
-pub fn three_texts(text: &[u8]) -> Option<(&[u8], &[u8], &[u8])>
+pub(crate) fn three_texts(text: &[u8]) -> Option<(&[u8], &[u8], &[u8])>
     ensures { option_map (λ p. (p.0.now, p.1.now, p.2.now)) result ≡ three_texts text.now }
 {
     let (first, rest) = split_once(text, b',')?;
@@ -29,7 +29,7 @@ pub fn three_texts(text: &[u8]) -> Option<(&[u8], &[u8], &[u8])>
 }
 
 /// The four texts between three commas.
-pub fn four_texts(text: &[u8]) -> Option<(&[u8], &[u8], &[u8], &[u8])>
+pub(crate) fn four_texts(text: &[u8]) -> Option<(&[u8], &[u8], &[u8], &[u8])>
     ensures { option_map (λ p. (p.0.now, p.1.now, p.2.now, p.3.now)) result ≡ four_texts text.now }
 {
     let (first, rest) = split_once(text, b',')?;

@@ -13,27 +13,27 @@ use abuf_view::turn_from;
 
 /// A width and a height, in pixels.
 #[derive(Clone, Copy)]
-pub struct ImageSize {
-    pub width: u32,
-    pub height: u32,
+pub(crate) struct ImageSize {
+    pub(crate) width: u32,
+    pub(crate) height: u32,
 }
 
 /// The position of a pixel, from the left and from the top, both from 0.
 #[derive(Clone, Copy)]
-pub struct PixelPosition {
-    pub x: u32,
-    pub y: u32,
+pub(crate) struct PixelPosition {
+    pub(crate) x: u32,
+    pub(crate) y: u32,
 }
 
 /// Three numbers of one text.
 #[derive(Clone, Copy)]
-pub struct Triple {
-    pub x: i64,
-    pub y: i64,
-    pub z: i64,
+pub(crate) struct Triple {
+    pub(crate) x: i64,
+    pub(crate) y: i64,
+    pub(crate) z: i64,
 }
 
-// A width and a height within the limits.
+/// A width and a height within the limits.
 fn size_within(width: u32, height: u32) -> Option<ImageSize>
     requires width { width < 10 ^ 4 }
     requires height { height < 10 ^ 4 }
@@ -53,7 +53,7 @@ fn size_within(width: u32, height: u32) -> Option<ImageSize>
 }
 
 /// `WxH`.
-pub fn size_of(text: &[u8]) -> Option<ImageSize>
+pub(crate) fn size_of(text: &[u8]) -> Option<ImageSize>
     ensures value { result ≡ size_of text.now }
     ensures within { IfSome result (λ s. IsSize s.width s.height) }
 {
@@ -65,7 +65,7 @@ pub fn size_of(text: &[u8]) -> Option<ImageSize>
 }
 
 /// The pattern of so many samples.
-pub fn pattern_of(text: &str) -> Option<Pattern>
+pub(crate) fn pattern_of(text: &str) -> Option<Pattern>
     ensures { result ≡ pattern_of text.now }
 {
     match text {
@@ -78,7 +78,7 @@ pub fn pattern_of(text: &str) -> Option<Pattern>
     }
 }
 
-// A number from `least` to `most`.
+/// A number from `least` to `most`.
 fn counted(least: u32, most: u32, number: Option<u32>) -> Option<u32>
     ensures value { result ≡ counted least most number }
     ensures range { IfSome result (λ n. (least ≤ n) × (n ≤ most)) }
@@ -90,7 +90,7 @@ fn counted(least: u32, most: u32, number: Option<u32>) -> Option<u32>
 }
 
 /// A number of threads.
-pub fn threads_of(text: &[u8]) -> Option<u32>
+pub(crate) fn threads_of(text: &[u8]) -> Option<u32>
     ensures value { result ≡ threads_of text.now }
     ensures range { IfSome result (λ n. (1 ≤ n) × (n ≤ MAX_THREADS)) }
 {
@@ -98,7 +98,7 @@ pub fn threads_of(text: &[u8]) -> Option<u32>
 }
 
 /// A number of nodes.
-pub fn nodes_of(text: &[u8]) -> Option<u32>
+pub(crate) fn nodes_of(text: &[u8]) -> Option<u32>
     ensures value { result ≡ nodes_of text.now }
     ensures range { IfSome result (λ n. (1 ≤ n) × (n ≤ MAX_NODES)) }
 {
@@ -106,7 +106,7 @@ pub fn nodes_of(text: &[u8]) -> Option<u32>
 }
 
 /// `a,b,c,d`.
-pub fn turn_of(text: &[u8]) -> Option<[i32; 4]>
+pub(crate) fn turn_of(text: &[u8]) -> Option<[i32; 4]>
     ensures value { result ≡ turn_of text.now }
     ensures turn { IfSome result (λ t. IsTurn (quaternion_of t)) }
 {
@@ -114,7 +114,7 @@ pub fn turn_of(text: &[u8]) -> Option<[i32; 4]>
     turn_from(a, b, c, d)
 }
 
-// `x,y,z`, times k.
+/// `x,y,z`, times k.
 fn three_scaled(text: &[u8], k: u32) -> Option<Triple>
     requires least { 1 ≤ k }
     requires most { k ≤ 65536 }
@@ -133,7 +133,7 @@ fn three_scaled(text: &[u8], k: u32) -> Option<Triple>
 }
 
 /// A shift, in units of 1/65536.
-pub fn shift_of(text: &[u8]) -> Option<[i64; 3]>
+pub(crate) fn shift_of(text: &[u8]) -> Option<[i64; 3]>
     ensures value { result ≡ shift_of text.now }
     ensures range { IfSome result (λ t. IsBounded (point_of t)) }
 {
@@ -141,7 +141,7 @@ pub fn shift_of(text: &[u8]) -> Option<[i64; 3]>
     Some([t.x, t.y, t.z])
 }
 
-// A length from `least` to `most`.
+/// A length from `least` to `most`.
 fn between(least: i64, most: i64, length: Option<i64>) -> Option<i64>
     ensures value { result ≡ between least most length }
     ensures range { IfSome result (IsFrom least most) }
@@ -153,7 +153,7 @@ fn between(least: i64, most: i64, length: Option<i64>) -> Option<i64>
 }
 
 /// A focal length, in units of 1/65536.
-pub fn focal_of(text: &[u8]) -> Option<i64>
+pub(crate) fn focal_of(text: &[u8]) -> Option<i64>
     ensures value { result ≡ focal_of text.now }
     ensures range { IfSome result (IsFrom (pos 1) (pos 1048576)) }
 {
@@ -161,7 +161,7 @@ pub fn focal_of(text: &[u8]) -> Option<i64>
 }
 
 /// A near distance, in units of 1/65536.
-pub fn near_of(text: &[u8]) -> Option<i64>
+pub(crate) fn near_of(text: &[u8]) -> Option<i64>
     ensures value { result ≡ near_of text.now }
     ensures range { IfSome result (IsFrom (pos 4096) (pos 2147483647)) }
 {
@@ -169,7 +169,7 @@ pub fn near_of(text: &[u8]) -> Option<i64>
 }
 
 /// `r,g,b`, each in parts of 65535.
-pub fn background_of(text: &[u8]) -> Option<[u16; 3]>
+pub(crate) fn background_of(text: &[u8]) -> Option<[u16; 3]>
     ensures { result ≡ background_of text.now }
 {
     let t = three_scaled(text, 65535)?;
@@ -177,7 +177,7 @@ pub fn background_of(text: &[u8]) -> Option<[u16; 3]>
 }
 
 /// The greatest value in the image.
-pub fn maxval_of(text: &str) -> Option<u32>
+pub(crate) fn maxval_of(text: &str) -> Option<u32>
     ensures value { result ≡ maxval_of text.now }
     ensures either { IfSome result (λ n. (n ≡ 255) ⊎ (n ≡ 65535)) }
 {
@@ -189,14 +189,14 @@ pub fn maxval_of(text: &str) -> Option<u32>
 }
 
 /// A number of bands, of an image of this height.
-pub fn bands_of(height: u32, text: &[u8]) -> Option<u32>
+pub(crate) fn bands_of(height: u32, text: &[u8]) -> Option<u32>
     ensures value { result ≡ bands_of height text.now }
     ensures range { IfSome result (λ n. (1 ≤ n) × (n ≤ height)) }
 {
     counted(1, height, whole_number(text, 4))
 }
 
-// The pixel at this place, within an image of this size.
+/// The pixel at this place, within an image of this size.
 fn pixel_within(size: ImageSize, x: u32, y: u32) -> Option<PixelPosition>
     ensures value { result ≡ pixel_within size x y }
     ensures within { IfSome result (λ p. (p.x < size.width) × (p.y < size.height)) }
@@ -209,7 +209,7 @@ fn pixel_within(size: ImageSize, x: u32, y: u32) -> Option<PixelPosition>
 }
 
 /// `X,Y`, a pixel of an image of this size.
-pub fn at_of(size: ImageSize, text: &[u8]) -> Option<PixelPosition>
+pub(crate) fn at_of(size: ImageSize, text: &[u8]) -> Option<PixelPosition>
     ensures value { result ≡ at_of size text.now }
     ensures within { IfSome result (λ p. (p.x < size.width) × (p.y < size.height)) }
 {
@@ -221,7 +221,7 @@ pub fn at_of(size: ImageSize, text: &[u8]) -> Option<PixelPosition>
 }
 
 /// A number of triangles.
-pub fn number_of(text: &[u8]) -> Option<u32>
+pub(crate) fn number_of(text: &[u8]) -> Option<u32>
     ensures value { result ≡ number_of text.now }
     ensures range { IfSome result (λ n. (1 ≤ n) × (n ≤ 200000)) }
 {

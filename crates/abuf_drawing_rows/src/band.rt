@@ -15,7 +15,7 @@ const WHITE: Paint = Paint {
     alpha: 65535,
 };
 
-// The triangles in white.
+/// The triangles in white.
 fn in_white(alloc: Global, triangles: Vec<ScreenTri>) -> Result<Projected, NoMemory>
     requires { length triangles.items ≤ MAX_PRIMITIVES }
 {

@@ -15,7 +15,7 @@ const PATTERNS: [Pattern; 5] = [
     Pattern::Sixteen,
 ];
 
-// The triangle covers the sample.
+/// The triangle covers the sample.
 fn covers(t: &ScreenTri, x: u32, y: u32, pattern: Pattern, k: u32) -> bool
     requires x { x < MAX_SIDE }
     requires y { y < MAX_SIDE }
@@ -25,7 +25,7 @@ fn covers(t: &ScreenTri, x: u32, y: u32, pattern: Pattern, k: u32) -> bool
     mask_at(t, x, y, pattern) >> k & 1 == 1
 }
 
-// The key at the sample, or none where the triangle doesn't cover it.
+/// The key at the sample, or none where the triangle doesn't cover it.
 fn key(t: &ScreenTri, x: u32, y: u32, pattern: Pattern, k: u32) -> Option<u32>
     requires x { x < MAX_SIDE }
     requires y { y < MAX_SIDE }
@@ -38,7 +38,7 @@ fn key(t: &ScreenTri, x: u32, y: u32, pattern: Pattern, k: u32) -> Option<u32>
     }
 }
 
-// The key at the sample by a `DepthPlane`, or none where the triangle doesn't cover it.
+/// The key at the sample by a `DepthPlane`, or none where the triangle doesn't cover it.
 fn key_of_plane(t: &ScreenTri, x: u32, y: u32, pattern: Pattern, k: u32) -> Option<u32>
     requires x { x < MAX_SIDE }
     requires y { y < MAX_SIDE }
@@ -51,8 +51,8 @@ fn key_of_plane(t: &ScreenTri, x: u32, y: u32, pattern: Pattern, k: u32) -> Opti
     }
 }
 
-// The number of samples of 40 by 40 pixels that the triangle covers, where its plane's keys are those of `depth_at`, and lie
-// within the plane's bounds; else none.
+/// The number of samples of 40 by 40 pixels that the triangle covers, where its plane's keys are those of `depth_at`, and lie
+/// within the plane's bounds; else none.
 fn plane_agrees(t: &ScreenTri, pattern: Pattern) -> Option<u32> {
     let mut count: u32 = 0;
     for y in 0..40 {
@@ -75,7 +75,7 @@ fn plane_agrees(t: &ScreenTri, pattern: Pattern) -> Option<u32> {
     Some(count)
 }
 
-// Two triangles that cross inside of a pixel: the one with a slope is the nearer at sample 0, and the farther at sample 1.
+/// Two triangles that cross inside of a pixel: the one with a slope is the nearer at sample 0, and the farther at sample 1.
 #[test]
 fn crossing_triangles_are_ordered_in_each_sample(rt: HostRuntime) -> Result<(), Fail> {
     let level = ScreenTri::new([-128, 896, -128], [-128, -128, 896], [466033; 3]).ok_or("level")?;
@@ -123,7 +123,7 @@ fn planes_give_the_keys(rt: HostRuntime) -> Result<(), Fail> {
     Ok(())
 }
 
-// Coordinates past 2^29, and an area past 2^39.
+/// Coordinates past 2^29, and an area past 2^39.
 #[test]
 fn planes_give_the_keys_of_vast_triangles(rt: HostRuntime) -> Result<(), Fail> {
     let far = 1 << 40;

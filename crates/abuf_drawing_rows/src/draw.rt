@@ -15,7 +15,7 @@ fn square() -> Region
     Region::whole_image(4, 4)
 }
 
-// The upper and the lower half of a square of 4 by 4 pixels, which meet along its diagonal.
+/// The upper and the lower half of a square of 4 by 4 pixels, which meet along its diagonal.
 fn halves() -> Option<(ScreenTri, ScreenTri)> {
     let upper = ScreenTri::new([0, 1024, 0], [0, 0, 1024], [0, 0, 0])?;
     let lower = ScreenTri::new([1024, 1024, 0], [0, 1024, 1024], [0, 0, 0])?;
@@ -40,7 +40,7 @@ fn shared_diagonal_is_drawn_once(rt: HostRuntime) -> Result<(), Fail> {
     Ok(())
 }
 
-// Draws the two triangles on two threads, each by a pass that is lent to its thread.
+/// Draws the two triangles on two threads, each by a pass that is lent to its thread.
 fn draw_at_once<R: Threads>(
     rt: &R,
     frame: &Frame,

@@ -18,7 +18,7 @@ fn square() -> Region
     Region::whole_image(4, 4)
 }
 
-// The two halves of an image, which meet along its diagonal.
+/// The two halves of an image, which meet along its diagonal.
 fn halves_of(width: u32, height: u32) -> Option<[ScreenTri; 2]> {
     let right = 256 * i64::from(width);
     let bottom = 256 * i64::from(height);
@@ -27,7 +27,7 @@ fn halves_of(width: u32, height: u32) -> Option<[ScreenTri; 2]> {
     Some([upper, lower])
 }
 
-// The two halves of a square of 4 by 4 pixels.
+/// The two halves of a square of 4 by 4 pixels.
 fn halves() -> Option<[ScreenTri; 2]> {
     halves_of(4, 4)
 }
@@ -77,8 +77,8 @@ fn two_workers_meet(rt: HostRuntime) -> Result<(), Fail> {
     Ok(())
 }
 
-// Workers draw the two halves of an image, so often in turn that each has a part that covers every pixel of it 32 times. The frame
-// has fewer nodes than that, which changes no count.
+/// Workers draw the two halves of an image, so often in turn that each has a part that covers every pixel of it 32 times. The frame
+/// has fewer nodes than that, which changes no count.
 fn all_meet<R: Threads + Sync + Abort>(
     rt: &R,
     alloc: Global,
@@ -173,7 +173,7 @@ fn workers_in_turn_have_not_met(rt: HostRuntime) -> Result<(), Fail> {
     Ok(())
 }
 
-// A gate that counts its calls.
+/// A gate that counts its calls.
 #[derive(Drop)]
 struct Calls {
     count: AtomicU64,

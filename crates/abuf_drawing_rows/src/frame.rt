@@ -5,8 +5,8 @@ use abuf_frame::{Frame, Full, Look};
 use std::test::Fail;
 use std::thread::{join_mut, map_indices};
 
-// One step of one of two passes on one pixel: a capital letter is the first pass's claim, fill, swap or link with payload 7, a
-// small one the second's with payload 9.
+/// One step of one of two passes on one pixel: a capital letter is the first pass's claim, fill, swap or link with payload 7, a
+/// small one the second's with payload 9.
 macro_rules! step {
     (C, $rt:ident, $frame:ident, $nodes:literal, $a:ident, $m:ident, $x:ident, $b:ident, $n:ident, $y:ident) => {
         $m = $a.claim(&$frame, 1);
@@ -36,7 +36,7 @@ macro_rules! step {
     };
 }
 
-// The closed frame of one pixel and so many nodes after these steps.
+/// The closed frame of one pixel and so many nodes after these steps.
 macro_rules! closed_after {
     ($rt:ident, $nodes:literal, $($step:ident)+) => {{
         let (frame, mut a) = Frame::start($rt.alloc(), 1, $nodes)?;
@@ -198,7 +198,7 @@ fn three_numbers_of_one_node(rt: HostRuntime) -> Result<(), Fail> {
     Ok(())
 }
 
-// A value that may be moved to another thread, and one that may be shared.
+/// A value that may be moved to another thread, and one that may be shared.
 fn moved<T: Send>(value: T) -> T
     ensures { result ≡ value }
 {

@@ -21,7 +21,7 @@ const WHITE: Paint = Paint {
     alpha: 65535,
 };
 
-// Two films over one pixel, the red one farther; the nearer comes first in the list.
+/// Two films over one pixel, the red one farther; the nearer comes first in the list.
 #[test]
 fn the_third_step_finds_nothing(rt: HostRuntime) -> Result<(), Fail> {
     let alloc = rt.alloc();
@@ -45,7 +45,7 @@ fn the_third_step_finds_nothing(rt: HostRuntime) -> Result<(), Fail> {
     Ok(())
 }
 
-// The two halves of a square of 4 by 4 pixels.
+/// The two halves of a square of 4 by 4 pixels.
 #[test]
 fn two_halves_make_a_square(rt: HostRuntime) -> Result<(), Fail> {
     let alloc = rt.alloc();
@@ -66,7 +66,7 @@ fn two_halves_make_a_square(rt: HostRuntime) -> Result<(), Fail> {
     Ok(())
 }
 
-// Twenty opaque films over one pixel, the nearest first.
+/// Twenty opaque films over one pixel, the nearest first.
 fn twenty_films(alloc: Global) -> Result<Projected, Fail> {
     let mut tris = List::new(alloc);
     let mut paints = List::new(alloc);
@@ -81,7 +81,7 @@ fn twenty_films(alloc: Global) -> Result<Projected, Fail> {
     Ok(Projected { tris, paints })
 }
 
-// Twenty layers are more than the 16 that are found at once.
+/// Twenty layers are more than the 16 that are found at once.
 #[test]
 fn the_nearest_of_twenty_films_shows(rt: HostRuntime) -> Result<(), Fail> {
     let alloc = rt.alloc();

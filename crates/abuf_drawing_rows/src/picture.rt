@@ -66,7 +66,7 @@ fn large_target(nodes: u32) -> Target
     }
 }
 
-// 524288 nodes are enough; one node less is too few.
+/// 524288 nodes are enough; one node less is too few.
 #[test]
 fn a_large_rectangle_is_drawn(rt: HostRuntime) -> Result<(), Fail> {
     let alloc = rt.alloc();

@@ -2,8 +2,8 @@
 use abuf_raster::{Fragment, Pattern, ScreenTri, mask_at, pack, unpack};
 use std::test::Fail;
 
-// The centres of the pixels with i + j = 3 lie on the diagonal, which is a right edge of the upper triangle, and a left
-// edge of the lower one.
+/// The centres of the pixels with i + j = 3 lie on the diagonal, which is a right edge of the upper triangle, and a left
+/// edge of the lower one.
 #[test]
 fn a_shared_edge_is_drawn_once(rt: HostRuntime) -> Result<(), Fail> {
     let upper = ScreenTri::new([0, 1024, 0], [0, 0, 1024], [0, 0, 0]).ok_or("upper")?;
@@ -20,8 +20,8 @@ fn a_shared_edge_is_drawn_once(rt: HostRuntime) -> Result<(), Fail> {
     Ok(())
 }
 
-// The square from (128, 128) to (384, 384) in two triangles: its top and left edges run through centres of pixel 0, its
-// bottom and right ones through centres of pixel 1.
+/// The square from (128, 128) to (384, 384) in two triangles: its top and left edges run through centres of pixel 0, its
+/// bottom and right ones through centres of pixel 1.
 #[test]
 fn top_and_left_edges_are_inside(rt: HostRuntime) -> Result<(), Fail> {
     let t = ScreenTri::new([128, 384, 128], [128, 128, 384], [0, 0, 0]).ok_or("t")?;
@@ -33,7 +33,7 @@ fn top_and_left_edges_are_inside(rt: HostRuntime) -> Result<(), Fail> {
     Ok(())
 }
 
-// The triangle (0, 0), (120, 0), (0, 200) covers only sample 0 of the four, at (96, 32), whichever way it runs.
+/// The triangle (0, 0), (120, 0), (0, 200) covers only sample 0 of the four, at (96, 32), whichever way it runs.
 #[test]
 fn one_of_four_samples(rt: HostRuntime) -> Result<(), Fail> {
     let t = ScreenTri::new([0, 120, 0], [0, 0, 200], [0, 16777215, 0]).ok_or("t")?;
@@ -43,8 +43,8 @@ fn one_of_four_samples(rt: HostRuntime) -> Result<(), Fail> {
     Ok(())
 }
 
-// A rectangle whose left half covers the pixel up to its middle, as a fan of two triangles: the first has what lies to the
-// right of the fan's inner edge and on it. The right edge runs through the centre, which is not inside.
+/// A rectangle whose left half covers the pixel up to its middle, as a fan of two triangles: the first has what lies to the
+/// right of the fan's inner edge and on it. The right edge runs through the centre, which is not inside.
 #[test]
 fn half_a_pixel_in_every_pattern(rt: HostRuntime) -> Result<(), Fail> {
     let first = ScreenTri::new([-128, 128, 128], [-128, -128, 384], [0; 3]).ok_or("first")?;

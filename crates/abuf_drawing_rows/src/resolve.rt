@@ -16,7 +16,7 @@ fn over_at_its_ends(rt: HostRuntime) {
     assert_eq!(rt; over(65535, 0, 32768), 32767);
 }
 
-// Depths 1 and 3, primitives 0 and 2.
+/// Depths 1 and 3, primitives 0 and 2.
 #[test]
 fn the_nearest_opaque_fragment_hides_the_rest(rt: HostRuntime) {
     let paints = [

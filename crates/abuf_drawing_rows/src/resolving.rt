@@ -35,7 +35,7 @@ const fn paint(red: u16, green: u16, blue: u16, alpha: u16) -> Paint {
     }
 }
 
-// The triangle covers the sample.
+/// The triangle covers the sample.
 fn covers(t: &ScreenTri, x: u32, y: u32, pattern: Pattern, k: u32) -> bool
     requires x { x < 4096 }
     requires y { y < 4096 }
@@ -45,7 +45,7 @@ fn covers(t: &ScreenTri, x: u32, y: u32, pattern: Pattern, k: u32) -> bool
     mask_at(t, x, y, pattern) >> k & 1 == 1
 }
 
-// The colour of a sample, from all triangles that cover it.
+/// The colour of a sample, from all triangles that cover it.
 fn colour_of(
     alloc: Global,
     tris: &[ScreenTri],
@@ -78,7 +78,7 @@ fn colour_of(
     Ok(colour)
 }
 
-// The sums of a pixel, from all triangles.
+/// The sums of a pixel, from all triangles.
 fn sums_of(
     alloc: Global,
     tris: &[ScreenTri],
@@ -99,7 +99,7 @@ fn sums_of(
     Ok(sum)
 }
 
-// The fragments of the triangles in the region, those of later triangles first.
+/// The fragments of the triangles in the region, those of later triangles first.
 fn fragments_of(
     alloc: Global,
     tris: &[ScreenTri],
@@ -124,7 +124,7 @@ fn fragments_of(
     Ok(items)
 }
 
-// A closed frame of the region with these fragments.
+/// A closed frame of the region with these fragments.
 fn frame_of(alloc: Global, items: &[(u32, u64)], region: Region) -> Result<Closed, Fail>
     requires items { All (λ item. item.0 < region.w * region.h) items.now }
     ensures { IfOk result (λ closed. (length closed.lists ≡ region.w * region.h) × (closed.fragments ≤ closed.nodes)) }
@@ -141,7 +141,7 @@ fn frame_of(alloc: Global, items: &[(u32, u64)], region: Region) -> Result<Close
     Ok(closed)
 }
 
-// The word is one of a fragment of the triangles in the pixel.
+/// The word is one of a fragment of the triangles in the pixel.
 fn is_fragment(tris: &[ScreenTri], word: u64, x: u32, y: u32, pattern: Pattern) -> bool
     requires x { x < 4096 }
     requires y { y < 4096 }
@@ -157,7 +157,7 @@ fn is_fragment(tris: &[ScreenTri], word: u64, x: u32, y: u32, pattern: Pattern) 
     mask_at(&tris[prim], x, y, pattern) == (word % 65536) as u16
 }
 
-// Each word is one of a fragment of the triangles in the pixel.
+/// Each word is one of a fragment of the triangles in the pixel.
 fn are_fragments(tris: &[ScreenTri], words: &[u64], x: u32, y: u32, pattern: Pattern) -> bool
     requires x { x < 4096 }
     requires y { y < 4096 }
@@ -171,7 +171,7 @@ fn are_fragments(tris: &[ScreenTri], words: &[u64], x: u32, y: u32, pattern: Pat
     true
 }
 
-// Each word of each list is one of a fragment of the triangles in the pixel of that list.
+/// Each word of each list is one of a fragment of the triangles in the pixel of that list.
 fn holds_fragments(
     alloc: Global,
     tris: &[ScreenTri],
@@ -202,7 +202,7 @@ struct Case<'a> {
     region: Region,
 }
 
-// What the case resolves to over white, by both calls alike.
+/// What the case resolves to over white, by both calls alike.
 fn resolved<R: Threads + Sync>(
     rt: &R,
     alloc: Global,
@@ -241,7 +241,7 @@ fn resolved<R: Threads + Sync>(
     Ok(all)
 }
 
-// Two triangles that cover one pixel: the sums of its samples.
+/// Two triangles that cover one pixel: the sums of its samples.
 fn sums_of_two<R: Threads + Sync>(
     rt: &R,
     alloc: Global,
@@ -287,7 +287,7 @@ fn two_fragments_of_one_pixel(rt: HostRuntime) -> Result<(), Fail> {
     Ok(())
 }
 
-// Large triangles that cross, the same ones again, one that hides half of the pixels, slivers, both windings.
+/// Large triangles that cross, the same ones again, one that hides half of the pixels, slivers, both windings.
 #[test]
 fn sums_are_those_of_the_triangles(rt: HostRuntime) -> Result<(), Fail> {
     let wide = [0, 6000, 0];
@@ -333,7 +333,7 @@ fn sums_are_those_of_the_triangles(rt: HostRuntime) -> Result<(), Fail> {
     Ok(())
 }
 
-// Each sample has the background. There are more pixels than a block of a worker's has.
+/// Each sample has the background. There are more pixels than a block of a worker's has.
 #[test]
 fn pixels_without_fragments(rt: HostRuntime) -> Result<(), Fail> {
     let case = Case {

@@ -15,7 +15,7 @@ use std::alloc::Global;
 use std::test::Fail;
 use std::thread::Threads;
 
-// The shots of a short path.
+/// The shots of a short path.
 fn shots_of(alloc: Global, text: &[u8]) -> Result<List<Shot>, PathFault> {
     if text.len() > 100000 {
         return Err(PathFault::Memory);
@@ -95,7 +95,7 @@ fn the_image_past_the_last_is_refused(rt: HostRuntime) -> Result<(), Fail> {
     Ok(())
 }
 
-// A white triangle over the upper left half of the screen.
+/// A white triangle over the upper left half of the screen.
 fn scene(alloc: Global) -> Result<Scene, NoMemory>
     ensures { IfOk result (λ scene. AreInLimits scene.triangles) }
 {
@@ -112,7 +112,7 @@ fn scene(alloc: Global) -> Result<Scene, NoMemory>
     Ok(Scene { triangles })
 }
 
-// Images of 4 by 4 pixels, with a pool for so many fragments, by so many threads.
+/// Images of 4 by 4 pixels, with a pool for so many fragments, by so many threads.
 fn plan(nodes: u32, threads: u32) -> Plan
     requires nodes { (1 ≤ nodes) × (nodes ≤ MAX_NODES) }
     requires threads { (1 ≤ threads) × (threads ≤ MAX_THREADS) }
@@ -133,7 +133,7 @@ fn plan(nodes: u32, threads: u32) -> Plan
 
 const HEADER: &[u8] = b"P7\nWIDTH 4\nHEIGHT 4\nDEPTH 3\nMAXVAL 255\nTUPLTYPE RGB\nENDHDR\n";
 
-// From the front and from behind: which pixels are white.
+/// From the front and from behind: which pixels are white.
 const FRONT: &[bool] = &[
     true, true, true, false, true, true, false, false, true, false, false, false, false, false,
     false, false,
@@ -153,7 +153,7 @@ fn push_image(bytes: &mut Vec<u8>, white: &[bool]) -> Result<(), NoMemory> {
     Ok(())
 }
 
-// Writes the image from the front, which has 6 fragments, and the one from behind, which has 10.
+/// Writes the image from the front, which has 6 fragments, and the one from behind, which has 10.
 fn write_both<R: Threads + Sync>(
     rt: &R,
     alloc: Global,
@@ -196,10 +196,10 @@ fn both_images_are_written(rt: HostRuntime) -> Result<(), Fail> {
     Ok(())
 }
 
-// From where the triangle lies behind the camera.
+/// From where the triangle lies behind the camera.
 const NOTHING: &[bool] = &[false; 16];
 
-// Writes five images: of nothing, of nothing again, from the front, of nothing, and from behind.
+/// Writes five images: of nothing, of nothing again, from the front, of nothing, and from behind.
 fn write_five<R: Threads + Sync>(
     rt: &R,
     alloc: Global,
@@ -227,8 +227,8 @@ fn write_five<R: Threads + Sync>(
     )
 }
 
-// By one thread, the frame of an image without fragments serves for the next, and has too few nodes for the third. The third's
-// frame serves for the fourth.
+/// By one thread, the frame of an image without fragments serves for the next, and has too few nodes for the third. The third's
+/// frame serves for the fourth.
 #[test]
 fn later_images_need_more_nodes_and_fewer(rt: HostRuntime) -> Result<(), Fail> {
     let alloc = rt.alloc();
@@ -270,7 +270,7 @@ fn images_before_a_full_one_are_written(rt: HostRuntime) -> Result<(), Fail> {
     Ok(())
 }
 
-// A sink that takes an image and five bytes, and fails then.
+/// A sink that takes an image and five bytes, and fails then.
 fn failing_plan(alloc: Global) -> Result<List<Step>, NoMemory>
     ensures { IfOk result IsSinkPlan }
 {

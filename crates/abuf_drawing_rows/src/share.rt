@@ -10,7 +10,7 @@ use std::process::Abort;
 use std::test::Fail;
 use std::thread::Threads;
 
-// What is computed of a number.
+/// What is computed of a number.
 fn of_number(number: u64) -> u64 {
     number ^ 21845
 }
@@ -77,7 +77,7 @@ fn no_results_where_one_call_fails(rt: HostRuntime) -> Result<(), Fail> {
     Ok(())
 }
 
-// A value that may be moved to another thread, and one that may be shared.
+/// A value that may be moved to another thread, and one that may be shared.
 fn moved<T: Send>(value: T) -> T
     ensures { result ≡ value }
 {

@@ -10,7 +10,7 @@ fn four_by_four() -> Region {
     Region::whole_image(4, 4)
 }
 
-// A region whose last tiles are 5 pixels wide and 3 high.
+/// A region whose last tiles are 5 pixels wide and 3 high.
 fn odd() -> Region {
     Region::new(3, 2, 37, 27)
 }
@@ -23,7 +23,7 @@ const PATTERNS: [Pattern; 5] = [
     Pattern::Sixteen,
 ];
 
-// The number of pixels that a walk gives.
+/// The number of pixels that a walk gives.
 fn length_of(walk: TileWalk) -> u32 {
     let mut found: u32 = 0;
     for _hit in walk {
@@ -32,7 +32,7 @@ fn length_of(walk: TileWalk) -> u32 {
     found
 }
 
-// The number of pixels that the tiles have.
+/// The number of pixels that the tiles have.
 fn length_by_tiles(tiles: TileHits) -> u32 {
     let mut tiles = tiles;
     let mut hits = [Hit {
@@ -47,7 +47,7 @@ fn length_by_tiles(tiles: TileHits) -> u32 {
     found
 }
 
-// The walk gives each pixel of the region that has a mask, once and with this mask, and no other. As many are counted.
+/// The walk gives each pixel of the region that has a mask, once and with this mask, and no other. As many are counted.
 fn gives_the_masks(t: &ScreenTri, region: Region, pattern: Pattern) -> bool {
     let mut masks = [0; 1024];
     let mut found: u32 = 0;
@@ -95,7 +95,7 @@ fn both_windings_are_drawn(rt: HostRuntime) -> Result<(), Fail> {
     Ok(())
 }
 
-// Corners on tiles' corners, a sliver, a triangle that holds the whole region, and one of no area.
+/// Corners on tiles' corners, a sliver, a triangle that holds the whole region, and one of no area.
 #[test]
 fn walks_over_several_tiles(rt: HostRuntime) -> Result<(), Fail> {
     let across = ScreenTri::new([900, 9700, 4100], [700, 3000, 7300], [0; 3]).ok_or("across")?;
@@ -119,7 +119,7 @@ fn walks_over_several_tiles(rt: HostRuntime) -> Result<(), Fail> {
     Ok(())
 }
 
-// Coordinates past 2^29, so that edge functions need more than 64 bits.
+/// Coordinates past 2^29, so that edge functions need more than 64 bits.
 #[test]
 fn a_walk_over_a_part_of_a_vast_triangle(rt: HostRuntime) -> Result<(), Fail> {
     let far = 1 << 44;
@@ -130,7 +130,7 @@ fn a_walk_over_a_part_of_a_vast_triangle(rt: HostRuntime) -> Result<(), Fail> {
     Ok(())
 }
 
-// A triangle of 6 pixels in a box of 16, the region that a larger one holds, and one of no area.
+/// A triangle of 6 pixels in a box of 16, the region that a larger one holds, and one of no area.
 #[test]
 fn no_fewer_than_the_hits(rt: HostRuntime) -> Result<(), Fail> {
     let t = ScreenTri::new([0, 1024, 0], [0, 0, 1024], [0; 3]).ok_or("t")?;

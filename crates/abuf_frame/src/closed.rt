@@ -18,9 +18,9 @@ use std::marker::Model;
 pub struct Closed {
     pub(crate) words: FrozenWords,
     pub(crate) pixels: u32,
-    // How many nodes the words have, which is the most that a walk can pass.
+    /// How many nodes the words have, which is the most that a walk can pass.
     pub(crate) table_nodes: u32,
-    // How many the pool has: `full` compares with these.
+    /// How many the pool has: `full` compares with these.
     pub(crate) nodes: u32,
     pub(crate) fragments: u64,
 }

@@ -69,7 +69,7 @@ impl Closed {
         Ok(List::from_vec(items))
     }
 
-    // Makes a buffer hold the payloads of the pixel's list. When memory runs out it holds some of them.
+    /// Makes a buffer hold the payloads of the pixel's list. When memory runs out it holds some of them.
     fn copy_list(&self, pixel: u32, items: &mut Vec<u64>) -> Result<(), NoMemory>
         requires { pixel < self.now.pixels }
         ensures { IfOk result (λ _. items.new.items ≡ list_at self.now pixel) }

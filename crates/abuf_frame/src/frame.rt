@@ -17,8 +17,8 @@ use atomic_table::Table;
 use std::alloc::Global;
 use std::marker::Model;
 
-// The credit that all passes share.
-pub const WHOLE: u64 = 1 << 60;
+/// The credit that all passes share.
+pub(crate) const WHOLE: u64 = 1 << 60;
 
 /// A list of fragments for each pixel, in one table of words that many threads change by atomic steps. A `&Frame` may be shared
 /// between threads.
@@ -39,7 +39,7 @@ impl Model for Frame {
 }
 
 impl Frame {
-    // A frame with these words, and its whole pass.
+    /// A frame with these words, and its whole pass.
     fn of_words(
         alloc: Global,
         words: &[u64],

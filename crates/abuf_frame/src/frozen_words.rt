@@ -7,7 +7,7 @@ use atomic_table::Closed;
 use std::alloc::Global;
 use std::marker::{Model, Send, Sync};
 
-// A closed table in a form that may be shared between threads, which a `Closed` may not.
+/// A closed table in a form that may be shared between threads, which a `Closed` may not.
 struct SyncTable {
     table: Closed<(), Global>,
 }
@@ -46,7 +46,7 @@ impl SyncTable {
     }
 }
 
-// The words, in the block in which they were written. Clauses see the list of them.
+/// The words, in the block in which they were written. Clauses see the list of them.
 pub(crate) struct FrozenWords {
     table: SyncTable,
 }

@@ -26,7 +26,7 @@ impl Model for InitialWords {
     ghost invariant = { λ b. Sized b.pixels b.nodes × IsInitial b.pixels b.nodes b.words.items };
 }
 
-// 64 nodes as they are at the start.
+/// 64 nodes as they are at the start.
 fn initial_row() -> [u64; 128]
     ensures { AreInitial 64 result }
 {
@@ -37,7 +37,8 @@ fn initial_row() -> [u64; 128]
     row
 }
 
-// The words at the start. Each is written once, since a pool takes tens of megabytes, and by wide stores, a row of nodes at a time.
+/// The words at the start. Each is written once, since a pool takes tens of megabytes, and by wide stores, a row of nodes at a
+/// time.
 fn initial_vec(alloc: Global, pixels: u32, nodes: u32) -> Result<Vec<u64>, NoMemory>
     requires { Sized pixels nodes }
     ensures { IfOk result (λ v. IsInitial pixels nodes v.items) }

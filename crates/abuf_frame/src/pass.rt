@@ -22,7 +22,7 @@ use std::marker::{Brand, Model};
 pub struct Pass {
     pub(crate) seat: FrameSeat,
     pub(crate) credit: u64,
-    // The number of its entries, and how many of them are neither Linked nor Lost.
+    /// The number of its entries, and how many of them are neither Linked nor Lost.
     pub(crate) own: u64,
     pub(crate) loose: u64,
     pub(crate) pixels: u32,
@@ -39,7 +39,7 @@ impl Model for Pass {
     ghost invariant = { λ p. Ties p.pixels p.nodes p.seat.me p.credit p.own p.loose };
 }
 
-// How many of the numbers have a node.
+/// How many of the numbers have a node.
 fn found_nodes(first: u64, count: u64, nodes: u64) -> u64
     ensures { result ≡ min count (nodes - first) }
 {
@@ -105,7 +105,7 @@ impl Pass {
         self.loose -= 1;
     }
 
-    // Fills, swaps and links a Claimed entry.
+    /// Fills, swaps and links a Claimed entry.
     fn set_in(&mut self, frame: &Frame, number: u64, pixel: u32, payload: u64)
         requires frame { self.old.frame ≡ frame.now }
         requires claimed { stage_of number self.old.view.entries ≡ Some Claimed }

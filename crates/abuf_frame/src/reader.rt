@@ -7,14 +7,14 @@ use abuf_num::NoMemory;
 use std::alloc::Global;
 use std::marker::Model;
 
-// The buffers of eight lists.
+/// The buffers of eight lists.
 #[derive(Drop)]
 struct Buffers {
     lists: [Vec<u64>; 8],
 }
 
 impl Buffers {
-    // One of the lists.
+    /// One of the lists.
     #[inline(always)]
     fn list(&self, lane: usize) -> &[u64]
         requires lane { lane < 8 }
@@ -31,11 +31,11 @@ impl Buffers {
 #[derive(Drop)]
 pub struct ListReader<'a> {
     closed: &'a Closed,
-    // Whether the buffers hold the lists of the eight pixels from `first` on.
+    /// Whether the buffers hold the lists of the eight pixels from `first` on.
     is_held: bool,
     first: u32,
     buffers: Buffers,
-    // Which of the buffers has the list that was read last.
+    /// Which of the buffers has the list that was read last.
     lane: usize,
 }
 

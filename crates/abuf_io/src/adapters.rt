@@ -73,7 +73,7 @@ impl<W: Write> WriteSink<W> {
     }
 }
 
-// Writes and flushes. It takes none of some bytes only where it fails.
+/// Writes and flushes. It takes none of some bytes only where it fails.
 fn put<W: Write>(inner: &mut W, bytes: &[u8]) -> Option<usize>
     ensures count { IfSome result (λ n. (n ≤ length bytes.now) × (n ≡ 0 → length bytes.now ≡ 0)) }
     ensures whole { IfSome result (λ n. Appends (W.contents inner.old) (W.contents inner.new) (take n bytes.now)) }

@@ -36,7 +36,7 @@ impl<'a, R: Files> FolderShelf<'a, R> {
     }
 }
 
-// Reads a file. `Missing` is only that there is no such file.
+/// Reads a file. `Missing` is only that there is no such file.
 fn load<R: Files>(rt: &R, alloc: Global, name: &[u8], limit: u64) -> Result<List<u8>, Fetch>
     ensures within { IfOk result (λ content. length content ≤ limit) }
 {

@@ -34,7 +34,7 @@ pub struct SteadySource {
     ghost within: { at ≤ length bytes },
 }
 
-// Copies as many bytes as fit, at most `most`.
+/// Copies as many bytes as fit, at most `most`.
 fn give(bytes: &[u8], buf: &mut [u8], most: usize) -> usize
     ensures count { result ≡ min most (min (length buf.old) (length bytes.now)) }
     ensures copied { take result buf.new ≡ take result bytes.now }

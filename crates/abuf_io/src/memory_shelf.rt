@@ -13,7 +13,7 @@ pub struct SteadyShelf {
     calls: u64,
 }
 
-// The content under a name, of the first pair that has it.
+/// The content under a name, of the first pair that has it.
 fn find<'a>(pairs: &'a [(List<u8>, List<u8>)], name: &[u8]) -> Option<&'a [u8]>
     ensures { option_copied result ≡ held pairs.now name.now }
 {
@@ -23,7 +23,7 @@ fn find<'a>(pairs: &'a [(List<u8>, List<u8>)], name: &[u8]) -> Option<&'a [u8]>
         .map(|pair| pair.1.as_slice())
 }
 
-// A copy of the content under a name, if it isn't too long.
+/// A copy of the content under a name, if it isn't too long.
 pub(crate) fn copy(
     alloc: Global,
     pairs: &[(List<u8>, List<u8>)],

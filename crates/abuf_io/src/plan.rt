@@ -11,8 +11,8 @@ pub enum Step {
     Fail,
 }
 
-// The step that a call uses, if the plan has one left. It is used then.
-pub fn next_step(plan: &[Step], used: &mut usize) -> Option<Step>
+/// The step that a call uses, if the plan has one left. It is used then.
+pub(crate) fn next_step(plan: &[Step], used: &mut usize) -> Option<Step>
     requires used { used.old ≤ length plan.now }
     requires plan { IsPlan plan.now }
     ensures lets_some { IfSome result (λ step. lets_some step ≡ true) }

@@ -63,7 +63,7 @@ pub fn read_all<S: Source>(alloc: Global, src: &mut S, limit: u64) -> Result<Lis
     Err(ReadEnd::TooLong)
 }
 
-// One read, of at most `rest + 1` bytes, which go after those that are there.
+/// One read, of at most `rest + 1` bytes, which go after those that are there.
 fn read_some<S: Source>(
     src: &mut S,
     bytes: &mut Vec<u8>,

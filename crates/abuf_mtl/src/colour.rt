@@ -5,7 +5,7 @@ ghost use Rattle.abuf_mtl.specs.Said.{fraction_of, colour_of, colour_from, grey,
 use abuf_num::{channel, scaled};
 use abuf_text::Statement;
 
-// A number from 0 to 1 as a channel; other numbers are clamped.
+/// A number from 0 to 1 as a channel; other numbers are clamped.
 fn fraction(text: &[u8]) -> Option<u16>
     ensures { result ≡ fraction_of text.now }
 {
@@ -33,8 +33,8 @@ fn one(value: Option<u16>) -> Option<[u16; 3]>
     }
 }
 
-// The colour of three numbers, or of one that stands for all three.
-pub fn colour(mut arguments: Statement) -> Option<[u16; 3]>
+/// The colour of three numbers, or of one that stands for all three.
+pub(crate) fn colour(mut arguments: Statement) -> Option<[u16; 3]>
     ensures { result ≡ colour_of arguments.entry }
 {
     let Some(red) = arguments.next() else {
@@ -49,8 +49,8 @@ pub fn colour(mut arguments: Statement) -> Option<[u16; 3]>
     }
 }
 
-// The alpha of one number.
-pub fn alpha(mut arguments: Statement) -> Option<u16>
+/// The alpha of one number.
+pub(crate) fn alpha(mut arguments: Statement) -> Option<u16>
     ensures { result ≡ alpha_of arguments.entry }
 {
     match arguments.next() {

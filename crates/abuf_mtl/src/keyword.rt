@@ -7,7 +7,7 @@ use abuf_text::Statement;
 
 /// The kind of a line of a library, by its keyword.
 #[derive(Clone, Copy, Debug, PartialEq, Eq)]
-pub enum Keyword {
+pub(crate) enum Keyword {
     /// `newmtl`
     Material,
     /// `Kd`
@@ -34,8 +34,8 @@ impl Keyword {
     }
 }
 
-// The kind of a line, and its arguments.
-pub fn split_line(line: &[u8]) -> (Keyword, Statement)
+/// The kind of a line, and its arguments.
+pub(crate) fn split_line(line: &[u8]) -> (Keyword, Statement)
     ensures keyword { result.0 ≡ keyword_of (statement line.now) }
     ensures arguments { result.1 ≡ arguments line.now }
 {

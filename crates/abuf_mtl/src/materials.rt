@@ -60,7 +60,7 @@ impl Materials {
         }
     }
 
-    // A reader that begins with a copy of these materials.
+    /// A reader that begins with a copy of these materials.
     fn reader(&self, alloc: Global) -> Result<MtlReader, NoMemory>
         ensures same { IfOk result (λ r. zip r.names r.paints.items ≡ self.now) }
         ensures closed { IfOk result (λ r. r.begun ≡ None) }
@@ -82,7 +82,7 @@ pub fn materials_law(materials: &Materials)
     let _names = &materials.names;
 }
 
-// Takes the lines of a library, up to the first with a fault.
+/// Takes the lines of a library, up to the first with a fault.
 fn read_lines(alloc: Global, bytes: &[u8], reader: &mut MtlReader) -> Result<(), MtlFault>
     requires short { length bytes.now < 2 ^ 32 - 1 }
     requires closed { reader.old.begun ≡ None }

@@ -11,12 +11,12 @@ use abuf_num::{NoMemory, Paint, WHITE};
 use abuf_text::{Names, rest};
 use std::alloc::Global;
 
-// Names with their paints, and the index of the material that is open.
+/// Names with their paints, and the index of the material that is open.
 #[derive(Drop)]
-pub struct MtlReader {
-    pub names: Names,
-    pub paints: Vec<Paint>,
-    pub begun: Option<usize>,
+pub(crate) struct MtlReader {
+    pub(crate) names: Names,
+    pub(crate) paints: Vec<Paint>,
+    pub(crate) begun: Option<usize>,
     ghost beside: { length paints.items ≡ length names },
     ghost few: { length names ≤ MAX_MATERIALS },
     ghost begun_is: { IsOpen names begun },
@@ -30,7 +30,7 @@ impl MtlReader {
     ghost use Rattle.abuf_mtl.specs.Fault.{why, name_why, number_why, TellsWhy};
     ghost use Rattle.abuf_mtl.specs.Reading.{TakesBy, TakesLine, Says, Changes, with_colour, with_alpha, look, current, StartsName};
 
-    // A material of this name begins.
+    /// A material of this name begins.
     fn start(&mut self, alloc: Global, line: u32, name: &[u8]) -> Result<(), MtlFault>
         ensures fault { IfErr result (TellsWhy line (name_why self.old.names name.now)) }
         ensures ok { (values : Items (Items ℕ)) → OnOk result (TakesBy Keyword.Material values name.now self.old self.new) }
@@ -57,7 +57,7 @@ impl MtlReader {
         }
     }
 
-    // The material of a name that is there begins anew.
+    /// The material of a name that is there begins anew.
     fn begin_existing(&mut self, index: usize, name: &[u8])
         requires { index_of name.now self.old.names ≡ Some index }
         ensures starts { StartsName (look self.old) (look self.new) name.now }
@@ -68,7 +68,7 @@ impl MtlReader {
         self.begun = Some(index);
     }
 
-    // The material of a new name begins.
+    /// The material of a new name begins.
     fn begin_new(&mut self, alloc: Global, name: &[u8]) -> Result<(), NoMemory>
         requires new { index_of name.now self.old.names ≡ None }
         requires few { length self.old.names < MAX_MATERIALS }
@@ -84,7 +84,7 @@ impl MtlReader {
         Ok(())
     }
 
-    // The open material has this colour.
+    /// The open material has this colour.
     fn set_colour(&mut self, index: usize, colour: [u16; 3])
         requires { self.old.begun ≡ Some index }
         ensures changes { Changes (with_colour colour) self.old self.new }
@@ -94,7 +94,7 @@ impl MtlReader {
         self.paints[index] = Paint { colour, ..paint };
     }
 
-    // The open material has this alpha.
+    /// The open material has this alpha.
     fn set_alpha(&mut self, index: usize, alpha: u16)
         requires { self.old.begun ≡ Some index }
         ensures changes { Changes (with_alpha alpha) self.old self.new }
@@ -148,8 +148,8 @@ impl MtlReader {
         }
     }
 
-    // Takes a line, or tells its first fault.
-    pub fn take(&mut self, alloc: Global, number: u32, line: &[u8]) -> Result<(), MtlFault>
+    /// Takes a line, or tells its first fault.
+    pub(crate) fn take(&mut self, alloc: Global, number: u32, line: &[u8]) -> Result<(), MtlFault>
         ensures fault { IfErr result (TellsWhy number (why self.old.names (is_some self.old.begun) line.now)) }
         ensures ok { OnOk result (TakesLine line.now self.old self.new) }
     {

@@ -20,18 +20,18 @@ pub enum NumFault {
     Range,
 }
 
-// The parts of a number's text, by bytes that are digits.
+/// The parts of a number's text, by bytes that are digits.
 #[derive(Clone, Copy)]
-pub struct DecimalParts<'a> {
-    pub negative: bool,
-    pub whole: &'a [u8],
-    pub fraction: &'a [u8],
-    pub exponent_negative: bool,
-    pub exponent: &'a [u8],
+pub(crate) struct DecimalParts<'a> {
+    pub(crate) negative: bool,
+    pub(crate) whole: &'a [u8],
+    pub(crate) fraction: &'a [u8],
+    pub(crate) exponent_negative: bool,
+    pub(crate) exponent: &'a [u8],
 }
 
 /// The text has no byte but digits.
-pub fn has_digits_only(text: &[u8]) -> bool
+pub(crate) fn has_digits_only(text: &[u8]) -> bool
     ensures { result ≡ all_digits text.now }
 {
     text.iter().all(|b| 48 <= *b && *b <= 57)
@@ -49,7 +49,7 @@ fn first_point(text: &[u8]) -> Option<usize>
     text.iter().position(|b| *b == b'.')
 }
 
-// What stands before and after that place.
+/// What stands before and after that place.
 fn cut_at(text: &[u8], place: Option<usize>) -> (&[u8], Option<&[u8]>)
     requires { IfSome place (λ k. k < length text.now) }
     ensures { (result.0.now, option_map (λ t. t.now) result.1) ≡ cut_to place text.now }
@@ -60,7 +60,7 @@ fn cut_at(text: &[u8], place: Option<usize>) -> (&[u8], Option<&[u8]>)
     }
 }
 
-// The sign and the digits of an exponent.
+/// The sign and the digits of an exponent.
 fn exponent(text: Option<&[u8]>) -> Option<(bool, &[u8])>
     ensures value { option_map (λ p. (p.0, p.1.now)) result ≡ exponent_of (option_map (λ t. t.now) text.entry) }
     ensures digits { IfSome result (λ p. all_digits p.1.now ≡ true) }
@@ -87,7 +87,7 @@ fn or_empty(text: Option<&[u8]>) -> &[u8]
     }
 }
 
-// The digits before and after the point.
+/// The digits before and after the point.
 fn mantissa(text: &[u8]) -> Option<(&[u8], &[u8])>
     ensures value { option_map (λ p. (p.0.now, p.1.now)) result ≡ mantissa_of (cut_by is_point text.now) }
     ensures digits { IfSome result (λ p. (all_digits p.0.now ≡ true) × (all_digits p.1.now ≡ true)) }
@@ -104,7 +104,7 @@ fn mantissa(text: &[u8]) -> Option<(&[u8], &[u8])>
     }
 }
 
-// The parts of a text, if it is a number.
+/// The parts of a text, if it is a number.
 fn split(text: &[u8]) -> Option<DecimalParts<'_>>
     ensures value { option_map number_view result ≡ number_of text.now }
     ensures digits { IfSome result HasDigits }
@@ -123,7 +123,7 @@ fn split(text: &[u8]) -> Option<DecimalParts<'_>>
 }
 
 /// The number that digits spell, after a number of so many places.
-pub fn spelled(from: u128, places: usize, text: &[u8]) -> u128
+pub(crate) fn spelled(from: u128, places: usize, text: &[u8]) -> u128
     requires before { from < 10 ^ places }
     requires short { places + length text.now ≤ 30 }
     requires digits { all_digits text.now ≡ true }
@@ -138,7 +138,7 @@ pub fn spelled(from: u128, places: usize, text: &[u8]) -> u128
 }
 
 impl DecimalParts<'_> {
-    // All the digits, as one number.
+    /// All the digits, as one number.
     fn digits_value(&self) -> u128
         requires digits { HasDigits self.now }
         requires short { length self.now.whole.now + length self.now.fraction.now ≤ 30 }
@@ -149,7 +149,7 @@ impl DecimalParts<'_> {
         spelled(whole, self.whole.len(), self.fraction)
     }
 
-    // The exponent without its sign.
+    /// The exponent without its sign.
     fn exponent_value(&self) -> u32
         requires digits { HasDigits self.now }
         requires short { length self.now.exponent.now ≤ 3 }
@@ -159,7 +159,7 @@ impl DecimalParts<'_> {
         spelled(0, 0, self.exponent) as u32
     }
 
-    // By how many places the point moves to the right and to the left.
+    /// By how many places the point moves to the right and to the left.
     fn moves(&self) -> (u32, u32)
         requires digits { HasDigits self.now }
         requires short { length self.now.exponent.now ≤ 3 }
@@ -181,7 +181,7 @@ impl DecimalParts<'_> {
 
     /// `k` times the number, whose digits without the point spell `digits`, rounded and in range.
     #[inline(always)]
-    pub fn result(&self, digits: u128, k: u32) -> Result<i64, NumFault>
+    pub(crate) fn result(&self, digits: u128, k: u32) -> Result<i64, NumFault>
         requires digits { HasDigits self.now }
         requires few { length self.now.whole.now + length self.now.fraction.now ≤ 30 }
         requires short { length self.now.exponent.now ≤ 3 }
@@ -205,7 +205,7 @@ fn with_sign(negative: bool, size: Option<u32>) -> Result<i64, NumFault>
     }
 }
 
-// `scaled` by the parts of the text, for numbers of every form.
+/// `scaled` by the parts of the text, for numbers of every form.
 fn scaled_by_parts(text: &[u8], k: u32) -> Result<i64, NumFault>
     requires least { 1 ≤ k }
     requires most { k ≤ 65536 }

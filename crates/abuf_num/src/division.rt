@@ -2,14 +2,14 @@
 ghost use Rattle.std.specs.Prelude.{◌≡◌, ◌<◌, ◌^◌, ◌↔◌, pos, ◌<ℤ◌, unsigned_abs, IsTrue};
 ghost use Rattle.abuf_num.specs.Division.{floor_div, round_div};
 
-// The number is below 2^63 either way.
+/// The number is below 2^63 either way.
 fn is_short(n: i128) -> bool
     ensures { IsTrue result ↔ (unsigned_abs n < 2 ^ 63) }
 {
     -9223372036854775808 < n && n < 9223372036854775808
 }
 
-// `floor_div` in 64 bits.
+/// `floor_div` in 64 bits.
 fn short_floor_div(a: i64, b: i64) -> i64
     requires { pos 0 <ℤ b }
     ensures { result ≡ floor_div a b }
@@ -17,7 +17,7 @@ fn short_floor_div(a: i64, b: i64) -> i64
     a.div_euclid(b)
 }
 
-// `floor_div` in 128 bits.
+/// `floor_div` in 128 bits.
 fn long_floor_div(n: i128, m: i128) -> i128
     requires { pos 0 <ℤ m }
     ensures { result ≡ floor_div n m }

@@ -24,7 +24,7 @@ pub struct LeadingNumber {
     pub length: usize,
 }
 
-// The digits before and after a point, the number that they spell together, and how many bytes they take with the point.
+/// The digits before and after a point, the number that they spell together, and how many bytes they take with the point.
 #[derive(Clone, Copy)]
 struct Mantissa<'a> {
     whole: &'a [u8],
@@ -33,7 +33,7 @@ struct Mantissa<'a> {
     length: usize,
 }
 
-// An exponent, and how many bytes it takes with its mark and its sign.
+/// An exponent, and how many bytes it takes with its mark and its sign.
 #[derive(Clone, Copy)]
 struct Exponent<'a> {
     negative: bool,
@@ -41,7 +41,7 @@ struct Exponent<'a> {
     length: usize,
 }
 
-// The parts of a number, the number that its digits spell without the point, and how many bytes it takes.
+/// The parts of a number, the number that its digits spell without the point, and how many bytes it takes.
 #[derive(Clone, Copy)]
 struct Leading<'a> {
     parts: DecimalParts<'a>,
@@ -49,7 +49,7 @@ struct Leading<'a> {
     length: usize,
 }
 
-// At most so many bytes, from the first.
+/// At most so many bytes, from the first.
 #[inline(always)]
 fn front(text: &[u8], most: usize) -> &[u8]
     ensures { result.now ≡ take most text.now }
@@ -61,7 +61,7 @@ fn front(text: &[u8], most: usize) -> &[u8]
     }
 }
 
-// All digits at the start of a short text, after a number of so many places. 64 bits hold every number of 19 digits.
+/// All digits at the start of a short text, after a number of so many places. 64 bits hold every number of 19 digits.
 #[inline(always)]
 fn digits_of(from: u64, places: usize, text: &[u8]) -> LeadingDigits
     requires before { from < 10 ^ places }
@@ -99,7 +99,7 @@ pub fn leading_digits(from: u64, places: usize, most: usize, text: &[u8]) -> Lea
     digits_of(from, places, front(text, most))
 }
 
-// The digits at the start of a text, with a point before, among or behind them, if there is any digit.
+/// The digits at the start of a text, with a point before, among or behind them, if there is any digit.
 #[inline(always)]
 fn leading_mantissa(text: &[u8]) -> Option<Mantissa<'_>>
     ensures within { IfSome result (λ m. m.length ≤ length text.now) }
@@ -131,7 +131,7 @@ fn leading_mantissa(text: &[u8]) -> Option<Mantissa<'_>>
     })
 }
 
-// `e` or `E`.
+/// `e` or `E`.
 #[inline(always)]
 fn is_mark(b: u8) -> bool
     ensures { result ≡ is_mark b }
@@ -139,7 +139,7 @@ fn is_mark(b: u8) -> bool
     b == b'e' || b == b'E'
 }
 
-// The exponent at the start of a text, which is 0 and takes no byte where no mark stands there.
+/// The exponent at the start of a text, which is 0 and takes no byte where no mark stands there.
 #[inline(always)]
 fn leading_exponent(text: &[u8]) -> Option<Exponent<'_>>
     ensures within { IfSome result (λ e. e.length ≤ length text.now) }
@@ -165,7 +165,7 @@ fn leading_exponent(text: &[u8]) -> Option<Exponent<'_>>
     })
 }
 
-// The parts of the number at the start of a text.
+/// The parts of the number at the start of a text.
 #[inline(always)]
 fn leading_parts(text: &[u8]) -> Option<Leading<'_>>
     ensures some { IfSome result (λ n. 0 < n.length) }

@@ -13,7 +13,7 @@ pub fn begins_negative(text: &[u8]) -> bool
 }
 
 /// What stands after a first `-` or `+`, or the whole text.
-pub fn strip_sign(text: &[u8]) -> &[u8]
+pub(crate) fn strip_sign(text: &[u8]) -> &[u8]
     ensures { result.now ≡ without_sign text.now }
 {
     match text.first() {

@@ -5,10 +5,10 @@ ghost use Rattle.abuf_num.specs.Size.{limited};
 
 use crate::limits::MAX_COORDINATE;
 
-// The greatest result.
+/// The greatest result.
 const MAX_RESULT: u128 = MAX_COORDINATE as u128;
 
-// `n`, within the limit.
+/// `n`, within the limit.
 fn within(n: u64) -> Option<u32>
     ensures { result ≡ limited n }
 {
@@ -19,7 +19,7 @@ fn within(n: u64) -> Option<u32>
     }
 }
 
-// `n` times a power of ten, within the limit.
+/// `n` times a power of ten, within the limit.
 fn raised(n: u128, up: u32) -> Option<u32>
     ensures { result ≡ limited (n * 10 ^ up) }
 {
@@ -37,8 +37,8 @@ fn raised(n: u128, up: u32) -> Option<u32>
     }
 }
 
-// `n` over a power of ten, rounded, in 64 bits. A division by one of the common powers, which are written out, is compiled
-// to a multiplication.
+/// `n` over a power of ten, rounded, in 64 bits. A division by one of the common powers, which are written out, is compiled
+/// to a multiplication.
 fn short_nearest(n: u64, down: u32) -> u64
     requires small { n < 2 ^ 62 }
     requires few { down ≤ 18 }
@@ -61,7 +61,7 @@ fn short_nearest(n: u64, down: u32) -> u64
     }
 }
 
-// `n` over a power of ten, rounded, within the limit.
+/// `n` over a power of ten, rounded, within the limit.
 fn lowered(n: u128, down: u32) -> Option<u32>
     requires { n < 2 ^ 116 }
     ensures { result ≡ limited (nearest n (10 ^ down)) }
@@ -81,8 +81,8 @@ fn lowered(n: u128, down: u32) -> Option<u32>
     }
 }
 
-// `n` with its point moved to the right or to the left, rounded, within the limit.
-pub fn size(n: u128, up: u32, down: u32) -> Option<u32>
+/// `n` with its point moved to the right or to the left, rounded, within the limit.
+pub(crate) fn size(n: u128, up: u32, down: u32) -> Option<u32>
     requires small { n < 2 ^ 116 }
     requires one_way { (up ≡ 0) ⊎ (down ≡ 0) }
     ensures { result ≡ limited (nearest (n * 10 ^ up) (10 ^ down)) }

@@ -19,7 +19,7 @@ pub fn whole_number(text: &[u8], most: usize) -> Option<u32>
     }
 }
 
-// The text without its first byte.
+/// The text without its first byte.
 fn without_first(text: &[u8]) -> &[u8]
     ensures { result.now ≡ drop 1 text.now }
 {

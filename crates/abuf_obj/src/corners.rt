@@ -14,7 +14,7 @@ use abuf_text::Statement;
 use std::alloc::Global;
 use std::marker::Model;
 
-// No element is left.
+/// No element is left.
 fn is_end(elements: &Statement) -> bool
     ensures { IsTrue result → elements.now ≡ [] }
 {
@@ -23,7 +23,7 @@ fn is_end(elements: &Statement) -> bool
 
 /// The corners of a face. Three or four, which nearly all faces have, take no memory. Clauses see their list.
 #[derive(Drop)]
-pub struct FaceCorners {
+pub(crate) struct FaceCorners {
     few: [u32; 4],
     /// How many of the few there are; where there are none, the corners are the others.
     count: usize,
@@ -41,7 +41,7 @@ impl Model for FaceCorners {
 }
 
 impl FaceCorners {
-    pub fn as_slice(&self) -> &[u32]
+    pub(crate) fn as_slice(&self) -> &[u32]
         ensures { result.now ≡ self.now }
     {
         if self.count > 0 {
@@ -52,8 +52,8 @@ impl FaceCorners {
     }
 }
 
-// The vertices of three or four elements; none where they are more or fewer, or where one has no vertex. They need no count of their
-// own.
+/// The vertices of three or four elements; none where they are more or fewer, or where one has no vertex. They need no count of
+/// their own.
 fn few_corners(alloc: Global, above: u32, mut elements: Statement) -> Option<FaceCorners>
     ensures { IfSome result (λ list. AreCorners above elements.entry list) }
 {
@@ -87,7 +87,7 @@ fn few_corners(alloc: Global, above: u32, mut elements: Statement) -> Option<Fac
     }
 }
 
-// The vertices of any number of elements. They are counted first, so that the list takes exactly its memory.
+/// The vertices of any number of elements. They are counted first, so that the list takes exactly its memory.
 fn many_corners(
     alloc: Global,
     line: u32,
@@ -113,7 +113,7 @@ fn many_corners(
 }
 
 /// The vertices of the elements, where they are 3 to 1024 and each has one.
-pub fn corners(
+pub(crate) fn corners(
     alloc: Global,
     line: u32,
     above: u32,

@@ -19,7 +19,7 @@ fn without_minus(text: &[u8]) -> &[u8]
     }
 }
 
-// The number that up to ten digits spell, if all bytes are digits.
+/// The number that up to ten digits spell, if all bytes are digits.
 fn spelled_out(text: &[u8]) -> Option<u64>
     requires { length text.now ≤ 10 }
     ensures { result ≡ spelled_from 0 text.now }
@@ -34,7 +34,7 @@ fn spelled_out(text: &[u8]) -> Option<u64>
     Some(n)
 }
 
-// The number that one to ten digits spell.
+/// The number that one to ten digits spell.
 fn spelled(text: &[u8]) -> Option<u64>
     ensures { result ≡ spelled text.now }
 {
@@ -51,7 +51,7 @@ fn first_slash(text: &[u8]) -> Option<usize>
     text.iter().position(|b| *b == b'/')
 }
 
-// What stands before the first slash, and behind it if there is one.
+/// What stands before the first slash, and behind it if there is one.
 fn split_slash(text: &[u8]) -> (&[u8], Option<&[u8]>)
     ensures front { result.0.now ≡ before_slash text.now }
     ensures behind { option_map (λ t. t.now) result.1 ≡ after_slash text.now }
@@ -62,7 +62,7 @@ fn split_slash(text: &[u8]) -> (&[u8], Option<&[u8]>)
     }
 }
 
-// Nothing, or an index of any value.
+/// Nothing, or an index of any value.
 fn is_unused_index(text: &[u8]) -> bool
     ensures { result ≡ is_unused_index text.now }
 {
@@ -100,7 +100,7 @@ fn from_last(above: u32, n: u64) -> Option<u32>
     }
 }
 
-// Clamped, since a vertex past 32 bits is no point's.
+/// Clamped, since a vertex past 32 bits is no point's.
 fn from_first(n: u64) -> Option<u32>
     ensures { result ≡ option_map clamped (from_first n) }
 {
@@ -113,7 +113,7 @@ fn from_first(n: u64) -> Option<u32>
     }
 }
 
-// The vertex that a point's index stands for.
+/// The vertex that a point's index stands for.
 fn vertex_of_index(above: u32, text: &[u8]) -> Option<u32>
     ensures { result ≡ option_map clamped (vertex_of_index above text.now) }
 {
@@ -130,7 +130,7 @@ fn vertex_of_index(above: u32, text: &[u8]) -> Option<u32>
     }
 }
 
-// The vertex of an element.
+/// The vertex of an element.
 fn vertex(above: u32, text: &[u8]) -> Option<u32>
     ensures { result ≡ option_map clamped (vertex_of above text.now) }
 {
@@ -142,7 +142,7 @@ fn vertex(above: u32, text: &[u8]) -> Option<u32>
     }
 }
 
-// An index at the start of a text: its sign, the number that its digits spell, and how many bytes it takes.
+/// An index at the start of a text: its sign, the number that its digits spell, and how many bytes it takes.
 #[derive(Clone, Copy)]
 struct Index {
     negative: bool,
@@ -150,7 +150,7 @@ struct Index {
     length: usize,
 }
 
-// The vertex of an element at the start of a text, and how many bytes the element takes.
+/// The vertex of an element at the start of a text, and how many bytes the element takes.
 #[derive(Clone, Copy)]
 struct Element {
     vertex: u32,
@@ -174,7 +174,7 @@ fn leading_index(text: &[u8]) -> Option<Index>
     })
 }
 
-// How many bytes an index at the start of a text takes that isn't used, or none.
+/// How many bytes an index at the start of a text takes that isn't used, or none.
 #[inline(always)]
 fn leading_unused(text: &[u8]) -> usize
     ensures within { result ≤ length text.now }
@@ -187,7 +187,7 @@ fn leading_unused(text: &[u8]) -> usize
     }
 }
 
-// How many bytes a texture's index and a normal's take behind the first slash.
+/// How many bytes a texture's index and a normal's take behind the first slash.
 #[inline(always)]
 fn leading_texture_and_normal(text: &[u8]) -> usize
     ensures within { result ≤ length text.now }
@@ -202,7 +202,7 @@ fn leading_texture_and_normal(text: &[u8]) -> usize
     }
 }
 
-// How many bytes an element takes that begins with an index of so many.
+/// How many bytes an element takes that begins with an index of so many.
 #[inline(always)]
 fn element_length(text: &[u8], index: usize) -> usize
     requires within { index ≤ length text.now }
@@ -220,7 +220,7 @@ fn element_length(text: &[u8], index: usize) -> usize
     }
 }
 
-// The vertex with this index.
+/// The vertex with this index.
 #[inline(always)]
 fn vertex_at(above: u32, negative: bool, value: u64) -> Option<u32>
     ensures { result ≡ option_map clamped (vertex_by above negative value) }
@@ -253,7 +253,7 @@ fn leading_element(above: u32, text: &[u8]) -> Option<Element>
 
 /// The vertex of the first element. Where it stands in the usual form, its end is found as it is read; else it is cut first.
 #[inline(always)]
-pub fn next_vertex<'a>(elements: &mut Statement<'a>, above: u32) -> Option<u32>
+pub(crate) fn next_vertex<'a>(elements: &mut Statement<'a>, above: u32) -> Option<u32>
     ensures value { result ≡ option_map clamped (first_vertex above elements.old) }
     ensures rest { IfSome result (λ _. elements.new ≡ drop 1 elements.old) }
 {
@@ -271,7 +271,7 @@ pub fn next_vertex<'a>(elements: &mut Statement<'a>, above: u32) -> Option<u32>
 }
 
 /// The vertices of so many elements, if each has one.
-pub fn vertices(
+pub(crate) fn vertices(
     alloc: Global,
     above: u32,
     count: u32,
@@ -292,7 +292,7 @@ pub fn vertices(
 }
 
 /// How many tokens are left, where more than 1025 count as 1025.
-pub fn count(tokens: Statement) -> u32
+pub(crate) fn count(tokens: Statement) -> u32
     ensures { result ≡ min (length tokens.entry) 1025 }
 {
     let mut n = 0;

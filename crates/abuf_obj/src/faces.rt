@@ -10,7 +10,7 @@ use std::marker::Model;
 
 /// A face but for its corners, of which there are so many.
 #[derive(Clone, Copy)]
-pub struct FaceRow {
+pub(crate) struct FaceRow {
     line: u32,
     count: u32,
     name: Option<u32>,
@@ -19,7 +19,7 @@ pub struct FaceRow {
 /// Faces, with the corners of all of them in one list. If each face had a list of its own, the lists would take twice the memory,
 /// and threads that take them would wait for one another: four would read more slowly than one. Clauses see the list of the faces.
 #[derive(Drop)]
-pub struct Faces {
+pub(crate) struct Faces {
     corners: Vec<u32>,
     rows: Vec<FaceRow>,
 }
@@ -55,7 +55,7 @@ impl<'a> Model for FaceSlice<'a> {
     ghost invariant = { λ f. corners_in f.rows.now ≡ length f.corners.now };
 }
 
-// How many corners the rows have.
+/// How many corners the rows have.
 fn count_corners(rows: &[FaceRow]) -> usize
     requires { corners_in rows.now < 2 ^ 64 }
     ensures { result ≡ corners_in rows.now }
@@ -122,7 +122,7 @@ impl<'a> FaceSlice<'a> {
     }
 }
 
-// The faces of these rows, each with a list of its corners.
+/// The faces of these rows, each with a list of its corners.
 fn faces_of(alloc: Global, corners: &[u32], rows: &[FaceRow]) -> Result<Vec<Face>, NoMemory>
     requires { corners_in rows.now ≡ length corners.now }
     ensures { IfOk result (λ faces. faces.items ≡ faces_in_rows corners.now rows.now) }

@@ -47,8 +47,8 @@ impl From<NoMemory> for ObjFault {
 }
 
 impl Why {
-    // The fault of this cause at a line.
-    pub fn at(self, line: u32) -> ObjFault
+    /// The fault of this cause at a line.
+    pub(crate) fn at(self, line: u32) -> ObjFault
         ensures { result ≡ Line line self }
     {
         ObjFault::Line { line, why: self }

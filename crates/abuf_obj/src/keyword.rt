@@ -9,7 +9,7 @@ use abuf_text::Statement;
 
 /// The kind of a line of a scene.
 #[derive(Clone, Copy, Debug, PartialEq, Eq)]
-pub enum Keyword {
+pub(crate) enum Keyword {
     /// `v`
     Vertex,
     /// `f`
@@ -72,7 +72,7 @@ impl Keyword {
     }
 }
 
-// The text begins with this byte.
+/// The text begins with this byte.
 #[inline(always)]
 fn begins_with(text: &[u8], byte: u8) -> bool
     ensures { IsTrue result → (0 < length text.now) × (slice_index text.now 0 ≡ byte) }
@@ -85,7 +85,7 @@ fn begins_with(text: &[u8], byte: u8) -> bool
 
 /// The kind of a line, and its arguments. The lines of points and faces, which nearly all are, are told by their first two bytes.
 #[inline(always)]
-pub fn split_line(line: &[u8]) -> (Keyword, Statement)
+pub(crate) fn split_line(line: &[u8]) -> (Keyword, Statement)
     ensures keyword { result.0 ≡ keyword_of (statement line.now) }
     ensures arguments { result.1 ≡ arguments line.now }
 {

@@ -14,7 +14,7 @@ use std::alloc::Global;
 use std::thread::{Threads, join};
 
 /// The tally of these lines, counted on so many threads.
-pub fn tally_on_threads<'a, R: Threads + Sync>(
+pub(crate) fn tally_on_threads<'a, R: Threads + Sync>(
     rt: &R,
     alloc: Global,
     threads: u32,
@@ -45,7 +45,7 @@ pub fn tally_on_threads<'a, R: Threads + Sync>(
     Tally::both(first, second)
 }
 
-// Reads a piece behind so many lines, where `start` knows what else stands above.
+/// Reads a piece behind so many lines, where `start` knows what else stands above.
 fn read_piece(
     alloc: Global,
     lines_above: u32,
@@ -65,7 +65,7 @@ fn read_piece(
 }
 
 /// Reads a piece on so many threads, by halves: the tally of the first half tells what stands above the second.
-pub fn read_pieces<R: Threads + Sync>(
+pub(crate) fn read_pieces<R: Threads + Sync>(
     rt: &R,
     alloc: Global,
     threads: u32,

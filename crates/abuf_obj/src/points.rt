@@ -7,7 +7,7 @@ ghost use Rattle.abuf_obj.specs.Sound.{IsInRange};
 use abuf_num::{leading_number, scaled};
 use abuf_text::Statement;
 
-// A number in units of 1/65536.
+/// A number in units of 1/65536.
 fn coordinate(text: &[u8]) -> Option<i64>
     ensures value { result ≡ coordinate text.now }
     ensures near { IfSome result (λ z. unsigned_abs z ≤ MAX_COORDINATE) }
@@ -15,7 +15,7 @@ fn coordinate(text: &[u8]) -> Option<i64>
     scaled(text, 65536).ok()
 }
 
-// The first argument as a coordinate. Where it stands in the usual form, its end is found as it is read; else it is cut first.
+/// The first argument as a coordinate. Where it stands in the usual form, its end is found as it is read; else it is cut first.
 #[inline(always)]
 fn next_coordinate<'a>(arguments: &mut Statement<'a>) -> Option<i64>
     ensures value { result ≡ first_coordinate arguments.old }
@@ -36,7 +36,7 @@ fn next_coordinate<'a>(arguments: &mut Statement<'a>) -> Option<i64>
 }
 
 /// The point of the first three arguments, if they are three numbers.
-pub fn point(mut arguments: Statement) -> Option<[i64; 3]>
+pub(crate) fn point(mut arguments: Statement) -> Option<[i64; 3]>
     ensures value { result ≡ point_of arguments.entry }
     ensures near { IfSome result IsInRange }
 {

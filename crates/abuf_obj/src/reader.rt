@@ -16,21 +16,22 @@ use abuf_num::{List, NoMemory};
 use abuf_text::{Names, Statement, rest};
 use std::alloc::Global;
 
-// The lines of most files have at least so many bytes. A list that has room for all of its items isn't moved as it grows, and leaves no
-// gaps in memory; room that isn't used is never touched.
-const LINE_BYTES: usize = 16;
+/// The line of a point or of a face has at least so many bytes with its end, and most have thirty. So a list has room for all of its
+/// items, and mostly for those of the next pieces too: it isn't moved as it grows, which would leave gaps in memory. Room that isn't
+/// used is never touched.
+const LINE_BYTES: usize = 8;
 
 /// What has been read so far, and the index of the name in use.
 #[derive(Drop)]
-pub struct ObjReader {
+pub(crate) struct ObjReader {
     /// How many points stand above the lines that it reads: none, where it reads from the first line on.
-    pub points_above: u32,
-    pub points: List<[i64; 3]>,
-    pub faces: Faces,
-    pub names: Names,
-    pub libraries: Names,
-    pub triangles: u32,
-    pub name: Option<u32>,
+    pub(crate) points_above: u32,
+    pub(crate) points: List<[i64; 3]>,
+    pub(crate) faces: Faces,
+    pub(crate) names: Names,
+    pub(crate) libraries: Names,
+    pub(crate) triangles: u32,
+    pub(crate) name: Option<u32>,
     ghost few_points: { points_above + length points ≤ MAX_POINTS },
     ghost few_triangles: { triangles ≤ MAX_TRIANGLES },
     ghost few_names: { length names ≤ MAX_MATERIALS },
@@ -48,7 +49,7 @@ impl ObjReader {
     ghost use Rattle.abuf_obj.specs.Pieces.{texts, BeginsBehind, HasNames, HasPiece, IsTally};
 
     /// A reader that has read nothing yet of so many bytes. So many points stand above, these names, and the one in use.
-    pub fn beginning(
+    pub(crate) fn beginning(
         alloc: Global,
         bytes: usize,
         points_above: u32,
@@ -83,7 +84,7 @@ impl ObjReader {
     }
 
     /// A reader of so many bytes that begins where this one stands.
-    pub fn follower(&self, alloc: Global, bytes: usize) -> Result<ObjReader, NoMemory>
+    pub(crate) fn follower(&self, alloc: Global, bytes: usize) -> Result<ObjReader, NoMemory>
         ensures points { IfOk result (λ r. r.points ≡ []) }
         ensures faces { IfOk result (λ r. r.faces ≡ []) }
         ensures triangles { IfOk result (λ r. r.triangles ≡ 0) }
@@ -95,7 +96,7 @@ impl ObjReader {
         ObjReader::beginning(alloc, bytes, points_above, names, libraries, self.name)
     }
 
-    // Takes lines for their names alone.
+    /// Takes lines for their names alone.
     fn take_named(&mut self, alloc: Global, lines: &[&[u8]]) -> Result<(), ObjFault>
         ensures { (before : Items (Items ℕ)) → HasNames before self.old → OnOk result (HasNames (before ++ texts lines.now) self.new) }
     {
@@ -106,7 +107,7 @@ impl ObjReader {
     }
 
     /// A reader that begins behind a piece, of which the tally is known, where this one begins before it.
-    pub fn behind(&self, alloc: Global, tally: &Tally) -> Result<ObjReader, GivenUp>
+    pub(crate) fn behind(&self, alloc: Global, tally: &Tally) -> Result<ObjReader, GivenUp>
         ensures { (before lines : Items (Items ℕ)) → BeginsBehind before self.now → IsTally lines tally.now → IfOk result (BeginsBehind (before ++ lines)) }
     {
         let points_above = self.point_count() + tally.points as usize;
@@ -129,7 +130,7 @@ impl ObjReader {
         Ok(behind)
     }
 
-    // What was read is that of neighbouring pieces, and not too much.
+    /// What was read is that of neighbouring pieces, and not too much.
     fn may_follow(&self, second: &ObjReader) -> bool
         ensures points { IsTrue result → self.now.points_above + length self.now.points ≡ second.now.points_above }
         ensures names { IsTrue result → length self.now.names ≤ length second.now.names }
@@ -141,7 +142,7 @@ impl ObjReader {
     }
 
     /// What two readers have read, the second behind the first.
-    pub fn joined(first: ObjReader, second: ObjReader) -> Result<ObjReader, GivenUp>
+    pub(crate) fn joined(first: ObjReader, second: ObjReader) -> Result<ObjReader, GivenUp>
         ensures { (before xs ys : Items (Items ℕ)) → HasPiece before xs first → HasPiece (before ++ xs) ys second → IfOk result (HasPiece before (xs ++ ys)) }
     {
         if !first.may_follow(&second) {
@@ -162,7 +163,7 @@ impl ObjReader {
     }
 
     /// How many points have been counted: those above, and those read.
-    pub fn point_count(&self) -> usize
+    pub(crate) fn point_count(&self) -> usize
         ensures { result ≡ (counted self.now).points }
     {
         self.points_above as usize + self.points.as_slice().len()
@@ -237,7 +238,7 @@ impl ObjReader {
     }
 
     /// Takes a line.
-    pub fn take(&mut self, alloc: Global, number: u32, line: &[u8]) -> Result<(), ObjFault>
+    pub(crate) fn take(&mut self, alloc: Global, number: u32, line: &[u8]) -> Result<(), ObjFault>
         ensures fault { IfErr result (TellsWhy number (why (counted self.old) line.now)) }
         ensures ok { OnOk result (TakesLine number line.now self.old self.new) }
     {
@@ -253,15 +254,15 @@ impl ObjReader {
     }
 }
 
-// An empty list with room for so many items.
+/// An empty list with room for so many items.
 fn with_capacity<T: Drop>(alloc: Global, count: usize) -> Result<List<T>, NoMemory>
     ensures { IfOk result (λ list. list ≡ []) }
 {
     Ok(List::from_vec(Vec::with_capacity(alloc, count)?))
 }
 
-// The items of the first list, and then those of the second. Most files have their points before their faces, so that one of the
-// lists is often empty.
+/// The items of the first list, and then those of the second. Most files have their points before their faces, so that one of the
+/// lists is often empty.
 fn appended<T: Drop>(first: List<T>, second: List<T>) -> Result<List<T>, NoMemory>
     ensures { IfOk result (λ all. all ≡ first ++ second) }
 {

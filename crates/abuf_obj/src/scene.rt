@@ -94,7 +94,7 @@ impl FlatObj {
     }
 }
 
-// Takes the lines, up to the first that is faulty.
+/// Takes the lines, up to the first that is faulty.
 fn read_lines(alloc: Global, bytes: &[u8]) -> Result<ObjReader, ObjFault>
     requires { length bytes.now < 2 ^ 32 - 1 }
     ensures fault { IfErr result (TellsFirst (fault_from [] (lines bytes.now))) }
@@ -160,8 +160,8 @@ pub fn read_obj(alloc: Global, bytes: &[u8]) -> Result<Obj, ObjFault>
     Ok(obj)
 }
 
-// The line of the first face with a vertex at or beyond the number of points.
-pub fn first_astray(obj: &FlatObj) -> Option<u32>
+/// The line of the first face with a vertex at or beyond the number of points.
+pub(crate) fn first_astray(obj: &FlatObj) -> Option<u32>
     ensures { result ≡ astray_line (length obj.now.points) obj.now.faces }
 {
     let points = obj.points().len();
@@ -181,8 +181,8 @@ fn goes_astray(points: usize, face: &FaceRef) -> bool
     face.corners.iter().any(|corner| points <= *corner as usize)
 }
 
-// What was read. It is a scene if no face goes astray.
-pub fn finish(reader: ObjReader) -> FlatObj
+/// What was read. It is a scene if no face goes astray.
+pub(crate) fn finish(reader: ObjReader) -> FlatObj
     ensures points { result.points ≡ reader.points }
     ensures faces { result.faces ≡ reader.faces }
     ensures names { result.names ≡ reader.names }

@@ -3,13 +3,13 @@ ghost use Rattle.std.specs.Prelude.{◌≡◌, ◌+◌, ◌*◌, ◌++◌, ◌<�
 ghost use Rattle.abuf_text.specs.Lines.{lines};
 ghost use Rattle.abuf_obj.specs.declared.split.TheConstants.{SAMPLES};
 
-// At how many places the bytes are looked at, to tell how long it takes to read them.
+/// At how many places the bytes are looked at, to tell how long it takes to read them.
 const SAMPLES: usize = 64;
 
-// How many bytes are looked at there.
+/// How many bytes are looked at there.
 const NEAR: usize = 1024;
 
-// The offset of the first line feed from this offset on.
+/// The offset of the first line feed from this offset on.
 fn next_feed(bytes: &[u8], offset: usize) -> Option<usize>
     requires { offset ≤ length bytes.now }
     ensures within { IfSome result (λ k. offset + k < length bytes.now) }
@@ -18,7 +18,7 @@ fn next_feed(bytes: &[u8], offset: usize) -> Option<usize>
     bytes[offset..].iter().position(|b| *b == b'\n')
 }
 
-// The offset of this sample. The samples lie at equal distances.
+/// The offset of this sample. The samples lie at equal distances.
 fn sample_offset(bytes: &[u8], sample: usize) -> usize
     requires few { length bytes.now < 2 ^ 32 }
     requires sample { sample ≤ SAMPLES }
@@ -27,7 +27,7 @@ fn sample_offset(bytes: &[u8], sample: usize) -> usize
     bytes.len() * sample / SAMPLES
 }
 
-// About how long reading takes behind that offset, by the next line: longest with a face, whose corners take memory of their own.
+/// About how long reading takes behind that offset, by the next line: longest with a face, whose corners take memory of their own.
 fn time_at(bytes: &[u8], offset: usize) -> usize
     requires { offset ≤ length bytes.now }
     ensures { result ≤ 8 }
@@ -43,7 +43,7 @@ fn time_at(bytes: &[u8], offset: usize) -> usize
     }
 }
 
-// About how long reading takes up to a sample.
+/// About how long reading takes up to a sample.
 fn time_before(bytes: &[u8], sample: usize) -> usize
     requires few { length bytes.now < 2 ^ 32 }
     requires sample { sample ≤ SAMPLES }
@@ -57,7 +57,7 @@ fn time_before(bytes: &[u8], sample: usize) -> usize
 }
 
 /// The offset before which reading takes about this part of the time.
-pub fn offset_by_time(bytes: &[u8], part: u32, parts: u32) -> usize
+pub(crate) fn offset_by_time(bytes: &[u8], part: u32, parts: u32) -> usize
     requires few { length bytes.now < 2 ^ 32 }
     requires parts { (0 < parts) × (part ≤ parts) }
     ensures { result ≤ length bytes.now }
@@ -72,7 +72,7 @@ pub fn offset_by_time(bytes: &[u8], part: u32, parts: u32) -> usize
 }
 
 /// The bytes up to the first end of a line from that offset on, and those behind it, which are none where no line ends there.
-pub fn split_lines(bytes: &[u8], offset: usize) -> (&[u8], &[u8])
+pub(crate) fn split_lines(bytes: &[u8], offset: usize) -> (&[u8], &[u8])
     requires { offset ≤ length bytes.now }
     ensures lines { lines bytes.now ≡ lines result.0.now ++ lines result.1.now }
     ensures all { length result.0.now + length result.1.now ≡ length bytes.now }

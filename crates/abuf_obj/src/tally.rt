@@ -7,18 +7,18 @@ use crate::keyword::{Keyword, split_line};
 use abuf_text::Lines;
 use std::alloc::Global;
 
-// The most bytes of a line with a name. Each piece has a copy of the names, so few long ones would take much memory.
+/// The most bytes of a line with a name. Each piece has a copy of the names, so few long ones would take much memory.
 const MAX_NAMED_BYTES: usize = 256;
 
-// The most lines with names.
+/// The most lines with names.
 const MAX_NAMED: usize = 65536;
 
 /// How many lines there are, how many of them are `v` lines, and those that have the name of a material or of a library.
 #[derive(Drop)]
-pub struct Tally<'a> {
-    pub lines: u32,
-    pub points: u32,
-    pub named: Vec<&'a [u8]>,
+pub(crate) struct Tally<'a> {
+    pub(crate) lines: u32,
+    pub(crate) points: u32,
+    pub(crate) named: Vec<&'a [u8]>,
     ghost some: { points ≤ lines },
 }
 
@@ -38,7 +38,7 @@ impl<'a> Tally<'a> {
         Ok(())
     }
 
-    // Counts a line. Of a point or a face its keyword alone is looked at.
+    /// Counts a line. Of a point or a face its keyword alone is looked at.
     fn add(&mut self, line: &'a [u8]) -> Result<(), GivenUp>
         requires { self.old.lines < 2 ^ 32 - 1 }
         ensures { OnOk result (Counts line.now self.old self.new) }
@@ -58,7 +58,7 @@ impl<'a> Tally<'a> {
     }
 
     /// The tally of these lines.
-    pub fn of(alloc: Global, bytes: &'a [u8]) -> Result<Tally<'a>, GivenUp>
+    pub(crate) fn of(alloc: Global, bytes: &'a [u8]) -> Result<Tally<'a>, GivenUp>
         requires { length bytes.now < 2 ^ 32 - 1 }
         ensures tally { IfOk result (IsTally (lines bytes.now)) }
         ensures few { IfOk result (λ t. t.lines ≤ length bytes.now) }
@@ -75,7 +75,7 @@ impl<'a> Tally<'a> {
     }
 
     /// The tally of two pieces, the second behind the first.
-    pub fn both(first: Tally<'a>, second: Tally<'a>) -> Result<Tally<'a>, GivenUp>
+    pub(crate) fn both(first: Tally<'a>, second: Tally<'a>) -> Result<Tally<'a>, GivenUp>
         requires { first.lines + second.lines < 2 ^ 32 }
         ensures tally { (xs ys : Items (Items ℕ)) → IsTally xs first.entry → IsTally ys second.entry → IfOk result (IsTally (xs ++ ys)) }
         ensures few { IfOk result (λ t. t.lines ≡ first.entry.lines + second.entry.lines) }

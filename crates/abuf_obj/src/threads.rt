@@ -14,7 +14,7 @@ use abuf_text::Names;
 use std::alloc::Global;
 use std::thread::Threads;
 
-// The fewest bytes of a piece: fewer are sooner read than a thread is started for them.
+/// The fewest bytes of a piece: fewer are sooner read than a thread is started for them.
 const MIN_BYTES: usize = 131072;
 
 /// Reads a scene in so many pieces, however few its bytes are, each piece on a thread. It gives up where a line is at fault, a limit

@@ -5,7 +5,7 @@ ghost use Rattle.abuf_pam.specs.Image.{field, header};
 use abuf_num::NoMemory;
 use itoa::Buffer;
 
-// Puts a header line with a number last.
+/// Puts a header line with a number last.
 fn push_field(out: &mut Vec<u8>, name: &[u8], number: u32) -> Result<(), NoMemory>
     ensures { OnOk result (out.new.items ≡ out.old.items ++ field name.now number) }
 {
@@ -16,8 +16,13 @@ fn push_field(out: &mut Vec<u8>, name: &[u8], number: u32) -> Result<(), NoMemor
     Ok(())
 }
 
-// Puts the header last.
-pub fn push_header(out: &mut Vec<u8>, width: u32, height: u32, maxval: u32) -> Result<(), NoMemory>
+/// Puts the header last.
+pub(crate) fn push_header(
+    out: &mut Vec<u8>,
+    width: u32,
+    height: u32,
+    maxval: u32,
+) -> Result<(), NoMemory>
     ensures { OnOk result (out.new.items ≡ out.old.items ++ header width height maxval) }
 {
     out.extend_from_slice(b"P7\n")?;

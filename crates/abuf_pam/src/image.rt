@@ -8,7 +8,7 @@ use crate::pixels::{pixel_size, push_all_narrow, push_all_wide};
 use abuf_num::{List, NoMemory, PixelSum};
 use std::alloc::Global;
 
-// No header is longer.
+/// No header is longer.
 const HEADER_ROOM: usize = 128;
 
 /// The bytes of an RGB image in Netpbm PAM (tuple type RGB, depth 3), from the sum of the samples of each pixel.

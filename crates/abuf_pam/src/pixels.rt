@@ -5,7 +5,7 @@ ghost use Rattle.abuf_pam.specs.Sums.{HasSums};
 
 use abuf_num::{NoMemory, PixelSum};
 
-// The value of a channel at MAXVAL 255. The usual numbers of samples divide by a constant, which takes a third of the time.
+/// The value of a channel at MAXVAL 255. The usual numbers of samples divide by a constant, which takes a third of the time.
 fn narrow(samples: u32, sum: u32) -> u8
     requires samples { (1 ≤ samples) × (samples ≤ 16) }
     requires sum { sum ≤ 65535 * samples }
@@ -20,7 +20,7 @@ fn narrow(samples: u32, sum: u32) -> u8
     value as u8
 }
 
-// The value of a channel at MAXVAL 65535.
+/// The value of a channel at MAXVAL 65535.
 fn wide(samples: u32, sum: u32) -> u16
     requires samples { (1 ≤ samples) × (samples ≤ 16) }
     requires sum { sum ≤ 65535 * samples }
@@ -36,7 +36,7 @@ pub fn pixel_size(maxval: u32) -> usize
     if maxval == 255 { 3 } else { 6 }
 }
 
-// Puts a pixel of three bytes last, by one call, which asks for room once.
+/// Puts a pixel of three bytes last, by one call, which asks for room once.
 fn push_narrow(out: &mut Vec<u8>, samples: u32, sum: &PixelSum) -> Result<(), NoMemory>
     requires samples { (1 ≤ samples) × (samples ≤ 16) }
     requires sums { HasSums samples sum.now }
@@ -50,7 +50,7 @@ fn push_narrow(out: &mut Vec<u8>, samples: u32, sum: &PixelSum) -> Result<(), No
     Ok(())
 }
 
-// Puts a value last, the high byte first.
+/// Puts a value last, the high byte first.
 fn push_word(out: &mut Vec<u8>, value: u16) -> Result<(), NoMemory>
     ensures { OnOk result (out.new.items ≡ out.old.items ++ value / 256 ∷ value % 256 ∷ []) }
 {
@@ -59,7 +59,7 @@ fn push_word(out: &mut Vec<u8>, value: u16) -> Result<(), NoMemory>
     Ok(())
 }
 
-// Puts a pixel of six bytes last.
+/// Puts a pixel of six bytes last.
 fn push_wide(out: &mut Vec<u8>, samples: u32, sum: &PixelSum) -> Result<(), NoMemory>
     requires samples { (1 ≤ samples) × (samples ≤ 16) }
     requires sums { HasSums samples sum.now }
@@ -71,8 +71,12 @@ fn push_wide(out: &mut Vec<u8>, samples: u32, sum: &PixelSum) -> Result<(), NoMe
     Ok(())
 }
 
-// Puts all pixels last, at MAXVAL 255.
-pub fn push_all_narrow(out: &mut Vec<u8>, samples: u32, sums: &[PixelSum]) -> Result<(), NoMemory>
+/// Puts all pixels last, at MAXVAL 255.
+pub(crate) fn push_all_narrow(
+    out: &mut Vec<u8>,
+    samples: u32,
+    sums: &[PixelSum],
+) -> Result<(), NoMemory>
     requires samples { (1 ≤ samples) × (samples ≤ 16) }
     requires sums { All (HasSums samples) sums.now }
     ensures { OnOk result (out.new.items ≡ out.old.items ++ flat_map (pixel 255 samples) sums.now) }
@@ -83,8 +87,12 @@ pub fn push_all_narrow(out: &mut Vec<u8>, samples: u32, sums: &[PixelSum]) -> Re
     Ok(())
 }
 
-// Puts all pixels last, at MAXVAL 65535.
-pub fn push_all_wide(out: &mut Vec<u8>, samples: u32, sums: &[PixelSum]) -> Result<(), NoMemory>
+/// Puts all pixels last, at MAXVAL 65535.
+pub(crate) fn push_all_wide(
+    out: &mut Vec<u8>,
+    samples: u32,
+    sums: &[PixelSum],
+) -> Result<(), NoMemory>
     requires samples { (1 ≤ samples) × (samples ≤ 16) }
     requires sums { All (HasSums samples) sums.now }
     ensures { OnOk result (out.new.items ≡ out.old.items ++ flat_map (pixel 65535 samples) sums.now) }

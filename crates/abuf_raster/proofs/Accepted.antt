@@ -4,7 +4,7 @@ use Rattle.std.specs.Prelude.{int_lt}
 use Rattle.std.proofs.lemmas.Nat.{and_block, and_le_l}
 use Rattle.abuf_raster.specs.declared.point.Point.{Point}
 use Rattle.abuf_raster.specs.Triangle.{Triangle}
-use Rattle.abuf_raster.specs.Values.{Numbers, plus_all, AreUp, IsLeastOf, sample_change, sample_changes, accepted_below, mask_of_values_below}
+use Rattle.abuf_raster.specs.Values.{Numbers, plus_all, AreUp, IsMinOf, sample_change, sample_changes, accepted_below, mask_of_values_below}
 use Rattle.abuf_raster.proofs.Masks.{if_lt}
 use Rattle.abuf_raster.proofs.Changes.{not_below, plus_up}
 
@@ -19,10 +19,10 @@ module _ (a b : Point) (os : List (ℤ × ℤ)) (n : ℤ) where
   accepted_more k m v e f = rw add-one (rw (e, f) refl)
 
   -- all of them, where none is below a number that isn't below 0
-  pub accepted_all : (least : ℤ) → not (int_lt least (pos 0)) ≡ true → (k : ℕ) → ((j : ℕ) → j < k → least ≤ℤ (n +ℤ sample_change a b os j)) → accepted_below a b os n k ≡ 2 ^ k - 1
-  accepted_all least h zero f = refl
-  accepted_all least h (suc k) f =
-      ap₂ (λ (m : ℕ) (v : Bool). m + (if v then 2 ^ k else 0)) (accepted_all least h k (λ j l. f j (omega arith))) (not_below least (n +ℤ sample_change a b os k) (f k (omega arith)) h)
+  pub accepted_all : (min : ℤ) → not (int_lt min (pos 0)) ≡ true → (k : ℕ) → ((j : ℕ) → j < k → min ≤ℤ (n +ℤ sample_change a b os j)) → accepted_below a b os n k ≡ 2 ^ k - 1
+  accepted_all min h zero f = refl
+  accepted_all min h (suc k) f =
+      ap₂ (λ (m : ℕ) (v : Bool). m + (if v then 2 ^ k else 0)) (accepted_all min h k (λ j l. f j (omega arith))) (not_below min (n +ℤ sample_change a b os k) (f k (omega arith)) h)
       ∙ omega (arith, pow-suc 2 k, pow_pos k)
 
 -- the bit on top of two masks
@@ -57,6 +57,6 @@ three_accept t os n (suc k) =
     ∙ ap (λ (m : ℕ). m + (if (u && v) && w then 2 ^ k else 0)) (three_accept t os n k))
 
 -- the least values of three edges at the samples, by what is put to their values
-pub least_values : (t u : Triangle) (os : List (ℤ × ℤ)) (n m s : Numbers) → u ≡ t → s ≡ plus_all n m → ((k : ℕ) → k < length os → AreUp m (sample_changes t os k))
-    → IsLeastOf s.ab u.a u.b os n.ab × IsLeastOf s.bc u.b u.c os n.bc × IsLeastOf s.ca u.c u.a os n.ca
-least_values t u os n m s e f up = rw (e, f) (λ k l. (plus_up n m _ (up k l)).ab, λ k l. (plus_up n m _ (up k l)).bc, λ k l. (plus_up n m _ (up k l)).ca)
+pub min_values : (t u : Triangle) (os : List (ℤ × ℤ)) (n m s : Numbers) → u ≡ t → s ≡ plus_all n m → ((k : ℕ) → k < length os → AreUp m (sample_changes t os k))
+    → IsMinOf s.ab u.a u.b os n.ab × IsMinOf s.bc u.b u.c os n.bc × IsMinOf s.ca u.c u.a os n.ca
+min_values t u os n m s e f up = rw (e, f) (λ k l. (plus_up n m _ (up k l)).ab, λ k l. (plus_up n m _ (up k l)).bc, λ k l. (plus_up n m _ (up k l)).ca)

@@ -329,8 +329,8 @@ pub one_between : (r : ℕ) (t : Triangle) (p : Pattern) (c : Numbers) → 2 ^ 2
 one_between r t p c wide near e = record {
   low = λ j l. let z : j ≡ 0 = omega arith in subst (λ (k : ℕ). AreUp c (sample_changes t (offsets_of p) k)) (sym z) (up_same c (sample_changes t (offsets_of p) 0) e);
   high = λ j l. let z : j ≡ 0 = omega arith in subst (λ (k : ℕ). AreUp (sample_changes t (offsets_of p) k) c) (sym z) (up_same (sample_changes t (offsets_of p) 0) c (sym e));
-  least_small = small;
-  greatest_small = small;
+  min_small = small;
+  max_small = small;
 } where
   small : AreAtMost (r * r) c
   small = subst (AreAtMost (r * r)) (sym e) (sample_room r t p 0 wide near (offsets_some p))
@@ -347,6 +347,6 @@ module _ (r : ℕ) (t : Triangle) (os : List (ℤ × ℤ)) where
       | inl f ↦ up_trans (sample_changes t os j) n v (is.high j f) nv
       | inr f ↦ let z : k ≡ j = omega arith in subst (λ (i : ℕ). AreUp (sample_changes t os i) v) z (subst (λ (d : Numbers). AreUp d v) e cv)
     ];
-    least_small = us;
-    greatest_small = vs;
+    min_small = us;
+    max_small = vs;
   }

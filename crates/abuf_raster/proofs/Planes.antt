@@ -127,5 +127,5 @@ pub slope_is : (r a b c : ℤ) (qa qb qc : ℕ) → r ≡ slope (to_z w64 (of_z 
 slope_is r a b c qa qb qc h ha hb hc = h ∙ (λ i. slope (back64 a (omega arith) i) (back64 b (omega arith) i) (back64 c (omega arith) i) qa qb qc)
 
 -- the greatest of three, taken in turn
-pub greatest_is : (a b c m n : ℕ) → m ≡ max a b → n ≡ max m c → n ≡ max a (max b c)
-greatest_is a b c m n h k = omega arith
+pub max_is : (a b c m n : ℕ) → m ≡ max a b → n ≡ max m c → n ≡ max a (max b c)
+max_is a b c m n h k = omega arith

@@ -10,14 +10,14 @@ use Rattle.abuf_raster.specs.Values.{Numbers, values_at, farthest, plus_all, sam
 use Rattle.abuf_raster.specs.TrioNumbers.{numbers_of}
 
 -- The changes to the samples below a number lie between two bounds, which fit a width of this reach.
-pub record AreBetween (reach : ℕ) (t : Triangle) (offsets : List (ℤ × ℤ)) (count : ℕ) (least greatest : Numbers) : Type 0 where
-  pub low : (k : ℕ) → k < count → AreUp least (sample_changes t offsets k)
-  pub high : (k : ℕ) → k < count → AreUp (sample_changes t offsets k) greatest
-  pub least_small : AreAtMost (reach * reach) least
-  pub greatest_small : AreAtMost (reach * reach) greatest
+pub record AreBetween (reach : ℕ) (t : Triangle) (offsets : List (ℤ × ℤ)) (count : ℕ) (min max : Numbers) : Type 0 where
+  pub low : (k : ℕ) → k < count → AreUp min (sample_changes t offsets k)
+  pub high : (k : ℕ) → k < count → AreUp (sample_changes t offsets k) max
+  pub min_small : AreAtMost (reach * reach) min
+  pub max_small : AreAtMost (reach * reach) max
 
 abbrev pub AreExtremes : {V : Type 0} → (V → ℤ) → ℕ → Triangle → List (ℤ × ℤ) → ℕ → Extremes V → Type 0
-AreExtremes number reach t offsets count e = AreBetween reach t offsets count (numbers_of number e.least) (numbers_of number e.greatest)
+AreExtremes number reach t offsets count e = AreBetween reach t offsets count (numbers_of number e.min) (numbers_of number e.max)
 
 -- The setup has the values at the centre of pixel (0, 0), and bounds of the changes to all samples.
 pub record IsSetup {V : Type 0} (number : V → ℤ) (reach : ℕ) (t : Triangle) (offsets : List (ℤ × ℤ)) (s : Setup V) : Type 0 where
@@ -34,7 +34,7 @@ pub record IsEdge {V : Type 0} (number : V → ℤ) (reach : ℕ) (offsets : Lis
 
 -- The greatest and the least numbers in a tile, from those at its first pixel and the extremes in a pixel.
 abbrev pub highest : Triangle → Numbers → Tile → Numbers → Numbers
-highest t n tile greatest = plus_all (plus_all n (farthest false t (tile.w - 1) (tile.h - 1))) greatest
+highest t n tile max = plus_all (plus_all n (farthest false t (tile.w - 1) (tile.h - 1))) max
 
 abbrev pub lowest : Triangle → Numbers → Tile → Numbers → Numbers
-lowest t n tile least = plus_all (plus_all n (farthest true t (tile.w - 1) (tile.h - 1))) least
+lowest t n tile min = plus_all (plus_all n (farthest true t (tile.w - 1) (tile.h - 1))) min

@@ -83,8 +83,8 @@ abbrev pub mask_of_values : Triangle → List (ℤ × ℤ) → Numbers → ℕ
 mask_of_values t offsets n = mask_of_values_below t offsets n (length offsets)
 
 -- A number is not above that of one edge at each sample.
-abbrev pub IsLeastOf : ℤ → Point → Point → List (ℤ × ℤ) → ℤ → Type 0
-IsLeastOf least a b offsets n = (k : ℕ) → k < length offsets → least ≤ℤ (n +ℤ sample_change a b offsets k)
+abbrev pub IsMinOf : ℤ → Point → Point → List (ℤ × ℤ) → ℤ → Type 0
+IsMinOf min a b offsets n = (k : ℕ) → k < length offsets → min ≤ℤ (n +ℤ sample_change a b offsets k)
 
 -- The numbers at each sample are within bounds.
 abbrev pub FitsSamples : ℕ → Triangle → List (ℤ × ℤ) → Numbers → Type 0

@@ -25,7 +25,7 @@ fn max_in_row<V: Width>(t: &ScreenTri, setup: &Setup<V>, span: RowSpan, start: T
     requires wide { 2 ^ 22 ≤ V.reach }
     requires near { AreWithin V.reach t.now }
     requires positive { pos 0 <ℤ edge_function t.now.a t.now.b t.now.c }
-    requires room { AreAtMost (V.reach * V.reach) (numbers_of V.number setup.now.samples.greatest) }
+    requires room { AreAtMost (V.reach * V.reach) (numbers_of V.number setup.now.samples.max) }
     requires start { numbers_of V.number start ≡ values_at t.now (pixel_centre span.x span.y) }
     requires x_small { span.x + span.w ≤ MAX_SIDE }
     requires y_small { span.y < MAX_SIDE }
@@ -36,7 +36,7 @@ fn max_in_row<V: Width>(t: &ScreenTri, setup: &Setup<V>, span: RowSpan, start: T
     let mut at = start;
     let mut most = 0;
     for _column in 0..span.w {
-        most += at.plus(setup.samples.greatest).none_below() as u32;
+        most += at.plus(setup.samples.max).none_below() as u32;
         at = at.plus(right);
     }
     most
@@ -49,8 +49,8 @@ pub(crate) fn max_in_tile<V: Width>(t: &ScreenTri, setup: &Setup<V>, tile: Tile)
     requires near { AreWithin V.reach t.now }
     requires positive { pos 0 <ℤ edge_function t.now.a t.now.b t.now.c }
     requires start { numbers_of V.number setup.now.start ≡ values_at t.now (pixel_centre 0 0) }
-    requires room { AreAtMost (V.reach * V.reach) (numbers_of V.number setup.now.samples.greatest) }
-    requires least_room { AreAtMost (V.reach * V.reach) (numbers_of V.number setup.now.samples.least) }
+    requires room { AreAtMost (V.reach * V.reach) (numbers_of V.number setup.now.samples.max) }
+    requires min_room { AreAtMost (V.reach * V.reach) (numbers_of V.number setup.now.samples.min) }
     requires tile { IsTile tile }
     ensures bound { (o : List (ℤ × ℤ)) (n : ℕ) → IsSetup V.number V.reach t.now o setup.now → length (hits_in_tile t.now n o tile) ≤ result }
     ensures few { result ≤ tile.w * tile.h }

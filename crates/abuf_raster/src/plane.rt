@@ -6,7 +6,7 @@ ghost use Rattle.abuf_raster.specs.Edge.{edge_function};
 ghost use Rattle.abuf_raster.specs.Triangle.{AreWithin};
 ghost use Rattle.abuf_raster.specs.Samples.{offsets_of};
 ghost use Rattle.abuf_raster.specs.Coverage.{covers};
-ghost use Rattle.abuf_raster.specs.Depth.{depth_key, IsLeastKey, IsGreatestKey};
+ghost use Rattle.abuf_raster.specs.Depth.{depth_key, IsMinKey, IsMaxKey};
 ghost use Rattle.abuf_raster.specs.Slopes.{slope, slope_across, slope_down};
 
 use crate::pattern::{Pattern, sample_position};
@@ -73,11 +73,11 @@ impl Coefficients {
             return None;
         }
         let area = i64::edge_function(t.a, t.b, t.c);
-        let greatest = t.qa.max(t.qb).max(t.qc);
+        let max_depth = t.qa.max(t.qb).max(t.qc);
         let across = slope(t.a.y, t.b.y, t.c.y, t.qa, t.qb, t.qc);
         let down = slope(t.a.x, t.c.x, t.b.x, t.qa, t.qc, t.qb);
         let is_flat = across.unsigned_abs() + down.unsigned_abs() <= STEEPEST;
-        if area <= 0 || area as u128 * (greatest as u128 + 1) >= 1 << 62 || !is_flat {
+        if area <= 0 || area as u128 * (max_depth as u128 + 1) >= 1 << 62 || !is_flat {
             return None;
         }
         let at_corner = more(0, area, t.qa as i64);
@@ -202,8 +202,8 @@ impl DepthPlane {
         requires y_small { y < MAX_SIDE }
         ensures rising { result.0 ≤ result.1 }
         ensures small { result.1 ≤ MAX_DEPTH }
-        ensures low { IsLeastKey self.now (offsets_of pattern) x y result.0 }
-        ensures high { IsGreatestKey self.now (offsets_of pattern) x y result.1 }
+        ensures low { IsMinKey self.now (offsets_of pattern) x y result.0 }
+        ensures high { IsMaxKey self.now (offsets_of pattern) x y result.1 }
     {
         match self.coefficients {
             Some(coefficients) => {

@@ -18,8 +18,8 @@ use crate::width::Width;
 /// For each edge, the least and the greatest change of its value from a pixel's centre to a sample of the pixel.
 #[derive(Clone, Copy)]
 pub(crate) struct Extremes<V> {
-    pub(crate) least: Trio<V>,
-    pub(crate) greatest: Trio<V>,
+    pub(crate) min: Trio<V>,
+    pub(crate) max: Trio<V>,
 }
 
 /// The values of the edges of a triangle in positive order at the centre of pixel (0, 0), and their extremes.
@@ -89,8 +89,8 @@ fn more_extremes<V: Width>(
     for k in from..to {
         let change = changes_to_sample::<V>(t, pattern, k);
         extremes = Extremes {
-            least: extremes.least.lower(change),
-            greatest: extremes.greatest.higher(change),
+            min: extremes.min.lower(change),
+            max: extremes.max.higher(change),
         };
     }
     extremes
@@ -105,8 +105,8 @@ pub(crate) fn all_extremes<V: Width>(t: &ScreenTri, pattern: Pattern) -> Extreme
 {
     let first = changes_to_sample::<V>(t, pattern, 0);
     let first = Extremes {
-        least: first,
-        greatest: first,
+        min: first,
+        max: first,
     };
     let size = pattern.size();
     if size > 8 {
@@ -159,12 +159,12 @@ impl<V: Width> Setup<V> {
         requires wide { 2 ^ 22 ≤ V.reach }
         requires near { AreWithin V.reach t.now }
         requires start { AreAtMost (9 * (V.reach * V.reach)) (numbers_of V.number start) }
-        requires samples { AreAtMost (V.reach * V.reach) (numbers_of V.number self.now.samples.greatest) }
+        requires samples { AreAtMost (V.reach * V.reach) (numbers_of V.number self.now.samples.max) }
         requires tile { IsTile tile }
-        ensures { result ≡ not (none_below (highest t.now (numbers_of V.number start) tile (numbers_of V.number self.now.samples.greatest))) }
+        ensures { result ≡ not (none_below (highest t.now (numbers_of V.number start) tile (numbers_of V.number self.now.samples.max))) }
     {
         let highest = start.plus(farthest(t, tile.w - 1, tile.h - 1, false));
-        !highest.plus(self.samples.greatest).none_below()
+        !highest.plus(self.samples.max).none_below()
     }
 
     /// The three edges accept all samples of the tile.
@@ -173,11 +173,11 @@ impl<V: Width> Setup<V> {
         requires wide { 2 ^ 22 ≤ V.reach }
         requires near { AreWithin V.reach t.now }
         requires start { AreAtMost (9 * (V.reach * V.reach)) (numbers_of V.number start) }
-        requires samples { AreAtMost (V.reach * V.reach) (numbers_of V.number self.now.samples.least) }
+        requires samples { AreAtMost (V.reach * V.reach) (numbers_of V.number self.now.samples.min) }
         requires tile { IsTile tile }
-        ensures { result ≡ none_below (lowest t.now (numbers_of V.number start) tile (numbers_of V.number self.now.samples.least)) }
+        ensures { result ≡ none_below (lowest t.now (numbers_of V.number start) tile (numbers_of V.number self.now.samples.min)) }
     {
         let lowest = start.plus(farthest(t, tile.w - 1, tile.h - 1, true));
-        lowest.plus(self.samples.least).none_below()
+        lowest.plus(self.samples.min).none_below()
     }
 }

@@ -4,7 +4,7 @@ ghost use Rattle.abuf_num.specs.declared.limits.TheConstants.{MAX_SIDE};
 ghost use Rattle.abuf_raster.specs.Edge.{edge_function};
 ghost use Rattle.abuf_raster.specs.Triangle.{AreWithin};
 ghost use Rattle.abuf_raster.specs.Samples.{offsets_of, pixel_centre};
-ghost use Rattle.abuf_raster.specs.Values.{IsLeastOf, values_at, AreAtMost, FitsSamples, mask_of_values, accepted_below};
+ghost use Rattle.abuf_raster.specs.Values.{IsMinOf, values_at, AreAtMost, FitsSamples, mask_of_values, accepted_below};
 ghost use Rattle.abuf_raster.specs.TrioNumbers.{numbers_of};
 ghost use Rattle.abuf_raster.specs.Walk.{row_hits, block_hits, hit_of, found, full_row, full_hits, IsTile};
 ghost use Rattle.abuf_raster.specs.Setup.{AreExtremes, IsSetup, IsEdge};
@@ -90,14 +90,14 @@ fn more_samples<V: Width>(edge: Edge<V>, pattern: Pattern, from: u32, to: u32, b
 
 /// The samples that the edge accepts, each tested, or all where the least of its values isn't below 0.
 #[inline(always)]
-fn accepted<V: Width>(edge: Edge<V>, pattern: Pattern, least: V) -> u16
+fn accepted<V: Width>(edge: Edge<V>, pattern: Pattern, min: V) -> u16
     requires wide { 2 ^ 22 ≤ V.reach }
     requires edge { IsEdge V.number V.reach (offsets_of pattern) edge }
-    requires least { IsLeastOf (V.number least) edge.a edge.b (offsets_of pattern) (V.number edge.value) }
+    requires min { IsMinOf (V.number min) edge.a edge.b (offsets_of pattern) (V.number edge.value) }
     ensures { result ≡ accepted_below edge.a edge.b (offsets_of pattern) (V.number edge.value) (length (offsets_of pattern)) }
 {
     let size = pattern.size();
-    if !least.is_below_zero() {
+    if !min.is_below_zero() {
         pattern.full_mask()
     } else if size > 8 {
         // Two short loops are unrolled where a long one is not.
@@ -119,11 +119,11 @@ fn pixel_mask<V: Width>(t: &ScreenTri, pattern: Pattern, samples: Extremes<V>, a
     requires room { AreAtMost (9 * (V.reach * V.reach)) (numbers_of V.number at) }
     ensures { result ≡ mask_of_values t.now (offsets_of pattern) (numbers_of V.number at) }
 {
-    if !at.plus(samples.greatest).none_below() {
+    if !at.plus(samples.max).none_below() {
         return 0;
     }
-    let least = at.plus(samples.least);
-    if least.none_below() {
+    let min = at.plus(samples.min);
+    if min.none_below() {
         return pattern.full_mask();
     }
     let ab = Edge {
@@ -141,9 +141,7 @@ fn pixel_mask<V: Width>(t: &ScreenTri, pattern: Pattern, samples: Extremes<V>, a
         b: t.a,
         value: at.ca,
     };
-    accepted(ab, pattern, least.ab)
-        & accepted(bc, pattern, least.bc)
-        & accepted(ca, pattern, least.ca)
+    accepted(ab, pattern, min.ab) & accepted(bc, pattern, min.bc) & accepted(ca, pattern, min.ca)
 }
 
 /// A hit, or none where the mask is 0, put at place `count` of the hits.

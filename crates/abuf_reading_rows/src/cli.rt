@@ -36,8 +36,8 @@ fn words_that_are_read(rt: HostRuntime) {
     }
 }
 
-// The words of each line, and the job that they ask for: what it makes, the size, the samples, the threads, the nodes, the
-// background, the maximum, and how fragments are stored.
+/// The words of each line, and the job that they ask for: what it makes, the size, the samples, the threads, the nodes, the
+/// background, the maximum, and how fragments are stored.
 const JOBS: &str = "
 render | render | 640x480 | 1 | 4 | 4194304 | 0,0,0 | 255 | lists
 render --size 3x4 --samples=8 --nodes 0000007 --threads 07 --background=-1,.5,2 --maxval 65535 | render | 3x4 | 8 | 7 | 7 | 0,32768,65535 | 65535 | lists
@@ -66,7 +66,7 @@ sequence - | sequence - | 640x480 | 1 | 4 | 4194304 | 0,0,0 | 255 | lists
 sequence --size=3x4 -- -a~b/c.txt | sequence -a b/c.txt | 3x4 | 1 | 4 | 4194304 | 0,0,0 | 255 | lists
 ";
 
-// The words between the blanks, in which a `~` stands for a blank.
+/// The words between the blanks, in which a `~` stands for a blank.
 fn words_of(alloc: Global, line: &str) -> Result<Vec<String>, Fail> {
     let mut words = Vec::new(alloc);
     for text in line.split(' ') {
@@ -83,7 +83,7 @@ fn word_of(alloc: Global, text: &str) -> Result<String, Fail> {
     Ok(word)
 }
 
-// What a job does.
+/// What a job does.
 fn done_by(alloc: Global, command: &Command) -> Result<String, Fail> {
     Ok(match command {
         Command::Draw(What::Render) => format!(in alloc; "render")?,
@@ -97,7 +97,7 @@ fn done_by(alloc: Global, command: &Command) -> Result<String, Fail> {
     })
 }
 
-// How its fragments are stored.
+/// How its fragments are stored.
 fn storage_of(alloc: Global, job: &Job) -> Result<String, Fail> {
     Ok(match job.storage() {
         Storage::OneFrame => format!(in alloc; "lists")?,
@@ -106,7 +106,7 @@ fn storage_of(alloc: Global, job: &Job) -> Result<String, Fail> {
     })
 }
 
-// The job as it stands in the table, but for where its camera stands and looks.
+/// The job as it stands in the table, but for where its camera stands and looks.
 fn shown(alloc: Global, job: &Job) -> Result<String, Fail> {
     let command = done_by(alloc, job.command())?;
     let (width, height) = (job.camera().width(), job.camera().height());
@@ -139,7 +139,7 @@ fn is_sequence(command: &Command, path: &[u8]) -> bool {
     }
 }
 
-// Reading gives the job, or says that memory ran out, also if any one allocation is refused.
+/// Reading gives the job, or says that memory ran out, also if any one allocation is refused.
 #[test]
 fn answers_where_memory_runs_out(rt: HostRuntime) {
     let alloc = rt.alloc();

@@ -16,7 +16,7 @@ fn bytes(alloc: Global, text: &[u8]) -> Result<List<u8>, Fail> {
     Ok(List::from_vec(text.to_vec(alloc)?))
 }
 
-// Whether these bytes came.
+/// Whether these bytes came.
 fn gave<E: Drop>(got: Result<List<u8>, E>, bytes: &[u8]) -> bool {
     match got {
         Ok(whole) => whole.as_slice() == bytes,
@@ -24,7 +24,7 @@ fn gave<E: Drop>(got: Result<List<u8>, E>, bytes: &[u8]) -> bool {
     }
 }
 
-// A step that takes two bytes, a fault, and a step that takes one.
+/// A step that takes two bytes, a fault, and a step that takes one.
 fn plan(alloc: Global) -> Result<List<Step>, Fail>
     ensures { IfOk result IsPlan }
 {
@@ -85,7 +85,7 @@ fn no_read_follows_the_end(rt: HostRuntime) -> Result<(), Fail> {
     Ok(())
 }
 
-// Two steps that take one byte, one at the end, and a fault.
+/// Two steps that take one byte, one at the end, and a fault.
 fn ends(alloc: Global) -> Result<List<Step>, Fail>
     ensures { IfOk result IsPlan }
 {
@@ -125,7 +125,7 @@ fn shelves_hold_the_first_pair_of_a_name(rt: HostRuntime) -> Result<(), Fail> {
     Ok(())
 }
 
-// Two contents under one name.
+/// Two contents under one name.
 fn pairs(alloc: Global) -> Result<List<(List<u8>, List<u8>)>, Fail> {
     let mut pairs = List::new(alloc);
     pairs.push((bytes(alloc, b"a")?, bytes(alloc, b"one")?))?;
@@ -182,7 +182,7 @@ fn a_reader_s_bytes_come_as_they_stand(rt: HostRuntime) -> Result<(), Fail> {
     Ok(())
 }
 
-// A reader that fails behind its bytes.
+/// A reader that fails behind its bytes.
 #[derive(Drop)]
 struct Torn<'a> {
     rest: &'a [u8],
@@ -226,7 +226,7 @@ fn each_write_is_flushed(rt: HostRuntime) -> Result<(), Fail> {
     Ok(())
 }
 
-// A writer whose bytes arrive where it is flushed. It keeps their numbers alone.
+/// A writer whose bytes arrive where it is flushed. It keeps their numbers alone.
 #[derive(Drop)]
 struct Held<'a> {
     waiting: usize,

@@ -48,7 +48,7 @@ fn a_refusal_names_its_line_and_changes_nothing(rt: HostRuntime) {
     }
 }
 
-// Reading a library where memory runs out changes no material, whichever allocation is refused.
+/// Reading a library where memory runs out changes no material, whichever allocation is refused.
 #[test]
 fn refused_memory_changes_nothing(rt: HostRuntime) {
     let alloc = rt.alloc();

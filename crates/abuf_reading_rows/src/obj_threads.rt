@@ -27,7 +27,7 @@ fn are_same(first: &Obj, second: &Obj) -> bool {
         && are_same_names(first.libraries.as_slice(), second.libraries.as_slice())
 }
 
-// The pieces give the scene of the whole, or are given up where it has a fault.
+/// The pieces give the scene of the whole, or are given up where it has a fault.
 fn agree<R: Threads + Sync>(rt: &R, alloc: Global, bytes: &[u8], pieces: u32) -> bool {
     if bytes.len() >= 1000000 || pieces == 0 || pieces > 64 {
         return false;
@@ -71,7 +71,7 @@ fn pieces_give_what_the_whole_gives(rt: HostRuntime) {
     }
 }
 
-// A file of more bytes than one thread is to read: points, and faces with names in turn.
+/// A file of more bytes than one thread is to read: points, and faces with names in turn.
 fn large(alloc: Global, last: &[u8]) -> Result<Vec<u8>, AllocError> {
     let mut text = Vec::new(alloc);
     for _ in 0..10000 {
@@ -83,7 +83,7 @@ fn large(alloc: Global, last: &[u8]) -> Result<Vec<u8>, AllocError> {
     Ok(text)
 }
 
-// What four threads give of a large file that ends so.
+/// What four threads give of a large file that ends so.
 fn read_large<R: Threads + Sync>(
     rt: &R,
     alloc: Global,

@@ -11,7 +11,7 @@ fn pixels_of_one_and_of_two_bytes_a_value(rt: HostRuntime) {
     assert_eq!(rt; pixel_size(65535), 6);
 }
 
-// Two samples to a pixel: white, and a half of each channel.
+/// Two samples to a pixel: white, and a half of each channel.
 #[test]
 fn two_pixels(rt: HostRuntime) -> Result<(), Fail> {
     let sums = [

@@ -11,7 +11,7 @@ use std::test::Fail;
 
 const OBJ: &[u8] = b"v 0 0 0\nv 1 0 0\nv 1 1 0\nv 0 1 0\nf 4 3 2 1\nusemtl red\nf 1 2 3";
 
-// The scene of the file above, with these materials.
+/// The scene of the file above, with these materials.
 fn scene(alloc: Global, library: &[u8]) -> Option<Result<Scene, SceneFault>> {
     let mut materials = Materials::new(alloc);
     if library.len() > 1000 || read_mtl(alloc, library, &mut materials).is_err() {
@@ -59,10 +59,10 @@ fn unknown_material_is_refused(rt: HostRuntime) {
     }
 }
 
-// A point further out than any that is read from a file.
+/// A point further out than any that is read from a file.
 const FAR: [i64; 3] = [1 << 40, -(1 << 40), 0];
 
-// A face with that point in each of its three corners, and without a name.
+/// A face with that point in each of its three corners, and without a name.
 fn far_face(alloc: Global) -> Result<Obj, NoMemory>
     ensures { IfOk result (λ obj. All (IsFace (length obj.points) (length obj.names)) obj.faces) }
 {

@@ -7,7 +7,7 @@ use abuf_num::{List, NoMemory, Paint};
 use abuf_obj::read_flat;
 use abuf_raster::{Pattern, Region, ScreenTri, TileWalk, depth_at, mask_at};
 use abuf_scene::{Scene, SceneFault, Triangle};
-use abuf_view::{Camera, Projected, project, project_faces};
+use abuf_view::{Camera, Projected, Room, project, project_faces};
 use std::alloc::{AllocError, Global};
 use std::test::Fail;
 use std::thread::Threads;
@@ -17,7 +17,7 @@ const WHITE: Paint = Paint {
     alpha: 65535,
 };
 
-// A point, in units of 1/65536.
+/// A point, in units of 1/65536.
 fn point(x: i64, y: i64, z: i64) -> [i64; 3]
     requires x { unsigned_abs x ≤ 2147483647 }
     requires y { unsigned_abs y ≤ 2147483647 }
@@ -27,7 +27,7 @@ fn point(x: i64, y: i64, z: i64) -> [i64; 3]
     [x, y, z]
 }
 
-// What a camera sees of one white triangle.
+/// What a camera sees of one white triangle.
 fn shown_by(
     alloc: Global,
     camera: &Camera,
@@ -50,7 +50,7 @@ fn shown_by(
     project(alloc, &scene, camera)
 }
 
-// How many primitives cover the centre of the pixel.
+/// How many primitives cover the centre of the pixel.
 fn covering(tris: &[ScreenTri], x: u32, y: u32) -> u32
     requires x { x ≤ 4095 }
     requires y { y ≤ 4095 }
@@ -62,7 +62,7 @@ fn covering(tris: &[ScreenTri], x: u32, y: u32) -> u32
     count
 }
 
-// How many pixels of the region the first primitive covers with this depth key.
+/// How many pixels of the region the first primitive covers with this depth key.
 fn pixels_at(projected: &Projected, region: Region, depth: u32) -> u32 {
     let mut count: u32 = 0;
     if let Some(triangle) = projected.tris.as_slice().first() {
@@ -76,7 +76,7 @@ fn pixels_at(projected: &Projected, region: Region, depth: u32) -> u32 {
     count
 }
 
-// The camera at z = 4 that looks along -z, with an image of 4 by 4 pixels.
+/// The camera at z = 4 that looks along -z, with an image of 4 by 4 pixels.
 fn front() -> Option<Camera> {
     Camera::new(4, 4, [1, 0, 0, 0], [0, 0, -262144], 65536, 8192)
 }
@@ -85,8 +85,8 @@ fn four_by_four() -> Region {
     Region::whole_image(4, 4)
 }
 
-// The corners are (0, 0), (1024, 0) and (0, 1024) on the screen, so that the diagonal runs through centres and is a right
-// edge.
+/// The corners are (0, 0), (1024, 0) and (0, 1024) on the screen, so that the diagonal runs through centres and is a right
+/// edge.
 #[test]
 fn upper_left_half_is_covered(rt: HostRuntime) -> Result<(), Fail> {
     let camera = front().ok_or("camera")?;
@@ -105,7 +105,7 @@ fn upper_left_half_is_covered(rt: HostRuntime) -> Result<(), Fail> {
     Ok(())
 }
 
-// The third corner is behind the camera: the two parts cover the two upper rows, each pixel once.
+/// The third corner is behind the camera: the two parts cover the two upper rows, each pixel once.
 #[test]
 fn corner_behind_the_camera_is_cut_off(rt: HostRuntime) -> Result<(), Fail> {
     let camera = front().ok_or("camera")?;
@@ -123,7 +123,7 @@ fn corner_behind_the_camera_is_cut_off(rt: HostRuntime) -> Result<(), Fail> {
     Ok(())
 }
 
-// Two corners are behind the camera: one part is left, with its tip in the middle of the image.
+/// Two corners are behind the camera: one part is left, with its tip in the middle of the image.
 #[test]
 fn corner_alone_before_the_camera_is_kept(rt: HostRuntime) -> Result<(), Fail> {
     let camera = front().ok_or("camera")?;
@@ -141,7 +141,7 @@ fn corner_alone_before_the_camera_is_kept(rt: HostRuntime) -> Result<(), Fail> {
     Ok(())
 }
 
-// All corners lie on the near plane, and far off the screen: one at X = 4397912293504.
+/// All corners lie on the near plane, and far off the screen: one at X = 4397912293504.
 #[test]
 fn far_corners_on_the_near_plane(rt: HostRuntime) -> Result<(), Fail> {
     let camera = Camera::new(1, 4096, [1, 0, 0, 0], [0, 0, -262144], 1048576, 4096).ok_or(
@@ -156,7 +156,7 @@ fn far_corners_on_the_near_plane(rt: HostRuntime) -> Result<(), Fail> {
     Ok(())
 }
 
-// Shifted as far ahead as can be, a triangle is a point on the screen. As far behind, nothing of it is left.
+/// Shifted as far ahead as can be, a triangle is a point on the screen. As far behind, nothing of it is left.
 #[test]
 fn farthest_shifts(rt: HostRuntime) -> Result<(), Fail> {
     let a = point(-262144, 262144, 0);
@@ -175,10 +175,10 @@ fn farthest_shifts(rt: HostRuntime) -> Result<(), Fail> {
     Ok(())
 }
 
-// Two halves of a square, of which the second has a material.
+/// Two halves of a square, of which the second has a material.
 const SQUARE: &[u8] = b"v -4 4 0\nv 4 4 0\nv 4 -4 0\nv -4 -4 0\nf 1 2 4\nusemtl red\nf 2 3 4";
 
-// What a camera sees of the square, by the materials of this library.
+/// What a camera sees of the square, by the materials of this library.
 fn seen_by_faces<R: Threads + Sync>(
     rt: &R,
     alloc: Global,
@@ -190,7 +190,7 @@ fn seen_by_faces<R: Threads + Sync>(
         return None;
     }
     match read_flat(alloc, SQUARE) {
-        Ok(obj) => Some(project_faces(rt, alloc, &obj, &materials, camera, 2)),
+        Ok(obj) => Some(project_faces(rt, Room::new(alloc, 0), &obj, &materials, camera, 2)),
         Err(_) => None,
     }
 }
@@ -228,8 +228,8 @@ fn face_of_an_unknown_material_is_told(rt: HostRuntime) -> Result<(), Fail> {
     Ok(())
 }
 
-// Five materials, each for this many faces: so many that each of three workers has some. Those of the second have two triangles
-// each.
+/// Five materials, each for this many faces: so many that each of three workers has some. Those of the second have two triangles
+/// each.
 const FACES_EACH: u32 = 2500;
 
 const CORNERS: &[u8] = b"v -4 4 0\nv 4 4 0\nv 4 -4 0\nv -4 -4 0\n";
@@ -253,7 +253,7 @@ fn many_faces(alloc: Global) -> Result<Vec<u8>, AllocError> {
     Ok(text)
 }
 
-// What a camera sees of these faces on three threads, by the materials of this library.
+/// What a camera sees of these faces on three threads, by the materials of this library.
 fn seen_on_threads<R: Threads + Sync>(
     rt: &R,
     alloc: Global,
@@ -271,7 +271,7 @@ fn seen_on_threads<R: Threads + Sync>(
         return None;
     }
     match read_flat(alloc, text.as_slice()) {
-        Ok(obj) => Some(project_faces(rt, alloc, &obj, &materials, camera, 3)),
+        Ok(obj) => Some(project_faces(rt, Room::new(alloc, 0), &obj, &materials, camera, 3)),
         Err(_) => None,
     }
 }
@@ -286,7 +286,7 @@ fn grey(level: u16) -> Paint {
 const GREYS: &[u8] =
     b"newmtl a\nKd 0 0 0\nnewmtl b\nKd 0.2 0.2 0.2\nnewmtl c\nKd 0.4 0.4 0.4\nnewmtl d\nKd 0.6 0.6 0.6\nnewmtl e\nKd 0.8 0.8 0.8";
 
-// The faces cover the square 7500 times.
+/// The faces cover the square 7500 times.
 #[test]
 fn three_workers_give_all_primitives_in_order(rt: HostRuntime) -> Result<(), Fail> {
     let camera = front().ok_or("camera")?;
@@ -330,7 +330,7 @@ const TURN: [i32; 4] = [1, 0, 0, 0];
 
 const STILL: [i64; 3] = [0, 0, 0];
 
-// Width, height, turn, shift, focal length and near distance, and whether there is such a camera.
+/// Width, height, turn, shift, focal length and near distance, and whether there is such a camera.
 #[test]
 fn cameras_at_their_bounds_and_past_them(rt: HostRuntime) {
     for (width, height, turn, shift, focal, near, made) in [

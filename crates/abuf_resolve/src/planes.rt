@@ -169,7 +169,7 @@ impl<'a> Planes<'a> {
 
     /// At least as much as the word of triangle `prim` in any sample that it covers.
     #[inline(always)]
-    pub(crate) fn greatest_word(&self, prim: u32) -> u64
+    pub(crate) fn max_word(&self, prim: u32) -> u64
         requires few { length self.now ≤ MAX_PRIMITIVES }
         requires prim { prim < length self.now }
         ensures { NoWordAbove self.now prim result }

@@ -14,19 +14,19 @@ use std::thread::Threads;
 /// What came of a command.
 #[derive(Drop)]
 pub(crate) struct CommandOutcome {
-    pub status: u8,
-    pub closed: Option<Closed>,
-    pub out: MemSink,
-    pub err: MemSink,
+    pub(crate) status: u8,
+    pub(crate) closed: Option<Closed>,
+    pub(crate) out: MemSink,
+    pub(crate) err: MemSink,
 }
 
 /// How the outside behaves: the plans of the scene, of the two outputs, and the calls of the shelf that fail.
 #[derive(Drop)]
 pub(crate) struct Outside {
-    pub reads: List<Step>,
-    pub writes: List<Step>,
-    pub reports: List<Step>,
-    pub fails: List<u32>,
+    pub(crate) reads: List<Step>,
+    pub(crate) writes: List<Step>,
+    pub(crate) reports: List<Step>,
+    pub(crate) fails: List<u32>,
     ghost reads_plan: { IsPlan reads },
     ghost writes_plan: { IsPlan writes },
     ghost reports_plan: { IsPlan reports },
@@ -107,7 +107,7 @@ pub(crate) fn carry_out_over<R: Threads + Sync>(
     })
 }
 
-// White, black, and the colours that the tests need.
+/// White, black, and the colours that the tests need.
 fn colour(letter: u8) -> [u8; 3] {
     match letter {
         b'W' => [255, 255, 255],
@@ -189,7 +189,7 @@ pub(crate) fn is_text(alloc: Global, outcome: &CommandOutcome, text: &str) -> Re
     )
 }
 
-// A case is answered so; what is held comes after the answer.
+/// A case is answered so; what is held comes after the answer.
 fn one_answers<R: Threads + Sync + Abort>(
     rt: &R,
     alloc: Global,

@@ -9,7 +9,7 @@ const SMALL: &str = "render --size 4x4 --nodes 16";
 
 const BLACK: &str = "0 .... .... .... ....";
 
-// A line so many times after a front.
+/// A line so many times after a front.
 fn repeated(alloc: Global, front: &[u8], line: &[u8], count: u32) -> Result<Vec<u8>, Fail> {
     let mut text = front.to_vec(alloc)?;
     for _ in 0..count {
@@ -18,7 +18,7 @@ fn repeated(alloc: Global, front: &[u8], line: &[u8], count: u32) -> Result<Vec<
     Ok(text)
 }
 
-// So many lines of the keyword, each with a number of its own.
+/// So many lines of the keyword, each with a number of its own.
 fn numbered(alloc: Global, keyword: &str, count: u32) -> Result<Vec<u8>, Fail> {
     let mut text = Vec::new(alloc);
     for number in 0..count {
@@ -28,7 +28,7 @@ fn numbered(alloc: Global, keyword: &str, count: u32) -> Result<Vec<u8>, Fail> {
     Ok(text)
 }
 
-// The outcome of a scene, without libraries.
+/// The outcome of a scene, without libraries.
 fn drawn<R: Threads + Sync>(rt: &R, alloc: Global, scene: Vec<u8>) -> Result<CommandOutcome, Fail> {
     let scene = List::from_vec(scene);
     carry_out_over(
@@ -41,7 +41,7 @@ fn drawn<R: Threads + Sync>(rt: &R, alloc: Global, scene: Vec<u8>) -> Result<Com
     )
 }
 
-// The outcome of a scene that has only this library.
+/// The outcome of a scene that has only this library.
 fn with_library<R: Threads + Sync>(
     rt: &R,
     alloc: Global,

@@ -15,7 +15,7 @@ render --size 4x4 --nodes 7 | CUBE | 5 pool full: 8 fragments, 7 nodes | cube.mt
     all_answer(&rt, rt.alloc(), table)
 }
 
-// The lines of a text with a carriage return before each line feed, and without the last of both.
+/// The lines of a text with a carriage return before each line feed, and without the last of both.
 fn with_returns(alloc: Global, text: &[u8]) -> Result<List<u8>, Fail> {
     let mut bytes = Vec::new(alloc);
     for line in text.split(|&byte| byte == b'\n') {

@@ -60,7 +60,7 @@ fn elements_of_a_face(rt: HostRuntime) -> Result<(), Fail> {
     Ok(())
 }
 
-// What a scene answers that ends after so many bytes of `UPPER`.
+/// What a scene answers that ends after so many bytes of `UPPER`.
 fn answer_to(length: usize) -> &'static str {
     match length {
         0 | 8 | 9 | 16 | 17 | 26 | 27 => "0 .... .... .... ....",

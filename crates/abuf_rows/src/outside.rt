@@ -8,10 +8,10 @@ use abuf_num::List;
 use std::alloc::Global;
 use std::test::Fail;
 
-// Few nodes, since the table of the usual number takes long to make so often.
+/// Few nodes, since the table of the usual number takes long to make so often.
 const SMALL: &str = "render --size 4x4 --nodes 16";
 
-// Puts a step last.
+/// Puts a step last.
 #[tactic(auto, using(crate::proofs::Plans::longer))]
 fn then(plan: &mut List<Step>, step: Step) -> Result<(), Fail>
     requires plan { IsPlan plan.old }

@@ -179,7 +179,7 @@ fn first_image_before_the_second(rt: HostRuntime) -> Result<(), Fail> {
     Ok(())
 }
 
-// So many times the same piece.
+/// So many times the same piece.
 fn repeated(alloc: Global, piece: &[u8], count: usize) -> Result<List<u8>, Fail> {
     let mut text = Vec::new(alloc);
     for _ in 0..count {
@@ -188,7 +188,7 @@ fn repeated(alloc: Global, piece: &[u8], count: usize) -> Result<List<u8>, Fail>
     Ok(List::from_vec(text))
 }
 
-// Runs the command over a path file that is made here.
+/// Runs the command over a path file that is made here.
 fn follow_long<R: Threads + Sync>(
     rt: &R,
     alloc: Global,

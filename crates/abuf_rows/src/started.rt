@@ -11,7 +11,7 @@ use std::test::Fail;
 use std::thread::Threads;
 use std::{env, io};
 
-// The arguments of a process, of which the first is its name.
+/// The arguments of a process, of which the first is its name.
 #[derive(Drop)]
 struct Given<'a> {
     args: &'a [&'a [u8]],
@@ -42,7 +42,7 @@ fn arguments(alloc: Global, args: &[&[u8]]) -> io::Result<env::Args> {
     env::args(&(Given { args }, alloc))
 }
 
-// Whether a process that is given these arguments, and no scene and no files, ends so.
+/// Whether a process that is given these arguments, and no scene and no files, ends so.
 fn ends<R: Threads + Sync + AllocGlobal>(
     rt: &R,
     args: io::Result<env::Args>,

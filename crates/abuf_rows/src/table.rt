@@ -17,7 +17,7 @@ pub(crate) fn is_case(line: &str) -> bool {
     !line.is_empty() && !line.starts_with('#')
 }
 
-// Appends the lines of a text.
+/// Appends the lines of a text.
 fn push_lines(bytes: &mut Vec<u8>, text: &str) -> Result<(), Fail> {
     let mut at_start = false;
     for &byte in text.as_bytes() {

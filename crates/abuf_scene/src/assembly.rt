@@ -30,7 +30,7 @@ impl From<NoMemory> for SceneFault {
     }
 }
 
-// Puts the face's triangles last, or refuses a name without a material.
+/// Puts the face's triangles last, or refuses a name without a material.
 fn push_face(
     triangles: &mut List<Triangle>,
     obj: &Obj,
@@ -58,7 +58,7 @@ fn push_face(
     }
 }
 
-// The triangles of all faces, by the paints that the materials have.
+/// The triangles of all faces, by the paints that the materials have.
 fn all_fans(alloc: Global, obj: &Obj, materials: &Materials) -> Result<List<Triangle>, SceneFault>
     requires { All (IsFace (length obj.now.points) (length obj.now.names)) obj.now.faces }
     ensures fault { IfErr result (Tells (unknown_by (look_up materials.now) obj.now)) }

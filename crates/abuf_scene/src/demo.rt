@@ -15,14 +15,14 @@ pub struct Made {
     pub library: List<u8>,
 }
 
-// A register of 32 bits from which numbers are drawn.
+/// A register of 32 bits from which numbers are drawn.
 #[derive(Clone, Copy)]
 struct Register {
     s: u32,
 }
 
 impl Register {
-    // The next number, from 0 to 255, which is 128 above the one that it stands for.
+    /// The next number, from 0 to 255, which is 128 above the one that it stands for.
     #[inline(always)]
     #[tactic(auto, unfolding(crate::specs::Demo::step))]
     fn draw(&mut self) -> usize
@@ -35,7 +35,7 @@ impl Register {
     }
 }
 
-// Writes the line of a point at the start of a buffer, with the next three numbers, and tells where it ends.
+/// Writes the line of a point at the start of a buffer, with the next three numbers, and tells where it ends.
 #[inline(always)]
 fn put_vertex(buf: &mut [u8], number_texts: &[NumberText], register: &mut Register) -> usize
     requires room { length buf.old ≡ 32 }
@@ -53,7 +53,7 @@ fn put_vertex(buf: &mut [u8], number_texts: &[NumberText], register: &mut Regist
     z + 1
 }
 
-// Puts the line of a point last, with the next three numbers.
+/// Puts the line of a point last, with the next three numbers.
 fn push_vertex(
     out: &mut Vec<u8>,
     number_texts: &[NumberText],
@@ -70,7 +70,7 @@ fn push_vertex(
     Ok(())
 }
 
-// Puts a number last, between some bytes.
+/// Puts a number last, between some bytes.
 fn push_number(out: &mut Vec<u8>, before: &[u8], number: u32, behind: &[u8]) -> Result<(), NoMemory>
     ensures { OnOk result (out.new.items ≡ out.old.items ++ before.now ++ decimal number ++ behind.now) }
 {
@@ -81,7 +81,7 @@ fn push_number(out: &mut Vec<u8>, before: &[u8], number: u32, behind: &[u8]) -> 
     Ok(())
 }
 
-// Puts the two lines of a face last.
+/// Puts the two lines of a face last.
 fn push_face(out: &mut Vec<u8>, i: u32) -> Result<(), NoMemory>
     ensures { OnOk result (out.new.items ≡ out.old.items ++ face i) }
 {
@@ -89,7 +89,7 @@ fn push_face(out: &mut Vec<u8>, i: u32) -> Result<(), NoMemory>
     Ok(())
 }
 
-// Puts the lines of triangle i last.
+/// Puts the lines of triangle i last.
 #[tactic(auto, unfolding(crate::specs::Drawing::lines_from))]
 fn push_lines(
     out: &mut Vec<u8>,

@@ -10,12 +10,12 @@ use std::simd::prelude::*;
 
 /// A text of at most eight bytes.
 #[derive(Clone, Copy)]
-pub struct NumberText {
+pub(crate) struct NumberText {
     bytes: [u8; 8],
     length: usize,
 }
 
-// Puts a coordinate last, behind some bytes.
+/// Puts a coordinate last, behind some bytes.
 #[tactic(auto, unfolding(crate::specs::Demo::coordinate), using(crate::proofs::Putting::coordinate_short))]
 fn push_coordinate(out: &mut Vec<u8>, before: &[u8], value: i32) -> Result<(), NoMemory>
     ensures text { OnOk result (out.new.items ≡ out.old.items ++ before.now ++ coordinate value) }
@@ -40,7 +40,7 @@ fn number_text_of(text: &[u8]) -> NumberText
     }
 }
 
-// A space and the coordinate of a drawn number.
+/// A space and the coordinate of a drawn number.
 fn drawn_text(alloc: Global, i: u32) -> Result<NumberText, NoMemory>
     requires { i < 256 }
     ensures { IfOk result (λ number_text. IsNumberText (drawn i) number_text) }
@@ -51,7 +51,7 @@ fn drawn_text(alloc: Global, i: u32) -> Result<NumberText, NoMemory>
 }
 
 /// The texts of all numbers that can be drawn, in their order.
-pub fn drawn_texts(alloc: Global) -> Result<Vec<NumberText>, NoMemory>
+pub(crate) fn drawn_texts(alloc: Global) -> Result<Vec<NumberText>, NoMemory>
     ensures drawn { IfOk result (λ number_texts. AreDrawn number_texts.items) }
     ensures count { IfOk result (λ number_texts. length number_texts.items ≡ 256) }
 {
@@ -64,7 +64,7 @@ pub fn drawn_texts(alloc: Global) -> Result<Vec<NumberText>, NoMemory>
 
 /// Writes the text of a number into a buffer, and tells where it ends. The bytes up to the eighth are written over.
 #[inline(always)]
-pub fn put(buf: &mut [u8], at: usize, number_text: NumberText) -> usize
+pub(crate) fn put(buf: &mut [u8], at: usize, number_text: NumberText) -> usize
     requires room { at + 8 ≤ length buf.old }
     requires short { number_text.length ≤ 8 }
     ensures text { take result buf.new ≡ take at buf.old ++ text_of number_text }

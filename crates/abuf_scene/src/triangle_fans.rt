@@ -8,7 +8,7 @@ use crate::triangles::Triangle;
 use abuf_mtl::Materials;
 use abuf_num::{List, NoMemory, Paint, WHITE};
 
-// The point of the corner in this place.
+/// The point of the corner in this place.
 fn corner(points: &[[i64; 3]], corners: &[u32], i: usize) -> [i64; 3]
     requires place { i < length corners.now }
     requires points { All (λ c. c < length points.now) corners.now }
@@ -34,7 +34,7 @@ pub fn fan_triangle(points: &[[i64; 3]], corners: &[u32], paint: Paint, i: usize
 }
 
 /// Puts the face's triangles last.
-pub fn push_fan(
+pub(crate) fn push_fan(
     triangles: &mut List<Triangle>,
     points: &[[i64; 3]],
     corners: &[u32],

@@ -22,10 +22,10 @@ use abuf_scene::Scene;
 use std::alloc::Global;
 use std::thread::{Threads, map_vec};
 
-// What the images that are drawn at once may have together, so that the memory of a run stays below 2 GB. A frame takes 16 bytes a
-// node and 8 a pixel, twice while it is made, and an image 18 bytes a pixel: at most 1.2 GB for so many nodes and pixels. A frame
-// that is kept from an image before is dropped before the next is made, so there is never more than one for an image. A primitive
-// takes about 130 bytes, and a triangle has at most two: at most 0.6 GB for so many triangles.
+/// What the images that are drawn at once may have together, so that the memory of a run stays below 2 GB. A frame takes 16 bytes a
+/// node and 8 a pixel, twice while it is made, and an image 18 bytes a pixel: at most 1.2 GB for so many nodes and pixels. A frame
+/// that is kept from an image before is dropped before the next is made, so there is never more than one for an image. A primitive
+/// takes about 130 bytes, and a triangle has at most two: at most 0.6 GB for so many triangles.
 const NODES_AND_PIXELS_AT_ONCE: u32 = 33554432;
 
 const TRIANGLES_AT_ONCE: usize = 2097152;

@@ -96,7 +96,7 @@ impl Names {
     }
 }
 
-// A table of these names, in their order.
+/// A table of these names, in their order.
 fn with_all(alloc: Global, names: &[List<u8>]) -> Result<Names, NoMemory>
     requires once { IsEachOnce names.now }
     requires few { length names.now ≤ 2 ^ 32 }

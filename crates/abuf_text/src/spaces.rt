@@ -4,14 +4,14 @@ ghost use Rattle.std.specs.List.{position_or_len};
 ghost use Rattle.abuf_text.specs.Statement.{is_space};
 ghost use Rattle.abuf_text.specs.Rest.{is_text, trim_start, trim_end, first_token, after_token, rest};
 
-// A space, a tab or a carriage return.
-pub fn is_space(b: u8) -> bool
+/// A space, a tab or a carriage return.
+pub(crate) fn is_space(b: u8) -> bool
     ensures { result ≡ is_space b }
 {
     b == b' ' || b == b'\t' || b == b'\r'
 }
 
-// The place, or the end of the bytes if there is none.
+/// The place, or the end of the bytes if there is none.
 fn or_end(place: Option<usize>, bytes: &[u8]) -> usize
     ensures { result ≡ unwrap_or place (length bytes.now) }
 {
@@ -36,7 +36,7 @@ fn last_text(bytes: &[u8]) -> Option<usize>
     bytes.iter().rev().position(|b| !is_space(*b))
 }
 
-// How many blanks the bytes start with.
+/// How many blanks the bytes start with.
 fn spaces_in_front(bytes: &[u8]) -> usize
     ensures count { result ≡ position_or_len is_text bytes.now }
     ensures within { result ≤ length bytes.now }
@@ -44,7 +44,7 @@ fn spaces_in_front(bytes: &[u8]) -> usize
     or_end(first_text(bytes), bytes)
 }
 
-// How many blanks the bytes end with.
+/// How many blanks the bytes end with.
 fn spaces_at_end(bytes: &[u8]) -> usize
     ensures count { result ≡ position_or_len is_text (reverse bytes.now) }
     ensures within { result ≤ length bytes.now }
@@ -52,7 +52,7 @@ fn spaces_at_end(bytes: &[u8]) -> usize
     or_end(last_text(bytes), bytes)
 }
 
-// How many bytes stand before the first blank.
+/// How many bytes stand before the first blank.
 fn token_length(bytes: &[u8]) -> usize
     ensures count { result ≡ position_or_len is_space bytes.now }
     ensures within { result ≤ length bytes.now }
@@ -60,7 +60,7 @@ fn token_length(bytes: &[u8]) -> usize
     or_end(first_space(bytes), bytes)
 }
 
-pub fn trim_start(bytes: &[u8]) -> &[u8]
+pub(crate) fn trim_start(bytes: &[u8]) -> &[u8]
     ensures { result.now ≡ trim_start bytes.now }
 {
     &bytes[spaces_in_front(bytes)..]
@@ -73,7 +73,7 @@ fn trim_end(bytes: &[u8]) -> &[u8]
 }
 
 /// The bytes up to the first blank, and those from there on.
-pub fn split_token(bytes: &[u8]) -> (&[u8], &[u8])
+pub(crate) fn split_token(bytes: &[u8]) -> (&[u8], &[u8])
     ensures word { result.0.now ≡ first_token bytes.now }
     ensures after { result.1.now ≡ after_token bytes.now }
 {

@@ -1,5 +1,5 @@
 // The commands: what each draws, and the bytes that it writes.
-pub mod demo;
-pub mod pick;
-pub mod render;
-pub mod sequence;
+pub(crate) mod demo;
+pub(crate) mod pick;
+pub(crate) mod render;
+pub(crate) mod sequence;

@@ -15,10 +15,11 @@ use crate::stop::Stop;
 use abuf_io::SteadyShelf;
 use abuf_num::{List, NoMemory};
 use abuf_scene::make;
+use abuf_view::Room;
 use std::alloc::Global;
 use std::thread::Threads;
 
-// A shelf of one library, under the name that the scene has for it.
+/// A shelf of one library, under the name that the scene has for it.
 fn library_shelf(alloc: Global, library: List<u8>) -> Result<SteadyShelf, NoMemory>
     ensures { IfOk result (λ shelf. steady_pairs shelf ≡ (codes "demo.mtl", library) ∷ []) }
 {
@@ -28,9 +29,22 @@ fn library_shelf(alloc: Global, library: List<u8>) -> Result<SteadyShelf, NoMemo
     Ok(SteadyShelf::new(pairs))
 }
 
+/// From how many triangles on room for their primitives is taken before their text is made. For fewer that would take longer than it
+/// saves, since with large pages each place that is touched clears two megabytes.
+const MANY_TRIANGLES: u32 = 16384;
+
+/// Room for the primitives of so many triangles, if they are many.
+fn room_before(alloc: Global, number: u32) -> Option<Room> {
+    if number < MANY_TRIANGLES {
+        None
+    } else {
+        Some(Room::new(alloc, number as usize))
+    }
+}
+
 /// The demonstration scene of so many triangles, read on so many threads. Its text is read where it was made, since a source would
 /// copy it.
-pub fn demonstrate<R: Threads + Sync>(
+pub(crate) fn demonstrate<R: Threads + Sync>(
     rt: &R,
     alloc: Global,
     number: u32,
@@ -42,11 +56,12 @@ pub fn demonstrate<R: Threads + Sync>(
     ensures cause { IfErr result (HasReadCause ⊥) }
     ensures scene { IfOk result (λ loaded. IsScene loaded.obj) }
 {
+    let room = room_before(alloc, number);
     let Ok(made) = make(alloc, number) else {
         return Err(Stop::Memory);
     };
     let Ok(mut shelf) = library_shelf(alloc, made.library) else {
         return Err(Stop::Memory);
     };
-    read_text(rt, alloc, made.obj, &mut shelf, threads)
+    read_text(rt, alloc, room, made.obj, &mut shelf, threads)
 }

@@ -14,7 +14,7 @@ use std::marker::Model;
 
 /// A job of one drawing, what is made of it, and the primitives of its scene.
 #[derive(Drop)]
-pub struct Drawing {
+pub(crate) struct Drawing {
     job: Job,
     what: What,
     projected: Projected,
@@ -35,7 +35,7 @@ impl Model for Drawing {
 
 impl Drawing {
     /// The drawing of a job's scene.
-    pub fn new(job: Job, what: What, projected: Projected) -> Drawing
+    pub(crate) fn new(job: Job, what: What, projected: Projected) -> Drawing
         requires { job.command ≡ command.Draw what }
         ensures { result ≡ record { job = job; what = what; triangles = projected.tris; paints = projected.paints } }
     {
@@ -46,13 +46,13 @@ impl Drawing {
         }
     }
 
-    pub fn job(&self) -> &Job
+    pub(crate) fn job(&self) -> &Job
         ensures { result.now ≡ self.now.job }
     {
         &self.job
     }
 
-    pub fn what(&self) -> What
+    pub(crate) fn what(&self) -> What
         ensures value { result ≡ self.now.what }
         ensures within { IsWhat self.now.job.camera.width self.now.job.camera.height result }
         ensures storage { IsStorage self.now.job.camera.height (drawing_name result) self.now.job.storage }
@@ -60,7 +60,7 @@ impl Drawing {
         self.what
     }
 
-    pub fn projected(&self) -> &Projected
+    pub(crate) fn projected(&self) -> &Projected
         ensures triangles { result.now.tris ≡ self.now.triangles }
         ensures paints { result.now.paints ≡ self.now.paints }
     {
@@ -68,7 +68,7 @@ impl Drawing {
     }
 
     /// All pixels of the image.
-    pub fn region(&self) -> Region
+    pub(crate) fn region(&self) -> Region
         ensures { result ≡ region_of self.now.job }
     {
         let job = self.job();
@@ -76,7 +76,7 @@ impl Drawing {
     }
 
     /// The primitives.
-    pub fn primitives(&self) -> Primitives
+    pub(crate) fn primitives(&self) -> Primitives
         ensures triangles { result.triangles.now ≡ self.now.triangles }
         ensures paints { result.paints.now ≡ self.now.paints }
     {
@@ -84,7 +84,7 @@ impl Drawing {
     }
 
     /// What they are drawn into.
-    pub fn target(&self) -> Target
+    pub(crate) fn target(&self) -> Target
         ensures region { result.region ≡ region_of self.now.job }
         ensures pattern { result.pattern ≡ self.now.job.pattern }
         ensures background { result.background ≡ self.now.job.background }
@@ -102,7 +102,7 @@ impl Drawing {
     }
 
     /// Where lists hold all fragments of the drawing, compositing gives what the definition says.
-    pub fn compositing_law(&self)
+    pub(crate) fn compositing_law(&self)
         ensures { Agrees composited (subject_of self.now) }
     {
         compositing_law(&self.primitives(), &self.target());

@@ -13,7 +13,7 @@ use std::alloc::Global;
 
 /// The bytes of an image of these sums over the samples of each pixel. An error means that memory ran out.
 #[tactic(auto, unfolding(crate::specs::Listed::image_from))]
-pub fn image_from(
+pub(crate) fn image_from(
     alloc: Global,
     drawing: &Drawing,
     pixels: &[PixelSum],
@@ -36,7 +36,11 @@ pub fn image_from(
 
 /// The bytes of the image, from the sums of the definition. An error means that memory ran out.
 #[tactic(auto, unfolding(crate::specs::Image::image, crate::specs::Listed::image_from))]
-pub fn image_of(alloc: Global, drawing: &Drawing, pixels: &[PixelSum]) -> Result<List<u8>, NoMemory>
+pub(crate) fn image_of(
+    alloc: Global,
+    drawing: &Drawing,
+    pixels: &[PixelSum],
+) -> Result<List<u8>, NoMemory>
     requires sums { pixels.now ≡ sums drawing.now }
     requires small { All (IsSmall (length (offsets_of drawing.now.job.pattern))) pixels.now }
     ensures { IfOk result (λ bytes. bytes ≡ image drawing.now) }

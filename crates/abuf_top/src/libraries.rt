@@ -15,7 +15,7 @@ use abuf_num::List;
 use abuf_num::limits::MAX_BYTES;
 use std::alloc::Global;
 
-// Reads the content of library `number`.
+/// Reads the content of library `number`.
 fn read_content(
     alloc: Global,
     number: usize,
@@ -37,7 +37,7 @@ fn read_content(
     }
 }
 
-// Fetches library `number` and reads it.
+/// Fetches library `number` and reads it.
 fn read_library<H: Shelf>(
     alloc: Global,
     shelf: &mut H,
@@ -66,7 +66,7 @@ fn read_library<H: Shelf>(
 
 /// Reads the libraries of these names in order, up to the first that is refused: one is read before the next is fetched,
 /// and none is fetched after one that is refused.
-pub fn read_libraries<H: Shelf>(
+pub(crate) fn read_libraries<H: Shelf>(
     alloc: Global,
     shelf: &mut H,
     names: &[List<u8>],

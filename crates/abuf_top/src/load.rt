@@ -24,6 +24,7 @@ use abuf_num::List;
 use abuf_num::limits::MAX_BYTES;
 use abuf_obj::{FlatObj, ObjFault, read_obj_on_threads};
 use abuf_scene::SceneFault;
+use abuf_view::Room;
 use std::alloc::Global;
 use std::thread::Threads;
 
@@ -81,8 +82,8 @@ impl From<WordFault> for Stop {
     }
 }
 
-// A scene whose libraries are yet to be read.
-fn furnish<H: Shelf>(alloc: Global, obj: FlatObj, shelf: &mut H) -> Result<Loaded, Stop>
+/// A scene whose libraries are yet to be read.
+fn furnish<H: Shelf>(alloc: Global, room: Room, obj: FlatObj, shelf: &mut H) -> Result<Loaded, Stop>
     requires { IsScene obj }
     ensures told { H.tells shelf.old ≡ true → Loads (library_verdict obj (H.holds shelf.old)) (Rose (H.faults shelf.old) (H.faults shelf.new)) result }
     ensures none { obj.libraries ≡ [] → Loads (material_verdict obj []) ⊥ result }
@@ -94,10 +95,34 @@ fn furnish<H: Shelf>(alloc: Global, obj: FlatObj, shelf: &mut H) -> Result<Loade
     ensures later { H.faults shelf.old ≤ H.faults shelf.new }
 {
     let materials = read_libraries(alloc, shelf, obj.libraries().as_slice())?;
-    Ok(Loaded { obj, materials })
+    Ok(Loaded {
+        room,
+        obj,
+        materials,
+    })
 }
 
-// The scene that these bytes define. They are freed once they are read, so that what comes after can take their memory.
+/// About how many bytes a primitive takes.
+const PRIMITIVE_BYTES: usize = 64;
+
+/// The room that there is for the primitives of a scene, or else room as large as its text of so many bytes. Taken right after the text
+/// was freed, it takes the place of the text, below all that was read: what is freed of that is then one piece.
+fn room_for(alloc: Global, room: Option<Room>, obj: &FlatObj, bytes: usize) -> Room
+    ensures { result ≡ ([], []) }
+{
+    match room {
+        Some(room) => room,
+        None => {
+            let faces = obj.faces();
+            let triangles = faces
+                .corner_count()
+                .saturating_sub(faces.len().saturating_mul(2));
+            Room::new(alloc, triangles.max(bytes / PRIMITIVE_BYTES))
+        }
+    }
+}
+
+/// The scene that these bytes define. They are freed once they are read, so that what comes after can take their memory.
 fn read_list<R: Threads + Sync>(
     rt: &R,
     alloc: Global,
@@ -117,10 +142,11 @@ fn read_list<R: Threads + Sync>(
     read_obj_on_threads(rt, alloc, bytes.as_slice(), threads)
 }
 
-// The scene that these bytes define, and its libraries.
+/// The scene that these bytes define, and its libraries. Where there is no room for its primitives yet, it takes some.
 fn read_bytes<R: Threads + Sync, H: Shelf>(
     rt: &R,
     alloc: Global,
+    room: Option<Room>,
     bytes: List<u8>,
     shelf: &mut H,
     threads: u32,
@@ -136,14 +162,17 @@ fn read_bytes<R: Threads + Sync, H: Shelf>(
     ensures most { H.calls shelf.new ≤ H.calls shelf.old + length (libraries bytes) }
     ensures later { H.faults shelf.old ≤ H.faults shelf.new }
 {
+    let size = bytes.as_slice().len();
     let obj = read_list(rt, alloc, bytes, threads)?;
-    furnish(alloc, obj, shelf)
+    let room = room_for(alloc, room, &obj, size);
+    furnish(alloc, room, obj, shelf)
 }
 
 /// The scene that these bytes define, unless they are too many, and its libraries, read on so many threads.
-pub fn read_text<R: Threads + Sync, H: Shelf>(
+pub(crate) fn read_text<R: Threads + Sync, H: Shelf>(
     rt: &R,
     alloc: Global,
+    room: Option<Room>,
     bytes: List<u8>,
     shelf: &mut H,
     threads: u32,
@@ -157,12 +186,12 @@ pub fn read_text<R: Threads + Sync, H: Shelf>(
     if bytes.as_slice().len() as u64 > MAX_BYTES {
         return Err(Stop::Refused(Refusal::SceneTooLong));
     }
-    read_bytes(rt, alloc, bytes, shelf, threads)
+    read_bytes(rt, alloc, room, bytes, shelf, threads)
 }
 
 /// The scene that the source has left, and its libraries, read on so many threads.
 #[tactic(auto, using(crate::proofs::Taking::takes))]
-pub fn read_scene<R: Threads + Sync, S: Source, H: Shelf>(
+pub(crate) fn read_scene<R: Threads + Sync, S: Source, H: Shelf>(
     rt: &R,
     alloc: Global,
     scene: &mut S,
@@ -174,12 +203,12 @@ pub fn read_scene<R: Threads + Sync, S: Source, H: Shelf>(
         (shelf_change H.tells H.holds H.calls H.faults shelf.old shelf.new) result }
 {
     let bytes = read_all(alloc, scene, MAX_BYTES)?;
-    read_bytes(rt, alloc, bytes, shelf, threads)
+    read_bytes(rt, alloc, None, bytes, shelf, threads)
 }
 
 /// The scene of a drawing, and its libraries, read on so many threads: `demo` has its own, and calls neither the source nor the shelf.
 #[tactic(auto, using(crate::proofs::Taking::takes_none))]
-pub fn load<R: Threads + Sync, S: Source, H: Shelf>(
+pub(crate) fn load<R: Threads + Sync, S: Source, H: Shelf>(
     rt: &R,
     alloc: Global,
     what: What,

@@ -1,36 +1,19 @@
 // A scene that was read.
-ghost use Rattle.std.specs.Prelude.{◌≡◌};
-
 use crate::drawing::Drawing;
 use crate::stop::Stop;
 use crate::task::Task;
 use abuf_cli::{Job, What};
 use abuf_mtl::Materials;
-use abuf_num::List;
 use abuf_obj::FlatObj;
-use abuf_view::{Projected, project_faces};
-use std::alloc::Global;
+use abuf_view::{Room, project_faces};
 use std::thread::Threads;
 
-// The primitives, with their paints in memory that is taken now. What was read lay on either side of the paints; when it is freed, they
-// move to its start, and the rest of it is one piece, in which the words of a frame have room.
-fn settled(alloc: Global, projected: Projected) -> Projected
-    ensures { result ≡ projected }
-{
-    match projected.paints.as_slice().to_vec(alloc) {
-        Ok(paints) => Projected {
-            tris: projected.tris,
-            paints: List::from_vec(paints),
-        },
-        Err(_) => projected,
-    }
-}
-
-/// A scene and the materials of its libraries. It isn't projected yet.
+/// A scene and the materials of its libraries. It isn't projected yet; the room is for its primitives.
 #[derive(Drop)]
-pub struct Loaded {
-    pub obj: FlatObj,
-    pub materials: Materials,
+pub(crate) struct Loaded {
+    pub(crate) room: Room,
+    pub(crate) obj: FlatObj,
+    pub(crate) materials: Materials,
 }
 
 impl Loaded {
@@ -43,10 +26,9 @@ impl Loaded {
     ghost use Rattle.abuf_top.specs.Verdict.{material_verdict, drawing_verdict};
 
     /// The drawing of the scene, which is projected on the job's threads. What was read of the file is freed.
-    pub fn drawing<R: Threads + Sync>(
+    pub(crate) fn drawing<R: Threads + Sync>(
         self,
         rt: &R,
-        alloc: Global,
         job: Job,
         what: What,
     ) -> Result<Task, Stop>
@@ -57,15 +39,14 @@ impl Loaded {
         ensures cause { IfErr result (HasReadCause ⊥) }
         ensures own { IfOk result (IsTaskOf (Ok job)) }
     {
-        let projected = project_faces(
-            rt,
-            alloc,
-            &self.obj,
-            &self.materials,
-            job.camera(),
-            job.threads(),
-        )?;
-        drop(self);
-        Ok(Task::Draw(Drawing::new(job, what, settled(alloc, projected))))
+        let Loaded {
+            room,
+            obj,
+            materials,
+        } = self;
+        let projected = project_faces(rt, room, &obj, &materials, job.camera(), job.threads())?;
+        drop(obj);
+        drop(materials);
+        Ok(Task::Draw(Drawing::new(job, what, projected)))
     }
 }

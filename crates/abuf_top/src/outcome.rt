@@ -8,14 +8,14 @@ use abuf_num::{List, NoMemory};
 
 /// What a run, or a part of it, came to: the bytes that are to be written, or nothing once they are, or else why it stopped.
 #[derive(Drop)]
-pub struct Outcome<T> {
-    pub result: Result<T, Stop>,
+pub(crate) struct Outcome<T> {
+    pub(crate) result: Result<T, Stop>,
     /// The frame into which the scene was drawn; none where memory ran out, or where the image has more frames than one, or none.
-    pub closed: Option<Closed>,
+    pub(crate) closed: Option<Closed>,
 }
 
 impl Outcome<List<u8>> {
-    pub fn out_of_memory() -> Outcome<List<u8>>
+    pub(crate) fn out_of_memory() -> Outcome<List<u8>>
         ensures bytes { result.result ≡ Err stop.Memory }
         ensures closed { result.closed ≡ None }
     {
@@ -26,7 +26,7 @@ impl Outcome<List<u8>> {
     }
 
     /// There are more fragments than nodes.
-    pub fn full(pool: FullPool, closed: Option<Closed>) -> Outcome<List<u8>>
+    pub(crate) fn full(pool: FullPool, closed: Option<Closed>) -> Outcome<List<u8>>
         ensures bytes { result.result ≡ Err (stop.PoolFull pool) }
         ensures closed { result.closed ≡ closed }
     {
@@ -37,7 +37,7 @@ impl Outcome<List<u8>> {
     }
 
     /// What is written, where memory was enough, and the frame.
-    pub fn of(bytes: Result<List<u8>, NoMemory>, closed: Option<Closed>) -> Outcome<List<u8>>
+    pub(crate) fn of(bytes: Result<List<u8>, NoMemory>, closed: Option<Closed>) -> Outcome<List<u8>>
         ensures bytes { MatchResult bytes (λ b. (result.result ≡ Ok b) × (result.closed ≡ closed))
             (λ _. (result.result ≡ Err stop.Memory) × (result.closed ≡ None)) }
     {
@@ -53,7 +53,7 @@ impl Outcome<List<u8>> {
 
 impl Outcome<()> {
     /// Where no frame holds a whole image.
-    pub fn without_frame(ended: Result<(), Stop>) -> Outcome<()>
+    pub(crate) fn without_frame(ended: Result<(), Stop>) -> Outcome<()>
         ensures result { result.result ≡ ended }
         ensures closed { result.closed ≡ None }
     {

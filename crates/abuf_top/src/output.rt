@@ -22,7 +22,7 @@ use abuf_picture::{Compositing, Resolve};
 use std::alloc::Global;
 use std::thread::Threads;
 
-// Draws the primitives, and makes the output of the job's command, unless a pool is full.
+/// Draws the primitives, and makes the output of the job's command, unless a pool is full.
 fn output_of<R: Threads + Sync, W: Resolve, G: Gate + Sync>(
     rt: &R,
     alloc: Global,
@@ -42,7 +42,7 @@ fn output_of<R: Threads + Sync, W: Resolve, G: Gate + Sync>(
 /// Draws the primitives and writes the output of the job's command by one call, unless a pool is full. If all fragments are in one
 /// frame, its lists are resolved by the way that is handed in. The image or the summary that is written comes from the lists of the
 /// frame that is handed back: this function knows no more of the way than what it gives for lists.
-pub fn write_resolved<R: Threads + Sync, O: Sink, W: Resolve, G: Gate + Sync>(
+pub(crate) fn write_resolved<R: Threads + Sync, O: Sink, W: Resolve, G: Gate + Sync>(
     rt: &R,
     alloc: Global,
     drawing: &Drawing,
@@ -70,7 +70,7 @@ pub fn write_resolved<R: Threads + Sync, O: Sink, W: Resolve, G: Gate + Sync>(
 }
 
 /// Draws and writes like [`write_resolved`], by `Compositing`, which gives what the definition says.
-pub fn write_output<R: Threads + Sync, O: Sink, G: Gate + Sync>(
+pub(crate) fn write_output<R: Threads + Sync, O: Sink, G: Gate + Sync>(
     rt: &R,
     alloc: Global,
     drawing: &Drawing,

@@ -16,7 +16,7 @@ use abuf_io::{Shelf, Source};
 use std::alloc::Global;
 use std::thread::Threads;
 
-// One drawing of the job's scene, or the images of its path.
+/// One drawing of the job's scene, or the images of its path.
 fn task_of<R: Threads + Sync, S: Source, H: Shelf>(
     rt: &R,
     alloc: Global,
@@ -31,7 +31,7 @@ fn task_of<R: Threads + Sync, S: Source, H: Shelf>(
         Command::Draw(what) => {
             let what = *what;
             let loaded = load(rt, alloc, what, scene, shelf, job.threads())?;
-            loaded.drawing(rt, alloc, job, what)
+            loaded.drawing(rt, job, what)
         }
         Command::Sequence { name } => {
             prepare_images(rt, alloc, &job, name.as_slice(), scene, shelf)
@@ -42,7 +42,7 @@ fn task_of<R: Threads + Sync, S: Source, H: Shelf>(
 /// Reads the words, the path of a sequence, the scene and its libraries: all that comes before the drawing, up to the first
 /// refusal. Where the words give no job, for `demo`, and where a path is refused, the source isn't called.
 #[tactic(auto, unfolding(crate::specs::Verdict::task), using(crate::proofs::Taking::takes_none))]
-pub fn prepare<R: Threads + Sync, S: Source, H: Shelf>(
+pub(crate) fn prepare<R: Threads + Sync, S: Source, H: Shelf>(
     rt: &R,
     alloc: Global,
     words: &[String],

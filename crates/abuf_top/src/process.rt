@@ -17,7 +17,7 @@ use std::io::ErrorKind;
 use std::process::ExitCode;
 use std::thread::Threads;
 
-// The words after the program's name, which is the first.
+/// The words after the program's name, which is the first.
 fn after_name(alloc: Global, args: Args) -> Result<Vec<String>, AllocError>
     ensures { IfOk result (λ words. words.items ≡ drop 1 (into_iter_items args)) }
 {
@@ -27,7 +27,7 @@ fn after_name(alloc: Global, args: Args) -> Result<Vec<String>, AllocError>
     Ok(words)
 }
 
-// The words of a run.
+/// The words of a run.
 fn words_of(alloc: Global, args: io::Result<Args>) -> Result<Vec<String>, AllocError>
     ensures { IfOk result (λ words. (texts : List (List ℕ)) → AreWords args texts → texts ≡ map string_bytes words.items) }
 {

@@ -17,7 +17,7 @@ use abuf_resolve::laws::{order_law, pixel_law};
 use abuf_resolve::{Pixel, Planes, SampleWord};
 use std::alloc::{AllocError, Global};
 
-// One fragment's line.
+/// One fragment's line.
 fn push_fragment(text: &mut String, fragment: Fragment) -> Result<(), AllocError>
     ensures { OnOk result (string_bytes text.new ≡ string_bytes text.old ++ fragment_line fragment) }
 {
@@ -25,7 +25,7 @@ fn push_fragment(text: &mut String, fragment: Fragment) -> Result<(), AllocError
     writeln!(text, "prim {prim} mask {mask}")
 }
 
-// The number of the words, and a line for each.
+/// The number of the words, and a line for each.
 fn fragments_text(alloc: Global, words: &[u64]) -> Result<String, AllocError>
     requires { All (λ word. word < 2 ^ 40) words.now }
     ensures { IfOk result (λ text. string_bytes text ≡ fragments_text (map unpacked words.now)) }
@@ -38,7 +38,7 @@ fn fragments_text(alloc: Global, words: &[u64]) -> Result<String, AllocError>
     Ok(text)
 }
 
-// What a sample's line tells of one word of the sample.
+/// What a sample's line tells of one word of the sample.
 fn push_layer(text: &mut String, word: u64) -> Result<(), AllocError>
     ensures { OnOk result (string_bytes text.new ≡ string_bytes text.old ++ layer_text (layer_of word)) }
 {
@@ -48,7 +48,7 @@ fn push_layer(text: &mut String, word: u64) -> Result<(), AllocError>
     write!(text, " prim {prim} depth {depth}")
 }
 
-// What it tells of its words, in their order.
+/// What it tells of its words, in their order.
 fn push_layers(text: &mut String, words: &[u64]) -> Result<(), AllocError>
     ensures { OnOk result (string_bytes text.new ≡ string_bytes text.old ++ flat_map layer_text (map layer_of words.now)) }
 {
@@ -58,7 +58,7 @@ fn push_layers(text: &mut String, words: &[u64]) -> Result<(), AllocError>
     Ok(())
 }
 
-// The line of sample k, from its words in order.
+/// The line of sample k, from its words in order.
 fn push_sample(text: &mut String, k: u32, words: &[u64]) -> Result<(), AllocError>
     ensures { OnOk result (string_bytes text.new ≡ string_bytes text.old ++ sample_line k (map layer_of words.now)) }
 {
@@ -67,7 +67,7 @@ fn push_sample(text: &mut String, k: u32, words: &[u64]) -> Result<(), AllocErro
     writeln!(text, "")
 }
 
-// A pixel, the words of its fragments in ascending order, and the triangles that they are of.
+/// A pixel, the words of its fragments in ascending order, and the triangles that they are of.
 #[derive(Drop)]
 struct Sampled<'a> {
     planes: Planes<'a>,
@@ -80,7 +80,7 @@ struct Sampled<'a> {
 }
 
 impl<'a> Sampled<'a> {
-    // The line of sample k.
+    /// The line of sample k.
     fn push_line(&self, text: &mut String, keys: &mut Vec<u64>, k: u32) -> Result<(), NoMemory>
         requires { k < length (offsets_of self.now.pattern) }
         ensures { OnOk result (string_bytes text.new
@@ -92,7 +92,7 @@ impl<'a> Sampled<'a> {
         Ok(())
     }
 
-    // The lines of all samples.
+    /// The lines of all samples.
     fn push_samples(&self, alloc: Global, text: &mut String) -> Result<(), NoMemory>
         ensures { OnOk result (string_bytes text.new
             ≡ string_bytes text.old ++ all_samples_text (offsets_of self.now.pattern) self.now.planes self.now.at.x self.now.at.y) }
@@ -104,7 +104,7 @@ impl<'a> Sampled<'a> {
         Ok(())
     }
 
-    // The whole text.
+    /// The whole text.
     fn text(&self, alloc: Global) -> Result<String, NoMemory>
         requires { All (λ word. word < 2 ^ 40) self.now.words.now }
         ensures { IfOk result (λ text. string_bytes text
@@ -116,7 +116,7 @@ impl<'a> Sampled<'a> {
     }
 }
 
-// The text on a pixel of these triangles, from the words of its fragments in ascending order.
+/// The text on a pixel of these triangles, from the words of its fragments in ascending order.
 fn pixel_text(
     alloc: Global,
     triangles: &[ScreenTri],
@@ -140,7 +140,7 @@ fn pixel_text(
     pixel.text(alloc)
 }
 
-// The report of a pixel of an image, from the words of its fragments in any order.
+/// The report of a pixel of an image, from the words of its fragments in any order.
 fn pixel_report(
     alloc: Global,
     triangles: &[ScreenTri],
@@ -171,7 +171,7 @@ fn pixel_report(
 
 /// The report of pixel (x, y), from the words of its fragments in any order. An error means that memory ran out.
 #[tactic(auto, unfolding(crate::specs::Report::report))]
-pub fn report_of(
+pub(crate) fn report_of(
     alloc: Global,
     drawing: &Drawing,
     x: u32,

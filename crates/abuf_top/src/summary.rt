@@ -13,7 +13,7 @@ use abuf_pam::pixel_size;
 use abuf_resolve::Resolved;
 use std::alloc::{AllocError, Global};
 
-// The sum of so many bytes.
+/// The sum of so many bytes.
 fn sum_of(bytes: &[u8]) -> u64
     requires { length bytes.now ≤ 25165824 }
     ensures { result ≡ sum bytes.now }
@@ -25,7 +25,7 @@ fn sum_of(bytes: &[u8]) -> u64
     sum
 }
 
-// The sum of the bytes of an image after its header.
+/// The sum of the bytes of an image after its header.
 fn sum_of_values(drawing: &Drawing, bytes: &[u8]) -> u64
     requires { length bytes.now ≡ size_of drawing.now.job }
     ensures { result ≡ sum (values_in drawing.now.job bytes.now) }
@@ -51,7 +51,7 @@ fn text_of(
 
 /// The summary of a drawing that has so many fragments, from what was resolved of its frame. An error means that memory ran out.
 #[tactic(auto, unfolding(crate::specs::Listed::summary_from))]
-pub fn summary_from(
+pub(crate) fn summary_from(
     alloc: Global,
     drawing: &Drawing,
     fragments: u64,

@@ -31,7 +31,7 @@ pub struct Ran {
     pub closed: Option<Closed>,
 }
 
-// A text with its line feed goes out by one call.
+/// A text with its line feed goes out by one call.
 fn say<E: Sink>(err: &mut E, line: &[u8])
     ensures part { (count : ℕ) × Appends (E.taken err.old) (E.taken err.new) (take count line.now) }
     ensures whole { (Rose (E.faults err.old) (E.faults err.new) → ⊥) → Appends (E.taken err.old) (E.taken err.new) line.now }
@@ -39,7 +39,7 @@ fn say<E: Sink>(err: &mut E, line: &[u8])
     let _ = write_all(err, line);
 }
 
-// Says how the run stopped, and returns its status.
+/// Says how the run stopped, and returns its status.
 fn report<E: Sink>(alloc: Global, err: &mut E, stop: Stop) -> Status
     ensures { Reports stop result (sink_change E.taken E.faults err.old err.new) }
 {
@@ -79,7 +79,7 @@ fn report<E: Sink>(alloc: Global, err: &mut E, stop: Stop) -> Status
     }
 }
 
-// Says why the run stopped, where it did, and returns its status.
+/// Says why the run stopped, where it did, and returns its status.
 fn tell<E: Sink>(alloc: Global, err: &mut E, ended: Result<(), Stop>) -> Status
     ensures { Tells ended result (sink_change E.taken E.faults err.old err.new) }
 {
@@ -89,7 +89,7 @@ fn tell<E: Sink>(alloc: Global, err: &mut E, ended: Result<(), Stop>) -> Status
     }
 }
 
-// The frame goes with the statuses of a run that drew its scene.
+/// The frame goes with the statuses of a run that drew its scene.
 fn handed_back(status: Status, closed: Option<Closed>) -> Option<Closed>
     ensures { result ≡ handed_back status closed }
 {
@@ -99,7 +99,7 @@ fn handed_back(status: Status, closed: Option<Closed>) -> Option<Closed>
     }
 }
 
-// The end of a run: what it says, and the frame.
+/// The end of a run: what it says, and the frame.
 pub(crate) fn conclude<E: Sink>(alloc: Global, outcome: Outcome<()>, err: &mut E) -> Ran
     ensures { Concludes outcome.result outcome.closed result (sink_change E.taken E.faults err.old err.new) }
 {

@@ -18,9 +18,9 @@ use std::thread::Threads;
 
 /// A closed frame in which every fragment has a node, and what was resolved of its lists.
 #[derive(Drop)]
-pub struct Whole {
-    pub closed: Closed,
-    pub resolved: Resolved,
+pub(crate) struct Whole {
+    pub(crate) closed: Closed,
+    pub(crate) resolved: Resolved,
 }
 
 /// A drawing stops since its pool is full.
@@ -37,7 +37,7 @@ fn full_image(closed: Closed) -> Outcome<List<u8>>
 
 /// The closed frame of a drawing whose fragments all have nodes, with what the way gives for its lists, or how it stops. The lists are
 /// walked once.
-pub fn resolve_whole<R: Threads + Sync, W: Resolve, G: Gate + Sync>(
+pub(crate) fn resolve_whole<R: Threads + Sync, W: Resolve, G: Gate + Sync>(
     rt: &R,
     alloc: Global,
     drawing: &Drawing,

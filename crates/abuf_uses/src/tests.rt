@@ -9,7 +9,7 @@ use abuf_view::{Camera, Projected};
 use std::alloc::Global;
 use std::test::Fail;
 
-// The upper half of a square of 4 by 4 pixels. The centres of the pixels on its diagonal lie on its right edge.
+/// The upper half of a square of 4 by 4 pixels. The centres of the pixels on its diagonal lie on its right edge.
 #[test]
 fn half_a_square_is_covered(rt: HostRuntime) -> Result<(), Fail> {
     let upper = ScreenTri::new([0, 1024, 0], [0, 0, 1024], [0; 3]).ok_or("upper")?;
@@ -18,7 +18,7 @@ fn half_a_square_is_covered(rt: HostRuntime) -> Result<(), Fail> {
     Ok(())
 }
 
-// Pixel 0 has an item of each thread, pixel 1 one, and pixel 2 none.
+/// Pixel 0 has an item of each thread, pixel 1 one, and pixel 2 none.
 #[test]
 fn two_threads_draw_at_once(rt: HostRuntime) -> Result<(), Fail> {
     let alloc = rt.alloc();
@@ -33,7 +33,7 @@ fn two_threads_draw_at_once(rt: HostRuntime) -> Result<(), Fail> {
     Ok(())
 }
 
-// A square that the image just shows: its upper half is white, its lower half red.
+/// A square that the image just shows: its upper half is white, its lower half red.
 const SCENE: &[u8] =
     b"mtllib m\nv -4 4 0\nv 4 4 0\nv 4 -4 0\nv -4 -4 0\nf 1 2 4\nusemtl red\nf 2 3 4\n";
 
@@ -41,10 +41,10 @@ const LIBRARY: &[u8] = b"newmtl red\nKd 1 0 0\n";
 
 const HEADER: &[u8] = b"P7\nWIDTH 2\nHEIGHT 2\nDEPTH 3\nMAXVAL 255\nTUPLTYPE RGB\nENDHDR\n";
 
-// White, and then red three times: the diagonal belongs to the lower half.
+/// White, and then red three times: the diagonal belongs to the lower half.
 const PIXELS: &[u8] = &[255, 255, 255, 255, 0, 0, 255, 0, 0, 255, 0, 0];
 
-// Whether these bytes are the image of the square.
+/// Whether these bytes are the image of the square.
 fn is_square(bytes: &[u8]) -> bool {
     bytes.starts_with(HEADER)
         && bytes.ends_with(PIXELS)
@@ -93,7 +93,7 @@ const GREEN: Paint = Paint {
     alpha: 32768,
 };
 
-// Two films over one pixel. The green one is nearer, and comes first in the lists.
+/// Two films over one pixel. The green one is nearer, and comes first in the lists.
 fn films(alloc: Global) -> Result<Projected, Fail> {
     let near = ScreenTri::new([0, 1024, 0], [0, 0, 1024], [20; 3]).ok_or("near")?;
     let far = ScreenTri::new([0, 1024, 0], [0, 0, 1024], [10; 3]).ok_or("far")?;
@@ -118,7 +118,7 @@ fn the_far_film_lies_lowest(rt: HostRuntime) -> Result<(), Fail> {
     Ok(())
 }
 
-// One node is too few for two films.
+/// One node is too few for two films.
 #[test]
 fn a_full_pool_is_told(rt: HostRuntime) -> Result<(), Fail> {
     let alloc = rt.alloc();

@@ -5,7 +5,7 @@ ghost use Rattle.abuf_uses.specs.Seen.{IsFault, seen};
 use crate::fault::NoImage;
 use abuf_mtl::{Materials, read_mtl};
 use abuf_obj::read_flat;
-use abuf_view::{Camera, Projected, project_faces};
+use abuf_view::{Camera, Projected, Room, project_faces};
 use std::alloc::Global;
 use std::thread::Threads;
 
@@ -25,6 +25,7 @@ pub fn seen_by<R: Threads + Sync>(
     let obj = read_flat(alloc, scene)?;
     let mut materials = Materials::new(alloc);
     read_mtl(alloc, library, &mut materials)?;
-    let projected = project_faces(rt, alloc, &obj, &materials, camera, 2)?;
+    let room = Room::new(alloc, obj.faces().len());
+    let projected = project_faces(rt, room, &obj, &materials, camera, 2)?;
     Ok(projected)
 }

@@ -16,6 +16,7 @@ use Rattle.abuf_scene.specs.declared.assembly.SceneFault.TheVariants.{UnknownMat
 use Rattle.abuf_scene.specs.declared.triangles.Triangle.{Triangle}
 use Rattle.abuf_view.specs.declared.near_plane.EyeTriangle.{EyeTriangle}
 use Rattle.abuf_view.specs.declared.primitive_lists.PrimitiveLists.{PrimitiveLists}
+use Rattle.abuf_view.specs.declared.chunks.FaceChunk.{FaceChunk}
 use Rattle.abuf_view.specs.declared.eye.Eye.{Eye}
 use Rattle.abuf_view.specs.Eye.{clipped_by, on_screen_by}
 use Rattle.abuf_view.specs.Chunks.{IsFaceChunk, AreFaceChunks, unknown_in, before, together, IsAnswer}
@@ -140,15 +141,16 @@ module _ (look : Look) (obj : Obj) (eye : Eye) where
   answered faces whole (Err (UnknownMaterial line)) are is = subst (IsFaceChunk look obj eye faces) is are
   answered faces whole (Err Memory) are is = record { fault = tt; known = tt; tris = tt; paints = tt }
 
--- one chunk more of faces that are cut
-pub cut_more : (p : ℕ) (faces : List Face) (chunks new : List (List Face)) (chunk : List Face) → new ≡ chunks ++ chunk ∷ []
-    → ((n : ℕ) (d : List Face) → n < length chunks → get_or chunks n d ≡ take p (drop (n * p) faces)) → chunk ≡ take p (drop (length chunks * p) faces)
-    → (n : ℕ) (d : List Face) → n < length new → get_or new n d ≡ take p (drop (n * p) faces)
+-- One chunk more of faces that are cut.
+pub cut_more : (p : ℕ) (faces : List Face) (chunks new : List FaceChunk) (chunk : FaceChunk) → new ≡ chunks ++ chunk ∷ []
+    → ((n : ℕ) (d : FaceChunk) → n < length chunks → (get_or chunks n d).faces ≡ take p (drop (n * p) faces)) → chunk.faces ≡ take p (drop (length chunks * p) faces)
+    → (n : ℕ) (d : FaceChunk) → n < length new → (get_or new n d).faces ≡ take p (drop (n * p) faces)
 cut_more p faces chunks new chunk is each last n d within =
     let few : length new ≡ length chunks + 1 = ap length is ∙ length_push chunks chunk in
-    ap (λ (rs : List (List Face)). get_or rs n d) is
-    ∙ ⊎_elim (λ (h : n < length chunks). get_or_append_left chunks (chunk ∷ []) d n h ∙ each n d h)
-    (λ (h : length chunks ≤ n). let e : length chunks ≡ n = omega (arith, few, within) in get_or_push chunks chunk d n e ∙ (last ∙ ap (λ (k : ℕ). take p (drop (k * p) faces)) e)) (cases_lt n (length chunks))
+    ap (λ (rs : List FaceChunk). (get_or rs n d).faces) is
+    ∙ ⊎_elim (λ (h : n < length chunks). ap (λ (r : FaceChunk). r.faces) (get_or_append_left chunks (chunk ∷ []) d n h) ∙ each n d h)
+    (λ (h : length chunks ≤ n). let e : length chunks ≡ n = omega (arith, few, within) in
+    ap (λ (r : FaceChunk). r.faces) (get_or_push chunks chunk d n e) ∙ (last ∙ ap (λ (k : ℕ). take p (drop (k * p) faces)) e)) (cases_lt n (length chunks))
 
 -- A face with a known material isn't the first of those whose material is unknown.
 passed : (found : Option Paint) (line : ℕ) (face : Face) (more : Option Face) → line_if_none line found ≡ None → more ≡ cond (is_none found) (Some face) more

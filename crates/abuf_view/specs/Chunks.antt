@@ -6,6 +6,7 @@ use Rattle.abuf_scene.specs.Triangles.{Look, is_unknown, triangles_of, Tells}
 use Rattle.abuf_scene.specs.declared.assembly.SceneFault.{SceneFault}
 use Rattle.abuf_scene.specs.declared.assembly.SceneFault.TheVariants.{UnknownMaterial, Memory}
 use Rattle.abuf_view.specs.Eye.{tris_by, paints_by}
+use Rattle.abuf_view.specs.declared.chunks.FaceChunk.{FaceChunk}
 use Rattle.abuf_view.specs.declared.eye.Eye.{Eye}
 use Rattle.abuf_view.specs.declared.primitive_lists.PrimitiveLists.{PrimitiveLists}
 
@@ -14,9 +15,9 @@ abbrev pub unknown_in : Look → List (List ℕ) → List Face → Option ℕ
 unknown_in look names faces = option_map (λ face. face.line) (find (is_unknown look names) faces)
 
 -- All faces in their order, in chunks of so many.
-pub record AreCut (per_chunk : ℕ) (faces : List Face) (chunks : List (List Face)) : Type 0 where
+pub record AreCut (per_chunk : ℕ) (faces : List Face) (chunks : List FaceChunk) : Type 0 where
   pub all : length faces ≤ length chunks * per_chunk
-  pub each : (n : ℕ) (d : List Face) → n < length chunks → slice_index_or chunks n d ≡ take per_chunk (drop (n * per_chunk) faces)
+  pub each : (n : ℕ) (d : FaceChunk) → n < length chunks → (slice_index_or chunks n d).faces ≡ take per_chunk (drop (n * per_chunk) faces)
 
 module _ (look : Look) (obj : Obj) (eye : Eye) where
   -- What a worker gives of a chunk of the file's faces: all their primitives, or the first unknown material.

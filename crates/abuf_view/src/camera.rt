@@ -103,7 +103,7 @@ impl Camera {
     }
 
     /// The change to eye space.
-    pub fn eye(&self) -> Eye
+    pub(crate) fn eye(&self) -> Eye
         ensures value { result ≡ eye_of self.now }
         ensures sound { IsEye result }
     {

@@ -21,17 +21,17 @@ pub struct EyePoint {
 /// The change to eye space, computed once of a camera: the rows of its matrix and its shift. With it go the near plane and the
 /// screen.
 #[derive(Clone, Copy)]
-pub struct Eye {
-    pub x: Point3,
-    pub y: Point3,
-    pub z: Point3,
-    pub shift: Point3,
-    pub near_plane: NearPlane,
-    pub screen: Screen,
+pub(crate) struct Eye {
+    pub(crate) x: Point3,
+    pub(crate) y: Point3,
+    pub(crate) z: Point3,
+    pub(crate) shift: Point3,
+    pub(crate) near_plane: NearPlane,
+    pub(crate) screen: Screen,
 }
 
 /// A product of an entry of the matrix and a coordinate of a point.
-pub fn times(entry: i64, part: i64) -> i64
+pub(crate) fn times(entry: i64, part: i64) -> i64
     requires entry { unsigned_abs entry ≤ 2 ^ 22 }
     requires part { unsigned_abs part ≤ MAX_COORDINATE }
     ensures value { result ≡ entry *ℤ part }
@@ -41,7 +41,7 @@ pub fn times(entry: i64, part: i64) -> i64
 }
 
 /// A sum of two numbers that are below 2^62 either way, which 64 bits always hold.
-pub fn sum(a: i64, b: i64) -> i64
+pub(crate) fn sum(a: i64, b: i64) -> i64
     requires a { unsigned_abs a < 2 ^ 62 }
     requires b { unsigned_abs b < 2 ^ 62 }
     ensures value { result ≡ a +ℤ b }
@@ -69,7 +69,7 @@ fn eye_coordinate(row: Point3, norm: i64, p: Point3, shift: i64) -> i64
 
 impl Eye {
     /// The point in eye space.
-    pub fn sees(&self, p: Point3) -> EyePoint
+    pub(crate) fn sees(&self, p: Point3) -> EyePoint
         requires eye { IsEye self.now }
         requires range { IsBounded p }
         ensures value { result ≡ eye_point_by self.now p }

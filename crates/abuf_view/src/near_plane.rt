@@ -41,14 +41,14 @@ fn cut_coordinate(p: i64, q: i64, near: i64, span: i64) -> i64
 
 /// The camera's norm, and the w of its near plane.
 #[derive(Clone, Copy)]
-pub struct NearPlane {
-    pub norm: i64,
-    pub w: i64,
+pub(crate) struct NearPlane {
+    pub(crate) norm: i64,
+    pub(crate) w: i64,
 }
 
 impl NearPlane {
     /// The point is at the near plane or behind it, as the camera looks.
-    pub fn is_inside(self, s: EyePoint) -> bool
+    pub(crate) fn is_inside(self, s: EyePoint) -> bool
         ensures value { result ≡ is_inside self.w s }
         ensures inside { IsTrue result ↔ self.w ≤ℤ s.w }
     {
@@ -130,7 +130,7 @@ fn one_inside(
 }
 
 /// The parts of a triangle in front of the near plane.
-pub fn clip(
+pub(crate) fn clip(
     near_plane: NearPlane,
     a: EyePoint,
     b: EyePoint,

@@ -10,17 +10,17 @@ use std::snapshot::Snapshot;
 
 /// The paint of each name of a scene, looked up once: a million faces may have the same name.
 #[derive(Drop)]
-pub struct Palette {
+pub(crate) struct Palette {
     /// The names and the materials, for the contracts alone.
-    pub names: Snapshot<List<List<u8>>>,
-    pub materials: Snapshot<Materials>,
+    pub(crate) names: Snapshot<List<List<u8>>>,
+    pub(crate) materials: Snapshot<Materials>,
     paints: Vec<Option<Paint>>,
     ghost each: { paints.items ≡ map (look_up materials.value) names.value },
 }
 
 impl Palette {
     /// The paints that the materials have for these names.
-    pub fn new(
+    pub(crate) fn new(
         alloc: Global,
         names: &List<List<u8>>,
         materials: &Materials,
@@ -40,7 +40,7 @@ impl Palette {
     }
 
     /// The paint of a face by the index of its name, if the name has a material. White and opaque without a name.
-    pub fn paint_of(&self, name: Option<u32>) -> Option<Paint>
+    pub(crate) fn paint_of(&self, name: Option<u32>) -> Option<Paint>
         requires { IfSome name (λ n. n < length self.now.names.value) }
         ensures { result ≡ paint_by (look_up self.now.materials.value) self.now.names.value name }
     {

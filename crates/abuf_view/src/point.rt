@@ -5,15 +5,15 @@ ghost use Rattle.abuf_view.specs.Camera.{point_of, IsBounded};
 
 /// A point of the scene, or a row of a matrix. Coordinates of points are in 1/65536.
 #[derive(Clone, Copy, Debug, PartialEq, Eq)]
-pub struct Point3 {
-    pub x: i64,
-    pub y: i64,
-    pub z: i64,
+pub(crate) struct Point3 {
+    pub(crate) x: i64,
+    pub(crate) y: i64,
+    pub(crate) z: i64,
 }
 
 impl Point3 {
     /// The point of these coordinates.
-    pub fn of(parts: [i64; 3]) -> Point3
+    pub(crate) fn of(parts: [i64; 3]) -> Point3
         ensures value { result ≡ point_of parts }
         ensures range { IsInRange parts → IsBounded result }
     {

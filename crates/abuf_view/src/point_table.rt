@@ -15,10 +15,10 @@ use abuf_raster::ScreenTri;
 use std::alloc::Global;
 use std::thread::{Threads, map_chunks};
 
-// The least number of points for each of several workers. Starting a thread takes as long as some hundred points.
+/// The least number of points for each of several workers. Starting a thread takes as long as some hundred points.
 const MIN_POINTS: u64 = 4096;
 
-// The chunks' size is at most 2 to this power.
+/// The chunks' size is at most 2 to this power.
 const MAX_BITS: u32 = 31;
 
 /// What a camera sees of a scene's points: the eye, the points, and a table of those that it sees in short numbers. What isn't in
@@ -26,27 +26,27 @@ const MAX_BITS: u32 = 31;
 /// is for 2^bits points, from the point n * 2^bits on. The chunks stay apart, since joining them would take longer than the
 /// look-ups.
 #[derive(Drop)]
-pub struct PointTable<'a> {
-    pub eye: Eye,
-    pub points: &'a [[i64; 3]],
-    pub chunks: Vec<List<Option<ShortPoint>>>,
-    pub bits: u32,
-    pub ghost is_eye: { IsEye eye },
-    pub ghost range: { All IsInRange points.now },
-    pub ghost small: { bits < 64 },
-    pub ghost entries: { AreEntries eye points.now bits chunks.items },
+pub(crate) struct PointTable<'a> {
+    pub(crate) eye: Eye,
+    pub(crate) points: &'a [[i64; 3]],
+    pub(crate) chunks: Vec<List<Option<ShortPoint>>>,
+    pub(crate) bits: u32,
+    pub(crate) ghost is_eye: { IsEye eye },
+    pub(crate) ghost range: { All IsInRange points.now },
+    pub(crate) ghost small: { bits < 64 },
+    pub(crate) ghost entries: { AreEntries eye points.now bits chunks.items },
 }
 
-// A point of a triangle takes as long as an entry of the table, so the table pays where a point is a corner of more than one triangle:
-// a face has three corners or more.
+/// A point of a triangle takes as long as an entry of the table, so the table pays where a point is a corner of more than one
+/// triangle: a face has three corners or more.
 fn is_shared(points: usize, faces: usize) -> bool
     ensures { result ≡ nat_le (points / 2) faces }
 {
     points / 2 <= faces
 }
 
-// The power of two that is the chunks' size, so that no worker has two of them.
-pub fn chunk_bits(points: usize, least: u64, threads: u32) -> u32
+/// The power of two that is the chunks' size, so that no worker has two of them.
+pub(crate) fn chunk_bits(points: usize, least: u64, threads: u32) -> u32
     requires least { 2 ≤ least }
     requires threads { (1 ≤ threads) × (threads ≤ MAX_THREADS) }
     ensures small { result < 64 }
@@ -56,7 +56,7 @@ pub fn chunk_bits(points: usize, least: u64, threads: u32) -> u32
     ((size - 1).ilog2() + 1).min(MAX_BITS)
 }
 
-// Two to this power.
+/// Two to this power.
 fn chunk_size(bits: u32) -> usize
     requires { bits < 64 }
     ensures value { result ≡ 2 ^ bits }
@@ -65,7 +65,7 @@ fn chunk_size(bits: u32) -> usize
     1 << bits
 }
 
-// How far the place is from the start of its chunk.
+/// How far the place is from the start of its chunk.
 fn offset_in_chunk(place: usize, bits: u32) -> usize
     requires { bits < 64 }
     ensures { place / 2 ^ bits * 2 ^ bits + result ≡ place }
@@ -73,7 +73,7 @@ fn offset_in_chunk(place: usize, bits: u32) -> usize
     place - ((place >> bits) << bits)
 }
 
-// What the eye sees of some points.
+/// What the eye sees of some points.
 fn short_points(
     alloc: Global,
     eye: &Eye,
@@ -91,7 +91,7 @@ fn short_points(
     Ok(List::from_vec(made))
 }
 
-// The entries of some points, or none where there is no memory for them.
+/// The entries of some points, or none where there is no memory for them.
 fn entries_of(alloc: Global, eye: &Eye, points: &[[i64; 3]]) -> List<Option<ShortPoint>>
     requires eye { IsEye eye.now }
     requires range { All IsInRange points.now }
@@ -103,7 +103,7 @@ fn entries_of(alloc: Global, eye: &Eye, points: &[[i64; 3]]) -> List<Option<Shor
     }
 }
 
-// The entries of all points, chunk by chunk.
+/// The entries of all points, chunk by chunk.
 fn all_chunks<R: Threads + Sync>(
     rt: &R,
     alloc: Global,
@@ -126,7 +126,7 @@ fn all_chunks<R: Threads + Sync>(
     Ok(chunks)
 }
 
-// The entries of all points of so many faces, or none where they would not pay.
+/// The entries of all points of so many faces, or none where they would not pay.
 fn chunks_of<R: Threads + Sync>(
     rt: &R,
     alloc: Global,
@@ -147,7 +147,7 @@ fn chunks_of<R: Threads + Sync>(
     }
 }
 
-// The entry in this place of the chunk of this number, if there is one.
+/// The entry in this place of the chunk of this number, if there is one.
 fn entry_at(chunks: &[List<Option<ShortPoint>>], number: usize, place: usize) -> Option<ShortPoint>
     ensures { result ≡ slice_index_or (slice_index_or chunks.now number []) place None }
 {
@@ -162,7 +162,7 @@ fn entry_at(chunks: &[List<Option<ShortPoint>>], number: usize, place: usize) ->
 
 impl<'a> PointTable<'a> {
     /// The table of the points of so many faces, made by 1 to 64 workers.
-    pub fn new<R: Threads + Sync>(
+    pub(crate) fn new<R: Threads + Sync>(
         rt: &R,
         alloc: Global,
         eye: Eye,
@@ -186,7 +186,7 @@ impl<'a> PointTable<'a> {
         })
     }
 
-    // Where the eye sees the point in this place, if the table has it.
+    /// Where the eye sees the point in this place, if the table has it.
     fn entry(&self, place: u32) -> Option<ShortPoint>
         ensures { IfSome result (λ s. short_point self.now.eye (slice_index_or self.now.points.now place []) ≡ Some s) }
     {
@@ -199,7 +199,7 @@ impl<'a> PointTable<'a> {
     }
 
     /// What the eye sees of the triangle of a face's corners 0, i and i + 1, if the table has all three.
-    pub fn fan_triangle(&self, corners: &[u32], i: usize) -> Option<ScreenTri>
+    pub(crate) fn fan_triangle(&self, corners: &[u32], i: usize) -> Option<ScreenTri>
         requires { i + 1 < length corners.now }
         ensures { (paint : Paint) → IfSome result (IsWhole self.now.eye (triangle self.now.points.now corners.now paint i)) }
     {

@@ -19,29 +19,14 @@ use std::alloc::Global;
 
 /// The triangles on the screen that there are so far, and their paints. [`Projected`] is what they become.
 #[derive(Drop)]
-pub struct PrimitiveLists {
-    pub tris: List<ScreenTri>,
-    pub paints: List<Paint>,
+pub(crate) struct PrimitiveLists {
+    pub(crate) tris: List<ScreenTri>,
+    pub(crate) paints: List<Paint>,
 }
 
 impl PrimitiveLists {
-    /// No primitives, with room for so many.
-    pub fn with_capacity(alloc: Global, count: usize) -> Result<PrimitiveLists, NoMemory>
-        ensures tris { IfOk result (λ p. p.tris ≡ []) }
-        ensures paints { IfOk result (λ p. p.paints ≡ []) }
-    {
-        let mut tris = Vec::new(alloc);
-        let mut paints = Vec::new(alloc);
-        tris.reserve_exact(count)?;
-        paints.reserve_exact(count)?;
-        Ok(PrimitiveLists {
-            tris: List::from_vec(tris),
-            paints: List::from_vec(paints),
-        })
-    }
-
     /// Puts one primitive last.
-    pub fn push(&mut self, triangle: ScreenTri, paint: Paint) -> Result<(), NoMemory>
+    pub(crate) fn push(&mut self, triangle: ScreenTri, paint: Paint) -> Result<(), NoMemory>
         ensures tris { OnOk result (self.new.tris ≡ self.old.tris ++ triangle ∷ []) }
         ensures paints { OnOk result (self.new.paints ≡ self.old.paints ++ paint ∷ []) }
     {
@@ -68,7 +53,7 @@ impl PrimitiveLists {
     }
 
     /// Puts the primitives of a triangle last.
-    pub fn push_triangle(&mut self, eye: &Eye, t: &Triangle) -> Result<(), NoMemory>
+    pub(crate) fn push_triangle(&mut self, eye: &Eye, t: &Triangle) -> Result<(), NoMemory>
         requires eye { IsEye eye.now }
         requires range { IsTriangleInRange t.now }
         ensures tris { OnOk result (self.new.tris ≡ self.old.tris ++ map (on_screen_by eye.now) (clipped_by eye.now t.now)) }
@@ -84,7 +69,7 @@ impl PrimitiveLists {
     }
 
     /// All primitives, one paint for each.
-    pub fn into_projected(self) -> Projected
+    pub(crate) fn into_projected(self) -> Projected
         requires few { length self.tris ≤ MAX_PRIMITIVES }
         requires painted { length self.paints ≡ length self.tris }
         ensures tris { result.tris ≡ self.tris }

@@ -8,11 +8,11 @@ use abuf_num::difference;
 
 /// A turn, as a quaternion.
 #[derive(Clone, Copy, Debug, PartialEq, Eq)]
-pub struct Quaternion {
-    pub a: i32,
-    pub b: i32,
-    pub c: i32,
-    pub d: i32,
+pub(crate) struct Quaternion {
+    pub(crate) a: i32,
+    pub(crate) b: i32,
+    pub(crate) c: i32,
+    pub(crate) d: i32,
 }
 
 /// A product of two components of a turn.
@@ -58,7 +58,7 @@ fn diagonal(p: i64, q: i64, r: i64, s: i64) -> i64
 
 impl Quaternion {
     /// The turn of these components.
-    pub fn of(parts: [i32; 4]) -> Quaternion
+    pub(crate) fn of(parts: [i32; 4]) -> Quaternion
         ensures { result ≡ quaternion_of parts }
     {
         Quaternion {
@@ -70,7 +70,7 @@ impl Quaternion {
     }
 
     /// The sum of the squares of the components.
-    pub fn norm(self) -> i64
+    pub(crate) fn norm(self) -> i64
         requires { IsTurn self }
         ensures { result ≡ norm self }
     {
@@ -83,7 +83,7 @@ impl Quaternion {
         )
     }
 
-    pub fn row_x(self) -> Point3
+    pub(crate) fn row_x(self) -> Point3
         requires { IsTurn self }
         ensures { result ≡ row_x self }
     {
@@ -99,7 +99,7 @@ impl Quaternion {
         }
     }
 
-    pub fn row_y(self) -> Point3
+    pub(crate) fn row_y(self) -> Point3
         requires { IsTurn self }
         ensures { result ≡ row_y self }
     {
@@ -115,7 +115,7 @@ impl Quaternion {
         }
     }
 
-    pub fn row_z(self) -> Point3
+    pub(crate) fn row_z(self) -> Point3
         requires { IsTurn self }
         ensures { result ≡ row_z self }
     {

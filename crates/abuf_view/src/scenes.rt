@@ -10,7 +10,7 @@ use abuf_num::{List, NoMemory};
 use abuf_scene::Scene;
 use std::alloc::Global;
 
-// The primitives of the scene's triangles, in order.
+/// The primitives of the scene's triangles, in order.
 fn project_all(alloc: Global, scene: &Scene, camera: &Camera) -> Result<PrimitiveLists, NoMemory>
     requires { All IsTriangleInRange scene.now.triangles }
     ensures tris { IfOk result (λ p. p.tris ≡ map (λ q. q.triangle) (prims camera.now scene.now.triangles)) }

@@ -12,16 +12,16 @@ use abuf_num::limits::MAX_DEPTH;
 use abuf_num::{Reciprocal, floor_div, product, round_div};
 use abuf_raster::{Point, ScreenTri};
 
-// The size below which half of the divisor can be added to it.
+/// The size below which half of the divisor can be added to it.
 const SHORT_SIZE: u64 = 4611686018427387904;
 
-// The w below which half of 512 times it is below the greatest size.
+/// The w below which half of 512 times it is below the greatest size.
 const SHORT_W: u64 = 18014398509481984;
 
-// The near plane's w below which 63 bits hold 16777215 times it.
+/// The near plane's w below which 63 bits hold 16777215 times it.
 const SHORT_PLANE: u64 = 549755813888;
 
-// 128 times the height, the focal length and the distance from the middle.
+/// 128 times the height, the focal length and the distance from the middle.
 fn wide_size(height: u32, focal: i64, x: i64) -> i128
     requires height { height ≤ MAX_SIDE }
     requires focal { (pos 0 ≤ℤ focal) × (focal ≤ℤ pos 1048576) }
@@ -33,7 +33,7 @@ fn wide_size(height: u32, focal: i64, x: i64) -> i128
     product(scale, x)
 }
 
-// `screen_coordinate` in 128 bits.
+/// `screen_coordinate` in 128 bits.
 fn wide_coordinate(height: u32, focal: i64, x: i64, w: i64) -> i64
     requires height { height ≤ MAX_SIDE }
     requires focal { (pos 0 ≤ℤ focal) × (focal ≤ℤ pos 1048576) }
@@ -46,7 +46,7 @@ fn wide_coordinate(height: u32, focal: i64, x: i64, w: i64) -> i64
     round_div(wide_size(height, focal, x), product(65536, w)) as i64
 }
 
-// The height times the focal length and the distance from the middle, where it is short.
+/// The height times the focal length and the distance from the middle, where it is short.
 fn size_of(height: u32, focal: i64, x: i64) -> Option<u64>
     requires height { height ≤ MAX_SIDE }
     requires focal { unsigned_abs focal ≤ 1048576 }
@@ -63,7 +63,7 @@ fn size_of(height: u32, focal: i64, x: i64) -> Option<u64>
     }
 }
 
-// 128 times the size over 65536 times w, to the nearest: with the common factor 128 left out, (size + 256 w) / (512 w).
+/// 128 times the size over 65536 times w, to the nearest: with the common factor 128 left out, (size + 256 w) / (512 w).
 fn nearest_coordinate(size: u64, w: Reciprocal) -> u64
     requires size { size < 2 ^ 62 }
     requires small { w.divisor < 2 ^ 54 }
@@ -73,7 +73,7 @@ fn nearest_coordinate(size: u64, w: Reciprocal) -> u64
     w.quotient((size + 256 * w.divisor) / 512)
 }
 
-// The size with the sign of x.
+/// The size with the sign of x.
 fn with_sign(x: i64, size: u64) -> i64
     requires { size < 2 ^ 62 }
     ensures { result ≡ signed_by x size }
@@ -102,10 +102,10 @@ fn screen_coordinate(height: u32, focal: i64, x: i64, w: i64, reciprocal: Recipr
 
 /// A camera's screen.
 #[derive(Clone, Copy)]
-pub struct Screen {
-    pub width: u32,
-    pub height: u32,
-    pub focal: i64,
+pub(crate) struct Screen {
+    pub(crate) width: u32,
+    pub(crate) height: u32,
+    pub(crate) focal: i64,
 }
 
 /// Where a point of eye space is on the screen.
@@ -133,7 +133,7 @@ fn screen_position(
     }
 }
 
-// `depth_value` in 128 bits.
+/// `depth_value` in 128 bits.
 fn wide_depth(near_plane: NearPlane, s: EyePoint) -> u32
     requires near_plane { IsNearPlane near_plane.norm near_plane.w }
     requires inside { near_plane.w ≤ℤ s.w }
@@ -160,13 +160,13 @@ fn depth_value(near_plane: NearPlane, s: EyePoint, reciprocal: Reciprocal) -> u3
 
 /// A point on the screen, and its depth value.
 #[derive(Clone, Copy)]
-pub struct ScreenPoint {
-    pub position: Point,
-    pub depth: u32,
+pub(crate) struct ScreenPoint {
+    pub(crate) position: Point,
+    pub(crate) depth: u32,
 }
 
 /// The point that the camera sees there. What is divided by its w takes one reciprocal.
-pub fn corner(screen: Screen, near_plane: NearPlane, s: EyePoint) -> ScreenPoint
+pub(crate) fn corner(screen: Screen, near_plane: NearPlane, s: EyePoint) -> ScreenPoint
     requires near_plane { IsNearPlane near_plane.norm near_plane.w }
     requires width { screen.width ≤ MAX_SIDE }
     requires height { screen.height ≤ MAX_SIDE }
@@ -186,7 +186,7 @@ pub fn corner(screen: Screen, near_plane: NearPlane, s: EyePoint) -> ScreenPoint
 }
 
 /// A triangle on the screen.
-pub fn on_screen(screen: Screen, near_plane: NearPlane, t: EyeTriangle) -> ScreenTri
+pub(crate) fn on_screen(screen: Screen, near_plane: NearPlane, t: EyeTriangle) -> ScreenTri
     requires near_plane { IsNearPlane near_plane.norm near_plane.w }
     requires width { screen.width ≤ MAX_SIDE }
     requires height { screen.height ≤ MAX_SIDE }

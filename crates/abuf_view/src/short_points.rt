@@ -11,13 +11,13 @@ use abuf_raster::ScreenTri;
 
 /// A point on the screen: its position in 1/256 pixel, each coordinate below 2^31 either way, and its depth value.
 #[derive(Clone, Copy)]
-pub struct ShortPoint {
-    pub x: i32,
-    pub y: i32,
-    pub depth: u32,
+pub(crate) struct ShortPoint {
+    pub(crate) x: i32,
+    pub(crate) y: i32,
+    pub(crate) depth: u32,
 }
 
-// The number, where it is short.
+/// The number, where it is short.
 #[tactic(auto, unfolding(crate::specs::ShortPoints::short))]
 fn short(z: i64) -> Option<i32>
     ensures { result ≡ short z }
@@ -29,7 +29,7 @@ fn short(z: i64) -> Option<i32>
     }
 }
 
-// The point of these coordinates, where both are short.
+/// The point of these coordinates, where both are short.
 fn short_of(x: Option<i32>, y: Option<i32>, depth: u32) -> Option<ShortPoint>
     ensures { result ≡ short_of x y depth }
 {
@@ -41,7 +41,7 @@ fn short_of(x: Option<i32>, y: Option<i32>, depth: u32) -> Option<ShortPoint>
 
 /// Where the eye sees a point of the scene. Returns `None` if the point is behind the near plane, or so far beside the screen that
 /// its coordinates aren't short.
-pub fn short_point(eye: &Eye, point: [i64; 3]) -> Option<ShortPoint>
+pub(crate) fn short_point(eye: &Eye, point: [i64; 3]) -> Option<ShortPoint>
     requires eye { IsEye eye.now }
     requires point { IsInRange point }
     ensures { result ≡ short_point eye.now point }
@@ -60,7 +60,7 @@ pub fn short_point(eye: &Eye, point: [i64; 3]) -> Option<ShortPoint>
 }
 
 /// The triangle of three points.
-pub fn joined(a: ShortPoint, b: ShortPoint, c: ShortPoint) -> Option<ScreenTri>
+pub(crate) fn joined(a: ShortPoint, b: ShortPoint, c: ShortPoint) -> Option<ScreenTri>
     ensures { IfSome result (λ t. t ≡ joined a b c) }
 {
     ScreenTri::new(

@@ -10,12 +10,13 @@ ghost use Rattle.abuf_view.specs.Primitives.{prims, HasTriangles, HasPaints};
 ghost use Rattle.abuf_view.specs.Chunks.{AreFaceChunks};
 
 use crate::camera::Camera;
-use crate::chunks::{face_chunks, put_together, with_capacity_for};
+use crate::chunks::{FaceChunk, face_chunks, primitives_of, put_together};
 use crate::palette::Palette;
 use crate::point_table::PointTable;
 use crate::primitive_lists::PrimitiveLists;
 use crate::primitive_lists::faces::project_chunk;
 use crate::projection::Projected;
+use crate::room::Room;
 use abuf_mtl::Materials;
 use abuf_num::NoMemory;
 use abuf_obj::FlatObj;
@@ -23,13 +24,13 @@ use abuf_scene::SceneFault;
 use std::alloc::Global;
 use std::thread::{Threads, map_vec};
 
-// The least number of faces for each of several workers. Starting a thread takes as long as making the primitives of some
-// hundred faces.
+/// The least number of faces for each of several workers. Starting a thread takes as long as making the primitives of some
+/// hundred faces.
 const MIN_FACES: usize = 4096;
 
-// How many faces a chunk has, so that no worker has two chunks: the longest is as short as whole faces allow, and there is one chunk
-// alone where two workers would have fewer than the least number each.
-pub fn faces_per_chunk(faces: usize, least: usize, threads: u32) -> usize
+/// How many faces a chunk has, so that no worker has two chunks: the longest is as short as whole faces allow, and there is one
+/// chunk alone where two workers would have fewer than the least number each.
+pub(crate) fn faces_per_chunk(faces: usize, least: usize, threads: u32) -> usize
     requires least { 1 ≤ least }
     requires threads { (1 ≤ threads) × (threads ≤ MAX_THREADS) }
     ensures some { 1 ≤ result }
@@ -40,10 +41,10 @@ pub fn faces_per_chunk(faces: usize, least: usize, threads: u32) -> usize
     faces.div_ceil(workers).max(1)
 }
 
-// What the workers give of all faces, each of a chunk of so many.
+/// What the workers give of all faces, each of a chunk of so many. The first makes its primitives in the room.
 fn project_chunks<R: Threads + Sync>(
     rt: &R,
-    alloc: Global,
+    room: Room,
     table: &PointTable,
     obj: &FlatObj,
     palette: &Palette,
@@ -55,20 +56,20 @@ fn project_chunks<R: Threads + Sync>(
     requires per_chunk { 1 ≤ per_chunk }
     ensures { IfOk result (λ chunks. AreFaceChunks (look_up palette.now.materials.value) obj.now table.now.eye per_chunk obj.now.faces chunks.items) }
 {
-    let chunks = face_chunks(alloc, obj.faces(), per_chunk)?;
+    let chunks = face_chunks(room, obj.faces(), per_chunk)?;
     let made = map_vec(
         rt,
         chunks,
-        &|chunk| project_chunk(alloc, table, obj, palette, chunk),
+        &|chunk| project_chunk(chunk, table, obj, palette),
     )?;
     Ok(made)
 }
 
-// The primitives of all faces as the eye of the table sees them, by the paints of the palette. Where one chunk of so many
-// faces has all of them, no thread is started.
-pub fn all_faces<R: Threads + Sync>(
+/// The primitives of all faces as the eye of the table sees them, by the paints of the palette, made in the room. Where one chunk of
+/// so many faces has all of them, no thread is started.
+pub(crate) fn all_faces<R: Threads + Sync>(
     rt: &R,
-    alloc: Global,
+    room: Room,
     table: &PointTable,
     obj: &FlatObj,
     palette: &Palette,
@@ -85,20 +86,21 @@ pub fn all_faces<R: Threads + Sync>(
 {
     let faces = obj.faces();
     if faces.len() <= per_chunk {
-        return project_chunk(alloc, table, obj, palette, faces);
+        return project_chunk(FaceChunk { faces, room }, table, obj, palette);
     }
-    let room = with_capacity_for(alloc, &faces)?;
-    let chunks = project_chunks(rt, alloc, table, obj, palette, per_chunk)?;
-    put_together(room, chunks)
+    let alloc = room.alloc;
+    let room = room.with_capacity(primitives_of(&faces))?;
+    let chunks = project_chunks(rt, room, table, obj, palette, per_chunk)?;
+    put_together(alloc, chunks)
 }
 
 /// What [`assemble`](abuf_scene::assemble) and then [`project`](crate::project) give: the primitives of the faces' triangles, in
 /// order, or the line of the first face whose name has no material. No list of the triangles is made, which would take 80 bytes each.
 /// The faces are shared among 1 to 64 workers, and the answer is the same for every number of them; where there are few, one
-/// worker has them all. Memory may run out at any time.
+/// worker has them all. The primitives are made in the room. Memory may run out at any time.
 pub fn project_faces<R: Threads + Sync>(
     rt: &R,
-    alloc: Global,
+    room: Room,
     obj: &FlatObj,
     materials: &Materials,
     camera: &Camera,
@@ -113,10 +115,11 @@ pub fn project_faces<R: Threads + Sync>(
     ensures paints { (libraries : Items (Items ℕ)) → StandsFor libraries materials.now →
         HasPaints result (prims camera.now (triangles libraries obj.now)) }
 {
+    let alloc = room.alloc;
     let faces = obj.faces().len();
     let table = PointTable::new(rt, alloc, camera.eye(), obj.points(), faces, threads)?;
     let palette = Palette::new(alloc, obj.names(), materials)?;
     let per_chunk = faces_per_chunk(faces, MIN_FACES, threads);
-    let made = all_faces(rt, alloc, &table, obj, &palette, per_chunk)?;
+    let made = all_faces(rt, room, &table, obj, &palette, per_chunk)?;
     Ok(made.into_projected())
 }

@@ -5,7 +5,7 @@ ghost use Rattle.abuf_view.specs.Turns.{turn_component, some_turn, turn_from};
 
 use abuf_num::signed_number;
 
-// A component of a turn.
+/// A component of a turn.
 fn turn_component(text: &[u8]) -> Option<i32>
     ensures value { result ≡ turn_component text.now }
     ensures small { IfSome result (λ z. unsigned_abs z ≤ 1024) }
@@ -16,7 +16,7 @@ fn turn_component(text: &[u8]) -> Option<i32>
     }
 }
 
-// A quaternion whose components are not all 0.
+/// A quaternion whose components are not all 0.
 fn some_turn(a: i32, b: i32, c: i32, d: i32) -> Option<[i32; 4]>
     requires a { unsigned_abs a ≤ 1024 }
     requires b { unsigned_abs b ≤ 1024 }

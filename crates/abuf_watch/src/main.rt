@@ -6,34 +6,13 @@
 //! run to run. To standard output it writes what was seen last of each pixel, when all had drawn: the numbers and the masks of its
 //! fragments. Then come the number of all fragments, the length of the longest list of a pixel, and the sum of all pixels' sums
 //! over their samples. All of that is the same for every number of threads and however they run.
-//!
-//! The promises are the contracts of [`watch`](watching::watch) and of [`watch_and_report`](show::watch_and_report).
 #![tactic(auto)]
 
-mod grid;
-mod load;
-mod looking;
-mod looks;
-mod report;
-mod show;
-mod sighting;
-mod signal;
-mod stop;
-#[cfg(test)]
-mod tests;
-mod watch;
-mod watching;
-
-use crate::load::load;
-use crate::show::{WatchOutput, show};
-use crate::stop::Stop;
-use abuf_cli::{Command, Storage, What, read_words};
-use abuf_io::{FolderShelf, ReadSource, Shelf, Source};
-use std::alloc::Global;
+use abuf_io::{FolderShelf, ReadSource};
+use abuf_watching::{Stop, WatchOutput, run};
 use std::io::ErrorKind;
 use std::process::ExitCode;
 use std::rt::Env;
-use std::thread::Threads;
 use std::{env, io};
 
 /// The words after the program's name.
@@ -43,23 +22,6 @@ fn words(rt: &(impl Env + AllocGlobal)) -> Result<Vec<String>, Stop> {
         Err(error) if error.kind() == ErrorKind::OutOfMemory => Err(Stop::Memory),
         Err(_) => Err(Stop::Words),
     }
-}
-
-/// Reads the scene, draws and watches.
-fn run<R: Threads + Sync, S: Source, H: Shelf>(
-    rt: &R,
-    alloc: Global,
-    words: &[String],
-    source: &mut S,
-    shelf: &mut H,
-) -> Result<WatchOutput, Stop> {
-    let job = read_words(alloc, words)?;
-    match (job.command(), job.storage()) {
-        (Command::Draw(What::Render), Storage::OneFrame) => {}
-        _ => return Err(Stop::Words),
-    }
-    let shown = load(rt, alloc, &job, source, shelf)?;
-    show(rt, alloc, &job, &shown)
 }
 
 /// Writes what was seen: how the looks ended to standard error, and the report to standard output.
@@ -91,11 +53,10 @@ fn refuse(rt: &impl Eprint, stop: Stop) -> io::Result<()> {
 }
 
 fn main(rt: HostRuntime) -> ExitCode {
-    let alloc = rt.alloc();
     let mut source = ReadSource::new(rt.stdin());
     let mut shelf = FolderShelf::new(&rt);
     let ran = match words(&rt) {
-        Ok(words) => run(&rt, alloc, words.as_slice(), &mut source, &mut shelf),
+        Ok(words) => run(&rt, rt.alloc(), words.as_slice(), &mut source, &mut shelf),
         Err(stop) => Err(stop),
     };
     match ran {

@@ -7,7 +7,7 @@ use crate::closed::Closed;
 use crate::frozen_words::FrozenWords;
 use abuf_num::NoMemory;
 
-// Where the walks along the lists of the eight pixels from this one on begin.
+/// Where the walks along the lists of the eight pixels from this one on begin.
 fn heads(words: &FrozenWords, pixels: u32, pixel: u32) -> [u64; 8]
     requires { pixels < length words.now }
     ensures length { length result ≡ 8 }
@@ -23,7 +23,7 @@ fn heads(words: &FrozenWords, pixels: u32, pixel: u32) -> [u64; 8]
     at
 }
 
-// Empties the buffers, and keeps their memory.
+/// Empties the buffers, and keeps their memory.
 fn clear_all(lists: &mut [Vec<u64>; 8])
     ensures length { length lists.new ≡ 8 }
     ensures empty { (k : ℕ) → k < 8 → slice_index_or (map vec_items lists.new) k [] ≡ [] }
@@ -33,7 +33,7 @@ fn clear_all(lists: &mut [Vec<u64>; 8])
     }
 }
 
-// Whether each walk has come to the end of its list.
+/// Whether each walk has come to the end of its list.
 #[inline(always)]
 fn all_ended(at: &[u64; 8]) -> bool
     ensures { IsTrue result → (k : ℕ) → k < 8 → slice_index at.now k ≡ 0 }
@@ -41,7 +41,7 @@ fn all_ended(at: &[u64; 8]) -> bool
     *at == [0; 8]
 }
 
-// Passes the node to which the word refers, if it isn't 0: puts its payload last in the list, and returns its next.
+/// Passes the node to which the word refers, if it isn't 0: puts its payload last in the list, and returns its next.
 #[inline(always)]
 pub(crate) fn advance(
     words: &FrozenWords,
@@ -60,7 +60,7 @@ pub(crate) fn advance(
     Ok(words.word(node + 1))
 }
 
-// Each lane passes one node, as by `advance`. No lane's loads wait for those of another.
+/// Each lane passes one node, as by `advance`. No lane's loads wait for those of another.
 #[inline(always)]
 fn advance_all(
     words: &FrozenWords,

@@ -5,7 +5,7 @@ ghost use Rattle.abuf_num.specs.declared.limits.TheConstants.{MAX_DEPTH, MAX_SID
 ghost use Rattle.abuf_raster.specs.Triangle.{IsWithin};
 ghost use Rattle.abuf_raster.specs.Samples.{offsets_of};
 ghost use Rattle.abuf_raster.specs.Coverage.{covers};
-ghost use Rattle.abuf_raster.specs.Depth.{weighted_depth, depth_key, spread, IsLeastKey, IsGreatestKey, IsLeastQuotient, IsGreatestQuotient, min_depth, max_depth, HasNoKeyAbove, HasNoKeyBelow};
+ghost use Rattle.abuf_raster.specs.Depth.{weighted_depth, depth_key, spread, IsMinKey, IsMaxKey, IsMinQuotient, IsMaxQuotient, min_depth, max_depth, HasNoKeyAbove, HasNoKeyBelow};
 
 use crate::edge::edge_function;
 use crate::pattern::{Pattern, sample_position};
@@ -91,8 +91,8 @@ impl ScreenTri {
         requires position { IsWithin (2 ^ 45) position }
         ensures rising { result.0 ≤ result.1 }
         ensures small { result.1 ≤ MAX_DEPTH }
-        ensures low { pos 0 <ℤ area → IsLeastQuotient self.now position area result.0 }
-        ensures high { pos 0 <ℤ area → IsGreatestQuotient self.now position area result.1 }
+        ensures low { pos 0 <ℤ area → IsMinQuotient self.now position area result.0 }
+        ensures high { pos 0 <ℤ area → IsMaxQuotient self.now position area result.1 }
     {
         if area <= 0 {
             return (0, MAX_DEPTH);
@@ -148,8 +148,8 @@ pub fn depth_bounds(t: &ScreenTri, x: u32, y: u32, pattern: Pattern) -> (u32, u3
     requires y_small { y < MAX_SIDE }
     ensures rising { result.0 ≤ result.1 }
     ensures small { result.1 ≤ MAX_DEPTH }
-    ensures low { IsLeastKey t.now (offsets_of pattern) x y result.0 }
-    ensures high { IsGreatestKey t.now (offsets_of pattern) x y result.1 }
+    ensures low { IsMinKey t.now (offsets_of pattern) x y result.0 }
+    ensures high { IsMaxKey t.now (offsets_of pattern) x y result.1 }
 {
     let centre = sample_position((0, 0), x, y);
     let t = t.positive_order();

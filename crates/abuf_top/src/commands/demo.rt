@@ -15,7 +15,7 @@ use std::alloc::Global;
 use std::thread::Threads;
 
 /// The summary of a drawing of the demonstration scene.
-pub fn summarize<R: Threads + Sync, W: Resolve, G: Gate + Sync>(
+pub(crate) fn summarize<R: Threads + Sync, W: Resolve, G: Gate + Sync>(
     rt: &R,
     alloc: Global,
     drawing: &Drawing,

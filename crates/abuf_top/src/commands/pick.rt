@@ -15,7 +15,7 @@ use std::alloc::Global;
 use std::thread::Threads;
 
 /// The report of pixel (x, y). Its list is read before the frame is closed, and counts where no fragment was lost.
-pub fn pick<R: Threads + Sync, G: Gate + Sync>(
+pub(crate) fn pick<R: Threads + Sync, G: Gate + Sync>(
     rt: &R,
     alloc: Global,
     drawing: &Drawing,

@@ -108,7 +108,7 @@ fn render_peeled<R: Threads + Sync>(rt: &R, alloc: Global, drawing: &Drawing) ->
 }
 
 /// The image. Bands and layers are drawn over no gate of the caller's, and resolved by no way of the caller's.
-pub fn render<R: Threads + Sync, W: Resolve, G: Gate + Sync>(
+pub(crate) fn render<R: Threads + Sync, W: Resolve, G: Gate + Sync>(
     rt: &R,
     alloc: Global,
     drawing: &Drawing,

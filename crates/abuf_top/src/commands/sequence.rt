@@ -35,7 +35,7 @@ use std::thread::Threads;
 
 /// The triangles of a scene, and how their images are drawn.
 #[derive(Drop)]
-pub struct Images {
+pub(crate) struct Images {
     scene: Scene,
     shots: List<Shot>,
     plan: Plan,
@@ -90,7 +90,7 @@ impl Images {
     }
 }
 
-// The shots of the bytes of a path.
+/// The shots of the bytes of a path.
 fn read_shots(alloc: Global, content: &[u8]) -> Result<List<Shot>, Stop>
     requires { length content.now ≤ MAX_PATH_BYTES }
     ensures told { Gives (shots_by (path content.now)) ⊥ result }
@@ -105,7 +105,7 @@ fn read_shots(alloc: Global, content: &[u8]) -> Result<List<Shot>, Stop>
     }
 }
 
-// The shots of the path of this name.
+/// The shots of the path of this name.
 fn fetch_path<H: Shelf>(alloc: Global, shelf: &mut H, name: &[u8]) -> Result<List<Shot>, Stop>
     ensures told { H.tells shelf.old ≡ true →
         Gives (path_verdict (H.holds shelf.old name.now)) (Rose (H.faults shelf.old) (H.faults shelf.new)) result }
@@ -125,7 +125,7 @@ fn fetch_path<H: Shelf>(alloc: Global, shelf: &mut H, name: &[u8]) -> Result<Lis
     }
 }
 
-// The plan of a job.
+/// The plan of a job.
 fn plan_of(job: &Job) -> Plan
     ensures value { result ≡ plan_of job.now }
     ensures sound { IsPlan result }
@@ -144,7 +144,7 @@ fn plan_of(job: &Job) -> Plan
     }
 }
 
-// The images of these shots of a scene. What was read of its file is freed.
+/// The images of these shots of a scene. What was read of its file is freed.
 fn images_of(alloc: Global, job: &Job, shots: List<Shot>, loaded: Loaded) -> Result<Task, Stop>
     requires scene { IsScene loaded.obj }
     requires command { IsSequence job.now.command }
@@ -155,7 +155,11 @@ fn images_of(alloc: Global, job: &Job, shots: List<Shot>, loaded: Loaded) -> Res
     ensures cause { IfErr result (HasReadCause ⊥) }
     ensures own { IfOk result (IsTaskOf (Ok job.now)) }
 {
-    let Loaded { obj, materials } = loaded;
+    let Loaded {
+        room: _,
+        obj,
+        materials,
+    } = loaded;
     let Ok(obj) = obj.into_obj(alloc) else {
         return Err(Stop::Memory);
     };
@@ -163,7 +167,7 @@ fn images_of(alloc: Global, job: &Job, shots: List<Shot>, loaded: Loaded) -> Res
     Ok(Task::Sequence(Images::new(scene, shots, plan_of(job))))
 }
 
-// The images of these shots of the scene that the source has left.
+/// The images of these shots of the scene that the source has left.
 fn read_images<R: Threads + Sync, S: Source, H: Shelf>(
     rt: &R,
     alloc: Global,
@@ -184,7 +188,7 @@ fn read_images<R: Threads + Sync, S: Source, H: Shelf>(
 
 /// The images of a job's path. The path comes first: where it is refused, the scene isn't read. The scene and its libraries
 /// are read and refused by also where the path has no shots.
-pub fn prepare_images<R: Threads + Sync, S: Source, H: Shelf>(
+pub(crate) fn prepare_images<R: Threads + Sync, S: Source, H: Shelf>(
     rt: &R,
     alloc: Global,
     job: &Job,
@@ -201,7 +205,7 @@ pub fn prepare_images<R: Threads + Sync, S: Source, H: Shelf>(
 }
 
 /// Writes the images, up to the first that is full.
-pub fn write_images<R: Threads + Sync, O: Sink>(
+pub(crate) fn write_images<R: Threads + Sync, O: Sink>(
     rt: &R,
     alloc: Global,
     images: &Images,

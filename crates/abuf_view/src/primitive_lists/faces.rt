@@ -6,17 +6,17 @@ ghost use Rattle.abuf_scene.specs.Lookup.{look_up, line_if_none};
 ghost use Rattle.abuf_view.specs.Eye.{clipped_by, on_screen_by, tris_by, paints_by};
 ghost use Rattle.abuf_view.specs.Chunks.{unknown_in};
 
+use crate::chunks::FaceChunk;
 use crate::palette::Palette;
 use crate::point_table::PointTable;
 use crate::primitive_lists::PrimitiveLists;
 use abuf_num::{NoMemory, Paint};
-use abuf_obj::{FaceRef, FaceSlice, FlatObj};
+use abuf_obj::{FaceRef, FlatObj};
 use abuf_scene::{SceneFault, fan_triangle};
-use std::alloc::Global;
 
 impl PrimitiveLists {
-    // Puts the primitives of a fan's triangle of the corners 0, i and i + 1 last. Where the table has all three corners, no point is
-    // computed.
+    /// Puts the primitives of a fan's triangle of the corners 0, i and i + 1 last. Where the table has all three corners, no
+    /// point is computed.
     fn push_fan_triangle(
         &mut self,
         table: &PointTable,
@@ -37,7 +37,7 @@ impl PrimitiveLists {
         }
     }
 
-    // Puts the primitives of a fan last.
+    /// Puts the primitives of a fan last.
     fn push_fan(
         &mut self,
         table: &PointTable,
@@ -55,7 +55,7 @@ impl PrimitiveLists {
         Ok(())
     }
 
-    // Puts the primitives of a face last, or refuses a name without a material.
+    /// Puts the primitives of a face last, or refuses a name without a material.
     fn push_face(
         &mut self,
         table: &PointTable,
@@ -83,23 +83,23 @@ impl PrimitiveLists {
     }
 }
 
-// The primitives of a chunk of the file's faces as the eye of the table sees them, by the paints of the palette.
-pub fn project_chunk(
-    alloc: Global,
+/// The primitives of a chunk of the file's faces as the eye of the table sees them, by the paints of the palette, made in its room.
+pub(crate) fn project_chunk(
+    chunk: FaceChunk,
     table: &PointTable,
     obj: &FlatObj,
     palette: &Palette,
-    faces: FaceSlice,
 ) -> Result<PrimitiveLists, SceneFault>
     requires points { table.now.points.now ≡ obj.now.points }
     requires names { palette.now.names.value ≡ obj.now.names }
-    requires faces { All (IsFace (length obj.now.points) (length obj.now.names)) faces }
-    ensures fault { IfErr result (Tells (unknown_in (look_up palette.now.materials.value) obj.now.names faces.entry)) }
-    ensures known { OnOk result (unknown_in (look_up palette.now.materials.value) obj.now.names faces.entry ≡ None) }
-    ensures tris { IfOk result (λ p. p.tris ≡ tris_by table.now.eye (flat_map (triangles_of (look_up palette.now.materials.value) obj.now) faces.entry)) }
-    ensures paints { IfOk result (λ p. p.paints ≡ paints_by table.now.eye (flat_map (triangles_of (look_up palette.now.materials.value) obj.now) faces.entry)) }
+    requires faces { All (IsFace (length obj.now.points) (length obj.now.names)) chunk.faces }
+    ensures fault { IfErr result (Tells (unknown_in (look_up palette.now.materials.value) obj.now.names chunk.entry.faces)) }
+    ensures known { OnOk result (unknown_in (look_up palette.now.materials.value) obj.now.names chunk.entry.faces ≡ None) }
+    ensures tris { IfOk result (λ p. p.tris ≡ tris_by table.now.eye (flat_map (triangles_of (look_up palette.now.materials.value) obj.now) chunk.entry.faces)) }
+    ensures paints { IfOk result (λ p. p.paints ≡ paints_by table.now.eye (flat_map (triangles_of (look_up palette.now.materials.value) obj.now) chunk.entry.faces)) }
 {
-    let mut made = PrimitiveLists::with_capacity(alloc, faces.len())?;
+    let FaceChunk { faces, room } = chunk;
+    let mut made = room.with_capacity(faces.len())?.into_lists();
     let mut left = faces;
     while let Some((face, later)) = left.split_first() {
         made.push_face(table, obj, palette, &face)?;

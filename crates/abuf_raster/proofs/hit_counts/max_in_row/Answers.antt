@@ -21,7 +21,7 @@ plus-requires g c =
     let x : ℕ = c.args.span.x + c.loop-column._column in
     let small : AreAtMost (9 * (r * r)) (numbers_of g.V.Width.number c.loop-column.at) =
     subst (AreAtMost (9 * (r * r))) (sym c.loop-column.invariant.at) (values_small r c.args.t.now (pixel_centre x c.args.span.y) c.requires.wide c.requires.near (centre_near r x c.args.span.y c.requires.wide (omega arith) (omega arith))) in
-    more_fits r (numbers_of g.V.Width.number c.loop-column.at) (numbers_of g.V.Width.number c.args.setup.now.samples.greatest) small c.requires.room
+    more_fits r (numbers_of g.V.Width.number c.loop-column.at) (numbers_of g.V.Width.number c.args.setup.now.samples.max) small c.requires.room
 
 pub plus-at-requires : goal.plus-at-requires
 plus-at-requires g c = room_right g.V.Width.reach c.args.t.now c.args.span.x c.args.span.y c.loop-column._column _ _ c.loop-column.invariant.at c.changes-right.ensures c.requires.wide c.requires.near (omega arith) (omega arith)
@@ -33,7 +33,7 @@ loop-column-preserved g c =
     let x : ℕ = c.args.span.x + k in
     let y : ℕ = c.args.span.y in
     let t = c.args.t.now in
-    let m : Numbers = numbers_of g.V.Width.number c.args.setup.now.samples.greatest in
+    let m : Numbers = numbers_of g.V.Width.number c.args.setup.now.samples.max in
     let tested : c.none_below.result ≡ none_below (plus_all (values_at t (pixel_centre x y)) m) = c.none_below.ensures ∙ (ap none_below c.plus.ensures ∙ ap (λ (n : Numbers). none_below (plus_all n m)) i.at) in
     record {
       at = c.plus-at.ensures ∙ step_right g.V.Width.reach t c.args.span.x y k _ _ i.at c.changes-right.ensures;

@@ -11,7 +11,7 @@ use Rattle.abuf_raster.proofs.hit_counts.max_in_tile.Goals as goal
 pub returns-then-rejects-clause-bound : goal.returns-then-rejects-clause-bound
 returns-then-rejects-clause-bound g c = λ o n is.
     let s = c.values_at-start in
-    let none = rejected c.args.t.now n o c.args.tile (numbers_of g.V.Width.number s.result) (numbers_of g.V.Width.number c.args.setup.now.samples.greatest) c.requires.positive c.requires.tile s.ensures.value is.samples.high (sym c.rejects.ensures ∙ c.if-rejects.true) in
+    let none = rejected c.args.t.now n o c.args.tile (numbers_of g.V.Width.number s.result) (numbers_of g.V.Width.number c.args.setup.now.samples.max) c.requires.positive c.requires.tile s.ensures.value is.samples.high (sym c.rejects.ensures ∙ c.if-rejects.true) in
     omega (arith, ap (λ (hs : List Hit). length hs) none)
 
 pub returns-then-accepts-clause-bound : goal.returns-then-accepts-clause-bound

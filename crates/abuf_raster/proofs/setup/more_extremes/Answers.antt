@@ -12,4 +12,4 @@ loop-k-preserved g c =
     let e = c.changes_to_sample-change.ensures in
     let small : AreAtMost (r * r) (numbers_of g.V.Width.number c.changes_to_sample-change.result) = subst (AreAtMost (r * r)) (sym e) (sample_room r c.args.t.now c.args.pattern c.loop-k.k c.requires.wide c.requires.near (omega arith)) in
     more_between r c.args.t.now (offsets_of c.args.pattern) c.loop-k.k _ _ (numbers_of g.V.Width.number c.changes_to_sample-change.result) _ _ i e
-    c.lower.ensures.one c.lower.ensures.other c.higher.ensures.one c.higher.ensures.other (c.lower.ensures.bound (r * r) i.least_small small) (c.higher.ensures.bound (r * r) i.greatest_small small)
+    c.lower.ensures.one c.lower.ensures.other c.higher.ensures.one c.higher.ensures.other (c.lower.ensures.bound (r * r) i.min_small small) (c.higher.ensures.bound (r * r) i.max_small small)

@@ -8,7 +8,7 @@ use Rattle.abuf_view.proofs.chunks.put_together.Goals as goal
 
 pub loop-chunk-init : goal.loop-chunk-init
 loop-chunk-init c =
-    before_none _ _ (c.into_vec-tris.ensures ∙ c.requires.empty.0) (c.into_vec-paints.ensures ∙ c.requires.empty.1) ∙ ap together c.into_iter-chunk-iterator.ensures.into_iter_gives.0
+    before_none _ _ c.new-tris.ensures.items c.new-paints.ensures.items ∙ ap together c.into_iter-chunk-iterator.ensures.into_iter_gives.0
 
 pub returns-in_err-made : goal.returns-in_err-made
 returns-in_err-made c =

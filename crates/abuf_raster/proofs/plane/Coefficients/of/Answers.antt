@@ -5,7 +5,7 @@ use Rattle.abuf_raster.specs.Edge.{edge_function}
 use Rattle.abuf_raster.specs.Triangle.{Triangle, AreWithin}
 use Rattle.abuf_raster.specs.Slopes.{slope_across, slope_down}
 use Rattle.abuf_raster.proofs.Bounds.{back64}
-use Rattle.abuf_raster.proofs.Planes.{sum_is, move, more_is, slope_is, greatest_is}
+use Rattle.abuf_raster.proofs.Planes.{sum_is, move, more_is, slope_is, max_is}
 use Rattle.abuf_raster.proofs.plane.Coefficients.of.Goals as goal
 
 whole : (r : ℤ) (d : ℕ) → pos 0 <ℤ r → d ≡ unsigned_abs r → r ≡ pos d
@@ -26,8 +26,8 @@ returns c =
     let back : to_z w64 (of_z w64 r) ≡ r = to_z-of_z w64 r (record { sfits = c.edge_function-area.type_inv }) in
     let some : pos 0 <ℤ r = omega (arith, ints, back) in
     let area : r ≡ pos c.of.result.divisor = whole r c.of.result.divisor some (c.of.ensures ∙ ap unsigned_abs back) in
-    let greatest = greatest_is t.qa t.qb t.qc c.max.result c.max-greatest.result c.max.ensures c.max-greatest.ensures in
-    let room : unsigned_abs (to_z w64 (of_z w64 r)) * (c.max-greatest.result + 1) < 2 ^ 62 = omega (arith, ints, back) in
+    let max_depth = max_is t.qa t.qb t.qc c.max.result c.max-max_depth.result c.max.ensures c.max-max_depth.ensures in
+    let room : unsigned_abs (to_z w64 (of_z w64 r)) * (c.max-max_depth.result + 1) < 2 ^ 62 = omega (arith, ints, back) in
     let across : to_z w64 (of_z w64 c.slope-across.result) ≡ slope_across u =
     to_z-of_z w64 c.slope-across.result (record { sfits = c.slope-across.type_inv })
     ∙ slope_is c.slope-across.result t.a.y t.b.y t.c.y t.qa t.qb t.qc c.slope-across.ensures.value n.a_near.1 n.b_near.1 n.c_near.1 in
@@ -41,8 +41,8 @@ returns c =
     ∙ more_is c.more-start.result c.more-at_side.result c.slope-down.result c.difference-2.result c.more-at_side.result (to_z w64 (of_z w64 c.slope-down.result)) (neg_ℤ t.a.y) c.more-start.ensures (to_z-of_z w64 c.more-at_side.result (record { sfits = c.more-at_side.type_inv })) refl (less c.difference-2.result t.a.y n.a_near.1 c.difference-2.ensures.value) in
     move u c.args.t.now c.t.view_is (record {
       area = sym c.edge_function-area.ensures ∙ area;
-      nearest = omega (arith, greatest, n.qa_small, n.qb_small, n.qc_small, c.max.ensures, c.max-greatest.ensures);
-      depths = subst (λ (k : ℕ). k < 2 ^ 62) (λ i. sym c.of.ensures i * (greatest i + 1)) room;
+      nearest = omega (arith, max_depth, n.qa_small, n.qb_small, n.qc_small, c.max.ensures, c.max-max_depth.ensures);
+      depths = subst (λ (k : ℕ). k < 2 ^ 62) (λ i. sym c.of.ensures i * (max_depth i + 1)) room;
       to_right = across;
       to_bottom = down;
       sum = sum_is u _ _ _ c.more-at_corner.result c.more-at_side.result across down first second third;
@@ -57,4 +57,4 @@ slope-down-requires-clause-small c = let w = subst (AreWithin (2 ^ 29)) (sym c.t
     (fits c.t.inside.a.x w.0.0, fits c.t.inside.c.x w.2.0, fits c.t.inside.b.x w.1.0)
 
 pub overflow_mul-area : goal.overflow_mul-area
-overflow_mul-area c = let m = mul-le (unsigned_abs (to_z w64 (of_z w64 c.edge_function-area.result))) (c.max-greatest.result + 1) (2 ^ 63) (2 ^ 33) (omega (arith, ints)) (omega arith) in omega (arith, m)
+overflow_mul-area c = let m = mul-le (unsigned_abs (to_z w64 (of_z w64 c.edge_function-area.result))) (c.max-max_depth.result + 1) (2 ^ 63) (2 ^ 33) (omega (arith, ints)) (omega arith) in omega (arith, m)

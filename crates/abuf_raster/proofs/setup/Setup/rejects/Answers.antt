@@ -8,4 +8,4 @@ plus-highest-requires g c = tile_fits g.V.Width.reach c.args.t.now c.args.tile f
 
 pub plus-requires : goal.plus-requires
 plus-requires g c = tile_samples_fit g.V.Width.reach c.args.t.now c.args.tile false (numbers_of g.V.Width.number c.args.start) (numbers_of g.V.Width.number c.farthest.result) c.requires.wide c.requires.near c.requires.tile c.requires.start c.farthest.ensures
-    (numbers_of g.V.Width.number c.plus-highest.result) (numbers_of g.V.Width.number c.args.self.now.samples.greatest) c.plus-highest.ensures c.requires.samples
+    (numbers_of g.V.Width.number c.plus-highest.result) (numbers_of g.V.Width.number c.args.self.now.samples.max) c.plus-highest.ensures c.requires.samples

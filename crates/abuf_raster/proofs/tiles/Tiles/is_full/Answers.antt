@@ -13,6 +13,6 @@ returns-in-Some c = λ yes.
     let b = c.args.tile in
     let os = offsets_of w.pattern in
     let s = subst (StandsFor w.triangle os) c.in-Some.is c.requires.setup in
-    let full = fully_accepted w.triangle w.prim os b (numbers_of (λ (z : ℤ). z) c.values_at-start.result) (numbers_of (λ (z : ℤ). z) c.in-Some.setup.samples.least) c.requires.positive c.requires.tile c.values_at-start.ensures.value
+    let full = fully_accepted w.triangle w.prim os b (numbers_of (λ (z : ℤ). z) c.values_at-start.result) (numbers_of (λ (z : ℤ). z) c.in-Some.setup.samples.min) c.requires.positive c.requires.tile c.values_at-start.ensures.value
     s.1.samples.low (sym c.accepts.ensures ∙ yes) (some_samples w.pattern) in
     sym (ap (λ (hs : List Hit). length hs) full) ∙ full_count w.prim (2 ^ length os - 1) b.x b.w b.y b.h

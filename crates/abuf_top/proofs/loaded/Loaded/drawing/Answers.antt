@@ -32,5 +32,4 @@ returns-clause-told g c = λ libraries stands.
     let projected = c.in_ok-projected.ensures in
     drawn c.args.job c.args.what c.camera.result.now (unknown libraries c.args.self.obj) (triangles libraries c.args.self.obj) _ _ c.new.result
     c.camera.ensures.value (projected.known libraries stands)
-    (ap (λ (p : Projected). p.tris) c.settled.ensures ∙ projected.tris libraries stands)
-    (ap (λ (p : Projected). p.paints) c.settled.ensures ∙ projected.paints libraries stands) c.new.ensures
+    (projected.tris libraries stands) (projected.paints libraries stands) c.new.ensures

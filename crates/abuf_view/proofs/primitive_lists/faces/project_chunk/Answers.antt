@@ -26,6 +26,6 @@ loop-face-preserved c =
     record {
       fine = All-tail P face later (subst (All P) is before.fine);
       known = next_known look obj.names face left later is done.known ∙ before.known;
-      tris = next_made (λ (t : Triangle). map (on_screen_by eye) (clipped_by eye t)) (triangles_of look obj) c.args.faces left later face _ _ is done.tris before.tris;
-      paints = next_made (λ (t : Triangle). map (λ (k : EyeTriangle). t.paint) (clipped_by eye t)) (triangles_of look obj) c.args.faces left later face _ _ is done.paints before.paints;
+      tris = next_made (λ (t : Triangle). map (on_screen_by eye) (clipped_by eye t)) (triangles_of look obj) c.args.chunk.faces left later face _ _ is done.tris before.tris;
+      paints = next_made (λ (t : Triangle). map (λ (k : EyeTriangle). t.paint) (clipped_by eye t)) (triangles_of look obj) c.args.chunk.faces left later face _ _ is done.paints before.paints;
     }

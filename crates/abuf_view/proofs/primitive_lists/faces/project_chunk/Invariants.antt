@@ -8,11 +8,11 @@ use Rattle.abuf_view.proofs.primitive_lists.faces.project_chunk.Given as goal
 abbrev pub invariant-loop-face : goal.invariant-loop-face
 invariant-loop-face l = record {
   fine : All (IsFace (length l.obj.points) (length l.obj.names)) l.left;
-  known : find (is_unknown (look_up l.palette.materials.value) l.obj.names) l.left ≡ find (is_unknown (look_up l.palette.materials.value) l.obj.names) l.fn.faces;
+  known : find (is_unknown (look_up l.palette.materials.value) l.obj.names) l.left ≡ find (is_unknown (look_up l.palette.materials.value) l.obj.names) l.fn.chunk.faces;
   tris : l.made.tris ++ tris_by l.table.eye (flat_map (triangles_of (look_up l.palette.materials.value) l.obj) l.left)
-      ≡ tris_by l.table.eye (flat_map (triangles_of (look_up l.palette.materials.value) l.obj) l.fn.faces);
+      ≡ tris_by l.table.eye (flat_map (triangles_of (look_up l.palette.materials.value) l.obj) l.fn.chunk.faces);
   paints : l.made.paints ++ paints_by l.table.eye (flat_map (triangles_of (look_up l.palette.materials.value) l.obj) l.left)
-      ≡ paints_by l.table.eye (flat_map (triangles_of (look_up l.palette.materials.value) l.obj) l.fn.faces);
+      ≡ paints_by l.table.eye (flat_map (triangles_of (look_up l.palette.materials.value) l.obj) l.fn.chunk.faces);
 }
 
 abbrev pub decreases-loop-face : goal.decreases-loop-face

@@ -1,4 +1,0 @@
-pub mod Around
-pub mod LastLooks
-pub mod Gathered
-pub mod Zipped
