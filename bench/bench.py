@@ -42,6 +42,17 @@ NOTHING = hashlib.sha256().hexdigest()  # of an output that is empty
 TOLD = re.compile(rb"pool full: (\d+) fragments")  # how a refusal tells the number of fragments
 
 
+# Touches as much memory as any scene takes, and ends. On a virtual machine a page that was free for a while may have gone back to the
+# host, and the first to touch it waits several times as long: without this, what ran before decides a good part of a time.
+WARM = """
+import mmap
+memory = mmap.mmap(-1, 384 << 20)
+memory.madvise(mmap.MADV_HUGEPAGE)
+for at in range(0, len(memory), 4096):
+    memory[at] = 1
+"""
+
+
 class Run(NamedTuple):
     seconds: float
     processor: float  # seconds of all threads, in the program and in the kernel
@@ -71,12 +82,15 @@ class Bench:
         self.rounds = given.rounds
         self.programs = given.programs
         self.variables = program.environment(given.tunables)
+        self.is_cold = given.cold
 
     def path(self, name):
         return os.path.join(self.folder, name)
 
     def run(self, path, task, threads, nodes=None):
-        """One run of one program, its output written to a file."""
+        """One run of one program, its output written to a file, in memory that was touched just before."""
+        if not self.is_cold:
+            subprocess.run([sys.executable, "-c", WARM], check=False)
         with open(self.path(task.scene), "rb") as scene, open(self.path("output"), "w+b") as output, \
                 open(self.path("error"), "w+b") as error:
             before = time.perf_counter()
@@ -94,8 +108,9 @@ class Bench:
     def best(self, task, threads):
         """The best run of each program, all of them in turn."""
         runs = [[] for _ in self.programs]
-        for _ in range(self.rounds):
-            for path, done in zip(self.programs, runs):
+        for number in range(self.rounds):
+            # Every other round goes the other way round, so that none always follows the same one.
+            for path, done in list(zip(self.programs, runs))[::1 if number % 2 == 0 else -1]:
                 done.append(self.run(path, task, threads))
                 if done[-1].status != task.status:
                     wanted = f" in place of {task.status}" if task.status else ""
@@ -307,6 +322,7 @@ def read_words():
     ask.add_argument("--rounds", type=int, default=5, help="rounds, of which the best counts (5)")
     ask.add_argument("--pages", choices=["large", "usual"], default="large",
                      help=f"large: the programs are started with GLIBC_TUNABLES={launcher_tunables()}, as ./abuf starts abuf (large)")
+    ask.add_argument("--cold", action="store_true", help="don't touch memory before each run")
     ask.add_argument("--bytes", type=int, default=8388608, help="the size of a text for --reading (8388608)")
     ask.add_argument("--table", action="store_true", help="print Markdown")
     given = ask.parse_args()

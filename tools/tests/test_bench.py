@@ -62,7 +62,7 @@ class Planted(unittest.TestCase):
 
     def measured(self, *words, abuf=None):
         """The status of a bench and the rows that it prints, by the names of their columns; and what else it prints."""
-        done = helping.call(bench, "--table", "--rounds", "2", "--abuf", abuf or self.program(), *words, folder=self.folder)
+        done = helping.call(bench, "--table", "--cold", "--rounds", "2", "--abuf", abuf or self.program(), *words, folder=self.folder)
         lines = done.stdout.decode().splitlines()
         cells = [[cell.strip() for cell in line.strip("|").split("|")] for line in lines if line.startswith("| ")]
         others = [line for line in lines if not line.startswith("|")]
@@ -324,17 +324,17 @@ class Figures(Planted):
             self.assertTrue(all(line.startswith("|") for line in table.splitlines()), part)
 
     def test_a_part_is_replaced(self):
-        with mock.patch.dict(figures.PARTS, {"scenes": "bench.py --table --only refuse --rounds 1"}):
+        with mock.patch.dict(figures.PARTS, {"scenes": "bench.py --table --cold --only refuse --rounds 1"}):
             done = self.call("scenes", "--beside", self.program("exit 5", "other"))
         self.assertEqual(done.returncode, 0, done)
         part = self.readme().split("<!-- figures: scenes -->\n\n")[1].split("\n\n<!-- end of scenes -->\n")[0]
-        self.assertRegex(part, r"^`bench/bench\.py --table --only refuse --rounds 1 --beside OTHER`: \d{4}-")
+        self.assertRegex(part, r"^`bench/bench\.py --table --cold --only refuse --rounds 1 --beside OTHER`: \d{4}-")
         self.assertNotIn(self.folder, part)
         self.assertEqual(re.findall(r"(?m)^\| refuse \| (\d) \| 39000000 \|", part), ["1", "4"])
         self.assertEqual(len(re.findall("(?m)^old$", self.readme())), len(figures.PARTS) - 1)
 
     def test_a_command_that_fails_leaves_its_part(self):
-        with mock.patch.dict(figures.PARTS, {"scenes": "bench.py --table --only refuse --rounds 1"}):
+        with mock.patch.dict(figures.PARTS, {"scenes": "bench.py --table --cold --only refuse --rounds 1"}):
             done = self.call("scenes", abuf=self.program("echo drawn"))
         self.assertEqual((done.returncode, self.readme()), (1, PARTS))
         self.assertIn(b"WRONG scenes: ", done.stdout)
