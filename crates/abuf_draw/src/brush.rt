@@ -10,15 +10,17 @@ use crate::batch::Batch;
 use abuf_frame::{Frame, Pass};
 use abuf_raster::{Hit, NO_HIT, Pattern, Region, ScreenTri, TileHits, count_hits, meets};
 
-/// Draws triangles into a region, sampled in a pattern. Fragments, of one triangle after another, wait until there are up to 64 of
-/// them, and are then put into the frame by one claim, since a claim costs as much as a fragment, and more where many threads draw.
-/// After the last triangle those that still wait are flushed. Once the pool is full, fragments are lost, whichever they are: those of
-/// a triangle are only counted then, which takes much less than to find them.
+/// Draws triangles into a region, sampled in a pattern. Up to 64 fragments of successive triangles wait, and are then put into the
+/// frame by one claim. A claim costs as much as a fragment, and more if many threads draw. After the last triangle those that still
+/// wait are flushed. Once the pool is full, every further fragment is lost. So the fragments of a triangle are then only counted,
+/// which is much faster than finding them.
 #[derive(Drop)]
 pub struct Brush {
+    /// The pixels into which it draws.
     pub region: Region,
+    /// Where the samples of a pixel lie.
     pub pattern: Pattern,
-    /// A claim of its pass has come to the end of the pool.
+    /// Whether a claim of its pass has come to the end of the pool.
     pub full: bool,
     hits: [Hit; 64],
     batch: Batch,
@@ -27,6 +29,7 @@ pub struct Brush {
 }
 
 impl Brush {
+    /// A brush of which no fragment waits.
     pub fn new(region: Region, pattern: Pattern) -> Brush
         ensures brush { (result.region ≡ region) × (result.pattern ≡ pattern) }
         ensures none { result.batch ≡ [] }
@@ -94,7 +97,7 @@ impl Brush {
         ensures passes { Passes self.old.batch (fragments t.now prim (offsets_of self.old.pattern) self.old.region) self.new.batch pass.old.view pass.new.view }
         ensures few { pass.old.view.credit + length self.new.batch ≤ pass.new.view.credit + length self.old.batch + self.old.region.w * self.old.region.h }
     {
-        // For a triangle outside of the region, this takes much less than to set up its tiles.
+        // For a triangle outside of the region, this is much faster than setting up its tiles.
         if !meets(t, self.region, self.pattern) {
             return;
         }

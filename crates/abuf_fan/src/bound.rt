@@ -10,8 +10,8 @@ ghost use denote.Param.Send.{IsSync};
 use abuf_raster::{Pattern, Region, ScreenTri, max_hits, meets, region_law};
 use std::thread::{Threads, join};
 
-/// At least as many as the triangle's hits. For a triangle outside of the region, [`meets`] takes much less than to set up its
-/// tiles.
+/// At least as many as the triangle's hits. For a triangle outside of the region, [`meets`] is much faster than setting up its
+/// tiles. In a region of one pixel, which takes one node at most, it is all that is asked.
 #[inline(always)]
 fn max_of(t: &ScreenTri, region: Region, pattern: Pattern) -> u32
     ensures bound { (prim : ℕ) → length (hits t.now prim (offsets_of pattern) region) ≤ result }
@@ -19,6 +19,9 @@ fn max_of(t: &ScreenTri, region: Region, pattern: Pattern) -> u32
 {
     if !meets(t, region, pattern) {
         return 0;
+    }
+    if region.pixels() == 1 {
+        return 1;
     }
     max_hits(t, region, pattern)
 }
@@ -43,7 +46,7 @@ fn sum_of(tris: &[ScreenTri], region: Region, pattern: Pattern, enough: u64) -> 
 /// About how many pixels may be asked of one thread: where there are no more, starting another takes longer.
 const LITTLE: u64 = 4194304;
 
-/// The triangles are so few that one thread soon has asked all about the tiles of the region.
+/// Whether one thread finds the bound so soon that starting others doesn't pay.
 fn is_little(count: usize, region: Region) -> bool
     requires few { count ≤ MAX_PRIMITIVES }
     ensures { IsTrue result ↔ (count * (region.w * region.h + 64) ≤ LITTLE) }
@@ -51,10 +54,10 @@ fn is_little(count: usize, region: Region) -> bool
     count as u64 * u64::from(region.pixels() + 64) <= LITTLE
 }
 
-/// At least as many as the triangles have fragments in the region, whatever number the first of them has: the sum of what each
-/// has at most, found on 1 to 64 threads, or on one where that is soon done. A frame of so many nodes loses none, and more nodes
-/// would only take memory, and time to clear them. Where the sum reaches what is enough, the rest isn't asked: no caller needs a
-/// bound above the nodes that its pool may have. The call takes no memory.
+/// An upper bound on the number of fragments of the triangles in the region, whatever their primitive numbers. It is the sum of the
+/// bounds of all triangles, found on 1 to 64 threads, or on one if there is little to do. A frame of so many nodes loses none. More
+/// nodes would only take memory, and time to clear it. Where the sum reaches what is enough, the rest isn't asked: no caller needs
+/// a bound above the nodes that its pool may have. The call takes no memory.
 pub fn max_fragments<R: Threads + Sync>(
     rt: &R,
     tris: &[ScreenTri],

@@ -1,10 +1,11 @@
 // What every worker passes by.
 use abuf_frame::Pass;
 
-/// Called twice by each worker of `draw_all`, with its number from 0 on and the pass by which it draws: before its first
-/// triangle, and after its first chunk of 64 triangles, or at its end where it drew no chunk. Between the two calls the worker
-/// neither splits that pass nor joins another into it. A gate promises nothing but that it returns.
+/// What each worker of a drawing passes twice. A gate promises nothing but that it returns.
 pub trait Gate {
+    /// Each worker of `draw_all` calls this with its number, from 0 on, and its own pass. The first call comes before its first
+    /// triangle. The second comes after its first chunk of 64 triangles, or at its end if it drew none. Between the two calls the
+    /// worker neither splits that pass nor joins another into it.
     fn pass_by(&self, worker: u32, pass: &Pass);
 }
 

@@ -80,8 +80,8 @@ impl MeetingGate {
         })
     }
 
-    /// Each of the workers has drawn its chunk and seen that all others had, and no worker called but these, none called a third
-    /// time, and none drew more or less.
+    /// Whether each worker has drawn its chunk and seen that all others had drawn theirs. False if another worker called, if one
+    /// called a third time, or if one drew more or fewer fragments.
     pub fn have_met(&self) -> bool {
         let sound = !self.fault.load(Ordering::SeqCst);
         sound

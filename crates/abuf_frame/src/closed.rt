@@ -41,6 +41,7 @@ impl Model for Closed {
 pub struct Full {
     /// How many nodes would have held them all.
     pub fragments: u64,
+    /// How many nodes it has.
     pub nodes: u32,
 }
 
@@ -67,7 +68,7 @@ impl Closed {
         self.fragments
     }
 
-    /// Some exactly where there were more fragments than nodes.
+    /// Returns `Some` exactly if there were more fragments than nodes.
     pub fn full(&self) -> Option<Full>
         ensures some { IfSome result (λ f. (self.now.nodes < self.now.fragments) × (f.fragments ≡ self.now.fragments) × (f.nodes ≡ self.now.nodes)) }
         ensures none { IfNone result (self.now.fragments ≤ self.now.nodes) }

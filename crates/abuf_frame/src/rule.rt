@@ -1,8 +1,9 @@
-// The rule of the table: its state is lawful.
+// The rule of a frame's table.
 use crate::view::{FrameSize, View};
 use atomic_table::TableRule;
 
-pub struct FrameRule;
+/// The state of the table is always lawful.
+pub(crate) struct FrameRule;
 
 impl TableRule<(), View, FrameSize> for FrameRule {
     ghost use Rattle.abuf_frame.specs.Lawful.{Lawful};

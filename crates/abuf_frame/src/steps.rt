@@ -1,4 +1,4 @@
-//! The kinds of step. Each is one operation on one word.
+// The kinds of step. Each is one operation on one word.
 ghost use Rattle.std.specs.Prelude.{◌≡◌, ℕ, ◌+◌, ◌%◌, ◌^◌, ◌<◌, ◌≤◌, ◌*◌, ◌-◌, []};
 ghost use Rattle.abuf_num.specs.declared.limits.TheConstants.{MAX_NODES, MAX_PIXELS};
 ghost use Rattle.abuf_frame.specs.Seats.{HasStepped, HasView, MaySplit, MayStep, MayStore};
@@ -11,12 +11,14 @@ use crate::view::{FrameSize, View};
 use atomic_table::{Join, Play, Seat, Shared, Split};
 use std::marker::{Brand, PhantomData};
 
-pub type Words = Shared<(), View, FrameSize, FrameRule>;
+/// The words of a frame's table, as they are shared.
+pub(crate) type Words = Shared<(), View, FrameSize, FrameRule>;
 
-pub type FrameSeat = Seat<(), View>;
+/// The seat of a pass at a frame's table.
+pub(crate) type FrameSeat = Seat<(), View>;
 
 /// What a step leads to: the view after it, and what it shows of the number that it finds.
-pub trait Aim {
+pub(crate) trait Aim {
     ghost use Rattle.std.specs.Prelude.{ℕ};
     ghost use Rattle.abuf_frame.specs.declared.view.View.{View};
 
@@ -33,7 +35,8 @@ impl Aim for Brand {
     ghost shows = { λ _. Unit {0} };
 }
 
-pub struct Aimed<N> {
+/// The step that leads there.
+pub(crate) struct Aimed<N> {
     aim: PhantomData<N>,
 }
 
@@ -92,7 +95,7 @@ pub(crate) fn link_at<N: Aim>(
 }
 
 /// How much credit a split moves.
-pub trait Moved {
+pub(crate) trait Moved {
     ghost use Rattle.std.specs.Prelude.{ℕ};
 
     ghost credit: { ℕ };
@@ -102,7 +105,8 @@ impl Moved for Brand {
     ghost credit = { 0 };
 }
 
-pub struct ViewSplit<N> {
+/// The split that moves this credit.
+pub(crate) struct ViewSplit<N> {
     moved: PhantomData<N>,
 }
 
@@ -114,7 +118,8 @@ impl<N: Moved> Split<View> for ViewSplit<N> {
     ghost right = { λ v. split_right N.credit v };
 }
 
-pub struct ViewJoin;
+/// The join that adds credits and unites entries and walks.
+pub(crate) struct ViewJoin;
 
 impl Join<View> for ViewJoin {
     ghost use Rattle.abuf_frame.specs.Steps.{united};

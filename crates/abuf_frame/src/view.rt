@@ -16,21 +16,27 @@ pub enum Stage {
 
 /// A claimed number.
 pub struct Entry {
+    /// The number, from 0 on. A number below the count of nodes has a node.
     pub number: u64,
+    /// How far it has come.
     pub stage: Stage,
 }
 
 /// A node that a walk has passed, with its payload.
 pub struct Passed {
+    /// The number of the node.
     pub node: u64,
+    /// The payload that was loaded from it.
     pub payload: u64,
 }
 
 /// A walk along the list of a pixel.
 pub struct Walk {
+    /// The pixel whose list it is.
     pub pixel: u32,
     /// The entries that have to be in the list.
     pub due: [Entry; 0],
+    /// The nodes that were passed, in order.
     pub passed: [Passed; 0],
     /// The word at which it stands.
     pub cursor: u64,
@@ -44,17 +50,21 @@ pub struct Walk {
 pub struct View {
     /// How many numbers it may still claim.
     pub credit: u64,
+    /// The numbers that it claimed, and those of the passes that were joined into it.
     pub entries: [Entry; 0],
     /// Linked entries that it knows from the pass that it was split from.
     pub told: [Entry; 0],
     /// The greatest count that it has seen.
     pub seen: u64,
+    /// The walks that it made.
     pub walks: [Walk; 0],
 }
 
 /// The number of pixels and of nodes, which the rule reads.
 #[derive(Drop)]
 pub struct FrameSize {
+    /// From 1 to 4194304.
     pub pixels: u32,
+    /// From 1 to 8388608.
     pub nodes: u32,
 }

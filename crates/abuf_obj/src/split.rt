@@ -27,7 +27,7 @@ fn sample_offset(bytes: &[u8], sample: usize) -> usize
     bytes.len() * sample / SAMPLES
 }
 
-/// About how long reading takes behind that offset, by the next line: longest with a face, whose corners take memory of their own.
+/// About how long reading takes behind that offset, by the next line: longest with a point, each of whose numbers is rounded.
 fn time_at(bytes: &[u8], offset: usize) -> usize
     requires { offset ≤ length bytes.now }
     ensures { result ≤ 8 }
@@ -37,8 +37,8 @@ fn time_at(bytes: &[u8], offset: usize) -> usize
         return 1;
     };
     match near.get(feed + 1..) {
-        Some([b'f', b' ', ..]) => 8,
-        Some([b'v', b' ', ..]) => 5,
+        Some([b'f', b' ', ..]) => 5,
+        Some([b'v', b' ', ..]) => 6,
         _ => 1,
     }
 }

@@ -13,7 +13,7 @@ use abuf_raster::{NO_HIT, ScreenTri};
 
 impl Layer {
     /// Every sample takes the lowest primitive above the last one taken that covers it, by its depth key there and then by its
-    /// number, and lays its paint over the colour. A sample without such a primitive stays. True exactly where some sample took
+    /// number, and lays its paint over the colour. A sample without such a primitive stays. Returns true exactly if some sample took
     /// one. There is a paint for each of at most `MAX_PRIMITIVES` triangles. Takes no memory.
     pub fn step(&mut self, tris: &[ScreenTri], paints: &[Paint]) -> bool
         requires few { length tris.now ≤ MAX_PRIMITIVES }
@@ -33,7 +33,7 @@ impl Layer {
 }
 
 impl Samples {
-    /// Every sample takes its next primitive. True exactly where some sample took one.
+    /// Every sample takes its next primitive. Returns true exactly if some sample took one.
     fn take_next(
         &self,
         drawn: &PaintedTriangles,

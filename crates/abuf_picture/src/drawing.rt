@@ -82,9 +82,9 @@ pub(crate) fn draw_into<R: Threads + Sync, G: Gate + Sync>(
 /// From how many words on a frame's start is shared among threads: for fewer, starting them takes longer.
 const MANY_WORDS: usize = 1048576;
 
-/// The words of the frame at its start. While one thread lays them out, another takes as much memory, writes to it and frees it:
-/// into this they will be copied, and the kernel has cleared it by then. What it writes isn't zero, since memory that is to hold
-/// zeros and is new isn't touched. Correctness doesn't depend on whether there was so much.
+/// The words of the frame at its start. While one thread lays them out, another allocates as much memory, writes to it and frees it.
+/// So the words are then copied into memory that the kernel has already cleared. Nonzero values are written, since new memory for
+/// zeros wouldn't be touched. Correctness doesn't depend on whether that memory was available.
 fn initial_words_for<R: Threads + Sync>(
     rt: &R,
     alloc: Global,

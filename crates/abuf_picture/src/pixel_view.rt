@@ -19,6 +19,7 @@ pub struct PixelView {
     pub entries: u64,
     /// The words of the pixel's fragments; where some entry found no node, some of them.
     pub words: Vec<u64>,
+    /// The frame.
     pub closed: Closed,
 }
 

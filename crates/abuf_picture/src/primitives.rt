@@ -9,7 +9,9 @@ use abuf_view::Projected;
 /// Primitives: their triangles on the screen, and a paint for each. The index of a primitive in the lists is its number.
 #[derive(Clone, Copy)]
 pub struct Primitives<'a> {
+    /// The triangles on the screen, at most 1048576.
     pub triangles: &'a [ScreenTri],
+    /// The paint of each triangle.
     pub paints: &'a [Paint],
     pub ghost few: { length triangles.now ≤ MAX_PRIMITIVES },
     pub ghost painted: { length paints.now ≡ length triangles.now },

@@ -17,13 +17,15 @@ use std::thread::Threads;
 /// A closed frame, and what was resolved of its lists: nothing where it is full, since then they lack fragments.
 #[derive(Drop)]
 pub struct Rendering {
+    /// The frame into which the primitives were drawn.
     pub closed: Closed,
+    /// What was resolved of its lists, unless it is full.
     pub resolved: Option<Resolved>,
 }
 
 /// Draws the primitives into a frame as [`draw`](crate::draw) does, and resolves its lists by the way that is handed in. Of that way it
-/// knows only what it gives for lists. So whatever is resolved came from the lists of the very frame that is handed back: no other source
-/// would do for every way, and not even another frame of the same fragments, whose lists may stand in another order. An error
+/// knows only what it gives for lists. So whatever is resolved came from the lists of the frame that is handed back. No other source
+/// would serve every way. Not even another frame of the same fragments would, since its lists may stand in another order. An error
 /// means that memory ran out.
 pub fn draw_and_resolve<R: Threads + Sync, W: Resolve, G: Gate + Sync>(
     rt: &R,

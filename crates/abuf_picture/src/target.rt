@@ -7,6 +7,7 @@ use abuf_raster::{Pattern, Region};
 /// The pixels of a picture, and how they are drawn.
 #[derive(Clone, Copy)]
 pub struct Target {
+    /// The pixels of the picture.
     pub region: Region,
     /// Where the samples of a pixel lie.
     pub pattern: Pattern,

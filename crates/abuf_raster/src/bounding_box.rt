@@ -161,8 +161,8 @@ fn box_meets(t: &ScreenTri, region: Region, pattern: Pattern) -> bool
     !BoundingBox::of(t, region, pattern).is_empty()
 }
 
-/// Whether the box around the triangle has a pixel of the region. Where it has none, the triangle covers no sample there; this
-/// takes much less than a walk that finds nothing, and where the rows alone tell it, it takes next to nothing.
+/// Whether the box around the triangle has a pixel of the region. If it has none, the triangle covers no sample there. Asking this
+/// is much faster than a walk that finds nothing, and takes next to no time if the rows alone tell it.
 #[inline(always)]
 pub fn meets(t: &ScreenTri, region: Region, pattern: Pattern) -> bool
     ensures { result ≡ false → CoversNone t.now (offsets_of pattern) region }

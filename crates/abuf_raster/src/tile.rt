@@ -61,7 +61,7 @@ impl<V: Width> SampledPrimitive<V> {
     }
 }
 
-/// Bit k, where it is set.
+/// The mask of bit k alone if `set` is true, and otherwise 0.
 #[inline(always)]
 fn bit(set: bool, k: u32) -> u16
     requires { k < 16 }

@@ -29,7 +29,7 @@ impl FragmentWord {
         (self.0 & 0xffff) as u32
     }
 
-    /// The fragment has sample k.
+    /// Whether the fragment has sample k.
     #[inline(always)]
     pub fn covers(self, k: u32) -> bool
         requires { k < 16 }

@@ -20,7 +20,7 @@ use abuf_raster::{DepthPlane, Pattern, ScreenTri};
 use std::alloc::Global;
 use std::marker::Model;
 
-/// What was worked out of triangles, in their order.
+/// What was precomputed for the triangles, in their order.
 #[derive(Drop)]
 pub(crate) struct Precomputed {
     pub(crate) planes: Vec<DepthPlane>,
@@ -83,7 +83,7 @@ fn depth_range(t: &ScreenTri) -> Bounds
     }
 }
 
-/// What is worked out of the triangles, on one thread. Several were slower: their lists would have to be copied together, into
+/// What is precomputed for the triangles, on one thread. Several threads were slower: their lists would have to be copied together, into
 /// memory that the system clears first, and that takes longer than the planes.
 fn precompute(alloc: Global, tris: &[ScreenTri]) -> Result<Precomputed, NoMemory>
     ensures { IfOk result (IsOf tris.now) }

@@ -6,11 +6,14 @@ ghost use Rattle.abuf_resolve.specs.Words.{has_sample};
 
 use crate::fragment_words::FragmentWord;
 
-/// None of the words has the sample, this one alone, or more than one.
+/// How many of a pixel's words have a sample.
 #[derive(Clone, Copy)]
 pub(crate) enum SampleHits {
+    /// No word has it.
     Nothing,
+    /// This word alone has it.
     One(u64),
+    /// More than one word has it.
     More,
 }
 

@@ -4,8 +4,9 @@ use abuf_raster::Pattern;
 /// How each image of a sequence is drawn, whatever its shot.
 #[derive(Clone, Copy)]
 pub struct Plan {
-    /// The size of an image in pixels: each from 1 to 4096, and their product at most 4194304.
+    /// The width of an image in pixels, from 1 to 4096.
     pub width: u32,
+    /// The height in pixels, from 1 to 4096. An image has at most 4194304 pixels.
     pub height: u32,
     /// The focal length, from 1 to 1048576, in units of 1/65536.
     pub focal: i64,

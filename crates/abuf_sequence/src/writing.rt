@@ -132,8 +132,8 @@ fn write_images<O: Sink>(drawn: &[Drawn], before: u32, out: &mut O) -> Result<()
 }
 
 /// Draws the image of each shot, and writes it to `out` by one call, in order. As many images are drawn at once as there are
-/// threads, as far as memory goes; when they are written, what they used is freed before the next are begun, all but their frames,
-/// into which the next are drawn.
+/// threads and memory for. When they are written, their memory is freed before the next are begun. Only their frames are kept, and
+/// the next images are drawn into these.
 ///
 /// An image with more fragments than there are nodes ends the sequence, and so does a sink that fails, and memory that runs out;
 /// see [`SequenceFault`]. Without shots nothing is written.

@@ -4,8 +4,8 @@
 //! from 0 on, each once. [`map_numbered`] calls a function for each number below a count on 1 to 64 threads, which draw the numbers
 //! from a desk, and gives the results by ascending number.
 //!
-//! Threads draw numbers since fixed shares take unequal time. What is drawn often lies in the middle of an image, and a system may
-//! start two threads on one processor and leave another idle for a while: all would wait for the share that ends last. By the
+//! Threads take numbers one at a time because fixed shares take unequal time. The primitives often lie in the middle of an image. A
+//! system may also start two threads on one processor and leave another idle. Then all would wait for the last share. By the
 //! theorem of the desk each number is drawn once, so no result is lacking, and nothing is checked or done again at the end.
 #![tactic(auto)]
 

@@ -6,11 +6,12 @@ use std::marker::{Brand, PhantomData};
 pub struct TurnView {
     /// How many numbers it may still draw.
     pub credit: u64,
+    /// The numbers that it drew.
     pub drawn: [u64; 0],
 }
 
 /// The rule of a desk.
-pub struct DeskRule;
+pub(crate) struct DeskRule;
 
 impl TableRule<(), TurnView, ()> for DeskRule {
     ghost use Rattle.abuf_share.specs.Desk.{Lawful, whole_view};
@@ -21,7 +22,7 @@ impl TableRule<(), TurnView, ()> for DeskRule {
 }
 
 /// How much credit moves to the turn that is split off.
-pub trait Moved {
+pub(crate) trait Moved {
     ghost use Rattle.std.specs.Prelude.{ℕ};
 
     ghost credit: { ℕ };
@@ -32,7 +33,7 @@ impl Moved for Brand {
 }
 
 /// The split that moves this credit.
-pub struct TurnSplit<N> {
+pub(crate) struct TurnSplit<N> {
     moved: PhantomData<N>,
 }
 
@@ -46,7 +47,7 @@ impl<N: Moved> Split<TurnView> for TurnSplit<N> {
 }
 
 /// The join that adds credits and numbers.
-pub struct TurnJoin;
+pub(crate) struct TurnJoin;
 
 impl Join<TurnView> for TurnJoin {
     ghost use Rattle.abuf_share.specs.Desk.{holding, united};
@@ -58,7 +59,7 @@ impl Join<TurnView> for TurnJoin {
 }
 
 /// The addition that draws a number.
-pub struct TakeStep;
+pub(crate) struct TakeStep;
 
 impl Play<(), TurnView> for TakeStep {
     ghost use Rattle.abuf_share.specs.Desk.{Shown, drawing};
@@ -68,7 +69,7 @@ impl Play<(), TurnView> for TakeStep {
 }
 
 /// The load that a turn makes after a join.
-pub struct CountStep;
+pub(crate) struct CountStep;
 
 impl Play<(), TurnView> for CountStep {
     ghost use Rattle.abuf_share.specs.Desk.{EachOnceIfWhole};

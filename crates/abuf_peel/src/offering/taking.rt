@@ -87,8 +87,9 @@ impl Samples {
         any
     }
 
-    /// Every sample takes its next 16 primitives, or all that it has left. The members are all primitives that a sample still takes;
-    /// those of which nothing was left are dropped. False only where no sample has one left afterwards.
+    /// Every sample takes its next 16 primitives, or all that it has left. At the call, `members` must name every primitive that a
+    /// sample still takes. Primitives of which nothing is left are removed from it. Returns false only if no sample has a primitive
+    /// left afterwards.
     pub(crate) fn take_next_of(
         &self,
         drawn: &PaintedTriangles,

@@ -186,7 +186,8 @@ impl<'a, 'b> Shading<'a, 'b> {
         ensures { IfOk result (λ c. c ≡ colour_at self.now at list.now k) }
     {
         let least = self.gather_seen(keys, list, at, k)?;
-        order_from(keys, least);
+        // Of several samples, the words come in the order of bounds that hold for all.
+        order_from(keys, least, self.pattern.size() > 1);
         Ok(composite_all(self.background, keys, self.paints))
     }
 

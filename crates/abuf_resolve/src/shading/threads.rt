@@ -124,8 +124,8 @@ impl<'a, 'b> Shading<'a, 'b> {
     }
 }
 
-/// For each pixel of the region, in order, the sums over the samples of the pattern: per channel the sum of the samples'
-/// colours; and the length of the longest list of a pixel, which the workers learn on the way. In each sample the fragments that
+/// Returns the sums of each pixel of the region, in order, and the length of the longest list, which the workers learn on the way. A
+/// pixel's sums are, for each channel, the sum of its samples' colours. In each sample the fragments that
 /// have it are ordered by their depth keys there; greater keys are nearer, and of equal keys the lower primitive number lies
 /// beneath. The pixels are shared among 1 to 64 workers, and the sums are the same for every number of them. The frame must not be
 /// full, since then its lists lack fragments; each payload is the word of a fragment of one of the scene's triangles, and its mask

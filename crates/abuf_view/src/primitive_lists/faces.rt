@@ -95,8 +95,10 @@ pub(crate) fn project_chunk(
     requires faces { All (IsFace (length obj.now.points) (length obj.now.names)) chunk.faces }
     ensures fault { IfErr result (Tells (unknown_in (look_up palette.now.materials.value) obj.now.names chunk.entry.faces)) }
     ensures known { OnOk result (unknown_in (look_up palette.now.materials.value) obj.now.names chunk.entry.faces ≡ None) }
-    ensures tris { IfOk result (λ p. p.tris ≡ tris_by table.now.eye (flat_map (triangles_of (look_up palette.now.materials.value) obj.now) chunk.entry.faces)) }
-    ensures paints { IfOk result (λ p. p.paints ≡ paints_by table.now.eye (flat_map (triangles_of (look_up palette.now.materials.value) obj.now) chunk.entry.faces)) }
+    ensures tris { IfOk result (λ p. p.tris
+        ≡ tris_by table.now.eye (flat_map (triangles_of (look_up palette.now.materials.value) obj.now) chunk.entry.faces)) }
+    ensures paints { IfOk result (λ p. p.paints
+        ≡ paints_by table.now.eye (flat_map (triangles_of (look_up palette.now.materials.value) obj.now) chunk.entry.faces)) }
 {
     let FaceChunk { faces, room } = chunk;
     let mut made = room.with_capacity(faces.len())?.into_lists();
