@@ -6,7 +6,7 @@
 #     install.sh --deb [--abuf PATH] [FOLDER]         write abuf_VERSION_ARCHITECTURE.deb, into this folder or another
 #
 #     sudo tools/install.sh
-#     tools/install.sh --deb /tmp && sudo apt install /tmp/abuf_0.9.0_amd64.deb
+#     tools/install.sh --deb /tmp && sudo apt install /tmp/abuf_1.0.0_amd64.deb
 #
 # The program is that of --abuf, or of the variable ABUF, or the proved one of this checkout. Where that isn't built from the sources
 # that are here, ./abuf builds it first. DESTDIR, if it is set, stands before every path. What is installed starts the program with
