@@ -176,6 +176,7 @@ SCENES = {
     "full": lambda folder: Task("demo 4000", nodes=MOST_NODES),
     "deep": lambda folder: Task("demo 200000 --size 64x48", nodes=MOST_NODES),
     "deep8": lambda folder: Task("demo 20000 --size 64x48 --samples 8", nodes=MOST_NODES),
+    "pile": lambda folder: Task("render --size 40x30 --samples 8", write(folder, "pile.obj", write_pile, 800)),
     "mesh": lambda folder: Task("render --size 1280x960 --samples 8", write(folder, "mesh.obj", write_mesh)),
     "soup": lambda folder: Task("render --size 1280x960 --samples 8", write(folder, "soup.obj", write_soup)),
     "text": lambda folder: Task("render --size 1x1", write(folder, "text.obj", write_text), MOST_NODES),
