@@ -3,6 +3,7 @@ ghost use Rattle.std.specs.Prelude.{◌<◌};
 
 use abuf_raster::{
     Fragment, Hit, Pattern, Region, ScreenTri, TileHits, TileWalk, count_hits, mask_at, max_hits,
+    upper_left,
 };
 use std::test::Fail;
 
@@ -143,6 +144,17 @@ fn no_fewer_than_the_hits(rt: HostRuntime) -> Result<(), Fail> {
     assert_eq!(rt; max_hits(&around, odd(), Pattern::One), 999);
     let line = ScreenTri::new([0, 5000, 10000], [0, 2500, 5000], [0; 3]).ok_or("line")?;
     assert_eq!(rt; max_hits(&line, odd(), Pattern::Sixteen), 0);
+    Ok(())
+}
+
+/// The box begins within the region, to the left of it and above, and behind it.
+#[test]
+fn the_first_pixel_of_the_box(rt: HostRuntime) -> Result<(), Fail> {
+    let within = ScreenTri::new([2560, 5120, 2560], [2048, 2048, 4096], [0; 3]).ok_or("within")?;
+    assert_eq!(rt; upper_left(&within, odd(), Pattern::One), (10, 8));
+    assert_eq!(rt; upper_left(&within, four_by_four(), Pattern::One), (4, 4));
+    let before = ScreenTri::new([0, 5120, 0], [0, 0, 4096], [0; 3]).ok_or("before")?;
+    assert_eq!(rt; upper_left(&before, odd(), Pattern::Eight), (3, 2));
     Ok(())
 }
 

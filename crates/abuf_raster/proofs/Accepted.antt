@@ -1,12 +1,11 @@
 -- The samples that one edge accepts, and those that three accept.
-use Rattle.std.proofs.Common.{◌≡◌, ℕ, zero, suc, ◌+◌, ◌-◌, ◌*◌, ◌^◌, ◌<◌, Bool, true, false, not, ◌&&◌, if◌then◌else◌, ℤ, pos, ◌+ℤ◌, ◌≤ℤ◌, List, bit_and, length, arith, ap, ap₂, refl, ◌∙◌, pow-suc, pow_pos, add-one}
+use Rattle.std.proofs.Common.{◌≡◌, ℕ, zero, suc, ◌+◌, ◌*◌, ◌^◌, ◌<◌, Bool, true, false, not, ◌&&◌, if◌then◌else◌, ℤ, pos, ◌+ℤ◌, List, bit_and, arith, ap, ap₂, refl, ◌∙◌, pow-suc, add-one}
 use Rattle.std.specs.Prelude.{int_lt}
 use Rattle.std.proofs.lemmas.Nat.{and_block, and_le_l}
 use Rattle.abuf_raster.specs.declared.point.Point.{Point}
 use Rattle.abuf_raster.specs.Triangle.{Triangle}
-use Rattle.abuf_raster.specs.Values.{Numbers, plus_all, AreUp, IsMinOf, sample_change, sample_changes, accepted_below, mask_of_values_below}
+use Rattle.abuf_raster.specs.Values.{Numbers, sample_change, accepted_below, mask_of_values_below}
 use Rattle.abuf_raster.proofs.Masks.{if_lt}
-use Rattle.abuf_raster.proofs.Changes.{not_below, plus_up}
 
 module _ (a b : Point) (os : List (ℤ × ℤ)) (n : ℤ) where
   -- A mask of k samples is below 2 ^ k.
@@ -17,13 +16,6 @@ module _ (a b : Point) (os : List (ℤ × ℤ)) (n : ℤ) where
   -- one sample more
   pub accepted_more : (k m : ℕ) (v : Bool) → m ≡ accepted_below a b os n k → v ≡ not (int_lt (n +ℤ sample_change a b os k) (pos 0)) → m + (if v then 2 ^ k else 0) ≡ accepted_below a b os n (k + 1)
   accepted_more k m v e f = rw add-one (rw (e, f) refl)
-
-  -- all of them, where none is below a number that isn't below 0
-  pub accepted_all : (min : ℤ) → not (int_lt min (pos 0)) ≡ true → (k : ℕ) → ((j : ℕ) → j < k → min ≤ℤ (n +ℤ sample_change a b os j)) → accepted_below a b os n k ≡ 2 ^ k - 1
-  accepted_all min h zero f = refl
-  accepted_all min h (suc k) f =
-      ap₂ (λ (m : ℕ) (v : Bool). m + (if v then 2 ^ k else 0)) (accepted_all min h k (λ j l. f j (omega arith))) (not_below min (n +ℤ sample_change a b os k) (f k (omega arith)) h)
-      ∙ omega (arith, pow-suc 2 k, pow_pos k)
 
 -- the bit on top of two masks
 both_top : (k m n : ℕ) (u v : Bool) → m < 2 ^ k → n < 2 ^ k → bit_and (m + (if u then 2 ^ k else 0)) (n + (if v then 2 ^ k else 0)) ≡ bit_and m n + (if u && v then 2 ^ k else 0)
@@ -55,8 +47,3 @@ three_accept t os n (suc k) =
     ap (λ (m : ℕ). bit_and m (accepted_below t.c t.a os n.ca (suc k))) (both_top k _ _ u v p q)
     ∙ (both_top k _ _ (u && v) w (omega (arith, and_le_l (accepted_below t.a t.b os n.ab k) (accepted_below t.b t.c os n.bc k))) r
     ∙ ap (λ (m : ℕ). m + (if (u && v) && w then 2 ^ k else 0)) (three_accept t os n k))
-
--- the least values of three edges at the samples, by what is put to their values
-pub min_values : (t u : Triangle) (os : List (ℤ × ℤ)) (n m s : Numbers) → u ≡ t → s ≡ plus_all n m → ((k : ℕ) → k < length os → AreUp m (sample_changes t os k))
-    → IsMinOf s.ab u.a u.b os n.ab × IsMinOf s.bc u.b u.c os n.bc × IsMinOf s.ca u.c u.a os n.ca
-min_values t u os n m s e f up = rw (e, f) (λ k l. (plus_up n m _ (up k l)).ab, λ k l. (plus_up n m _ (up k l)).bc, λ k l. (plus_up n m _ (up k l)).ca)

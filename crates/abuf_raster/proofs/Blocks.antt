@@ -1,5 +1,5 @@
 -- The hits of rows and blocks of pixels, and those of blocks that need no test.
-use Rattle.std.proofs.Common.{◌≡◌, ℕ, zero, suc, ◌+◌, ◌^◌, ◌<◌, ◌≤◌, Bool, false, if◌then◌else◌, ℤ, List, [], ◌∷◌, ◌++◌, map, arith, ap, ap₂, refl, sym, ◌∙◌, append-nil, Option, Some, None, ne_eqb}
+use Rattle.std.proofs.Common.{◌≡◌, ℕ, zero, suc, ◌+◌, ◌-◌, ◌^◌, ◌<◌, ◌≤◌, Bool, false, if◌then◌else◌, ℤ, List, [], ◌∷◌, ◌++◌, map, arith, ap, ap₂, refl, sym, ◌∙◌, append-nil, Option, Some, None, ne_eqb}
 use Rattle.std.specs.List.{filter_map, flat_map, range_with_len, cons_option}
 use Rattle.std.proofs.lemmas.List.Elements.{filter_map-append}
 use Rattle.std.proofs.lemmas.List.Concat.{flat_map-append}
@@ -33,6 +33,10 @@ module _ (t : Triangle) (n : ℕ) (os : List (ℤ × ℤ)) where
   row_more x c y =
       ap (filter_map (pixel_hit t n os y)) (range_more x c)
       ∙ (filter_map-append (pixel_hit t n os y) (range_with_len x c) ((x + c) ∷ []) ∙ ap (λ (hs : List Hit). row_hits t n os x c y ++ hs) (one_found (pixel_hit t n os y) (x + c)))
+
+  -- A row is two rows, one behind the other.
+  pub row_cut : (x m k y : ℕ) → row_hits t n os x (m + k) y ≡ row_hits t n os x m y ++ row_hits t n os (x + m) k y
+  row_cut x m k y = ap (filter_map (pixel_hit t n os y)) (sym (range_cut x m k)) ∙ filter_map-append (pixel_hit t n os y) (range_with_len x m) (range_with_len (x + m) k)
 
   -- A block is two blocks, one under the other.
   pub block_cut : (x w y m k : ℕ) → block_hits t n os x w y (m + k) ≡ block_hits t n os x w y m ++ block_hits t n os x w (y + m) k
@@ -80,6 +84,14 @@ module _ (t : Triangle) (n : ℕ) (os : List (ℤ × ℤ)) (y : ℕ) where
       let e : pixel_hit t n os y x ≡ Some (record { x = x; y = y; fragment = record { prim = n; mask = m } }) = ap (hit_of n x y) z ∙ hit_of_some n x y m some in
       ap (λ (hs : List Hit). (record { x = x; y = y; fragment = record { prim = n; mask = m } }) ∷ hs) (row_full m some (x + 1) w (λ i l g. h i (omega arith) (omega arith)))
       ∙ ap (λ (o : Option Hit). cons_option o (row_hits t n os (x + 1) w y)) (sym e)
+
+  -- A row has no hits behind those of its first pixels, where the masks of the others are all 0.
+  pub row_ends : (x w k : ℕ) → k ≤ w → ((i : ℕ) → x + k ≤ i → i < x + w → mask t os i y ≡ 0) → row_hits t n os x k y ≡ row_hits t n os x w y
+  row_ends x w k l h =
+      let e : k + (w - k) ≡ w = omega arith in
+      sym (append-nil (row_hits t n os x k y))
+      ∙ (ap (λ (hs : List Hit). row_hits t n os x k y ++ hs) (sym (row_none (x + k) (w - k) (λ i p q. h i p (omega arith))))
+      ∙ (sym (row_cut t n os x k (w - k) y) ∙ ap (λ (c : ℕ). row_hits t n os x c y) e))
 
 module _ (t : Triangle) (n : ℕ) (os : List (ℤ × ℤ)) (x w : ℕ) where
   -- A block whose masks are all 0 has no hits.

@@ -77,6 +77,12 @@ product64 x y p q =
     ap₂ (λ (a b : ℤ). to_z w64 (of_z w64 (a *ℤ b))) (back64 x (omega arith)) (back64 y (omega arith))
     ∙ back64 (x *ℤ y) (omega (arith, abs-mul x y (2 ^ 31) (2 ^ 30) p q))
 
+-- the same of factors of at most 2 ^ 46 and 2 ^ 7
+pub short64 : (x y : ℤ) → unsigned_abs x ≤ 2 ^ 46 → unsigned_abs y ≤ 2 ^ 7 → to_z w64 (of_z w64 (to_z w64 (of_z w64 x) *ℤ to_z w64 (of_z w64 y))) ≡ x *ℤ y
+short64 x y p q =
+    ap₂ (λ (a b : ℤ). to_z w64 (of_z w64 (a *ℤ b))) (back64 x (omega arith)) (back64 y (omega arith))
+    ∙ back64 (x *ℤ y) (omega (arith, abs-mul x y (2 ^ 46) (2 ^ 7) p q))
+
 -- what `x + y + z` gives at an i64, where each is bounded
 pub plus64 : (x y z : ℤ) (m : ℕ) → unsigned_abs x ≤ m → unsigned_abs y ≤ m → unsigned_abs z ≤ m → m ≤ 2 ^ 61
     → FitsSigned w64 (to_z w64 (of_z w64 x) +ℤ to_z w64 (of_z w64 y))

@@ -10,14 +10,14 @@ use Rattle.abuf_raster.specs.Edge.{edge_function, is_left_edge, is_top_edge}
 use Rattle.abuf_raster.specs.Triangle.{Triangle, IsWithin, AreWithin}
 use Rattle.abuf_raster.specs.Samples.{sample_position, pixel_centre, offsets_of, reach_of}
 use Rattle.abuf_raster.specs.Coverage.{mask, accepts, all_accept, covers, covers_sample, mask_below}
-use Rattle.abuf_raster.specs.Values.{edge_value, edge_change, one_way, edge_farthest, Numbers, values_at, changes, farthest, plus_all, none_below, AreUp, AreAtMost, IsRoomFor, sample_changes, at_sample, mask_of_values, mask_of_values_below, FitsSamples}
+use Rattle.abuf_raster.specs.Values.{edge_value, edge_change, one_way, edge_farthest, Numbers, values_at, changes, farthest, plus_all, none_below, stays_below, AreUp, AreAtMost, IsRoomFor, sample_changes, at_sample, mask_of_values, mask_of_values_below}
 use Rattle.abuf_raster.specs.declared.tile.Tile.{Tile}
 use Rattle.abuf_raster.specs.Setup.{AreBetween, highest, lowest}
 use Rattle.abuf_raster.specs.Walk.{IsTile, block_hits, full_hits}
 use Rattle.abuf_raster.proofs.Blocks.{block_none, block_full}
 use Rattle.std.proofs.lemmas.Nat.{mul-le}
 use Rattle.std.proofs.lemmas.Bool.{cases_lt}
-use Rattle.abuf_raster.proofs.Bounds.{abs-add, abs-mul}
+use Rattle.abuf_raster.proofs.Bounds.{abs-mul}
 use Rattle.abuf_raster.proofs.Ring.{neg_mul}
 use Rattle.abuf_raster.proofs.Linear.{E_from}
 use Rattle.std.proofs.lemmas.Bool.{and_parts}
@@ -289,20 +289,57 @@ module _ (r : ℕ) (t : Triangle) (x y i : ℕ) (n d : Numbers) where
   pub room_down : n ≡ values_at t (pixel_centre x (y + i)) → d ≡ changes t (pos 0) (pos 256) → 2 ^ 22 ≤ r → AreWithin r t → x ≤ 4200 → y + i < 4200 → IsRoomFor r (plus_all n d)
   room_down e f wide near hx hy = subst (IsRoomFor r) (sym (step_down e f)) (values_room r t (pixel_centre x (y + (i + 1))) wide near (centre_near r x (y + (i + 1)) wide hx (omega arith)))
 
--- So is a place within half a pixel of it.
-place_near : (r x : ℕ) (z : ℤ) → 2 ^ 22 ≤ r → x ≤ 4200 → unsigned_abs z ≤ 128 → unsigned_abs (pos (256 * x + 128) +ℤ z) < r
-place_near r x z wide hx hz = omega (arith, abs-add (pos (256 * x + 128)) z (256 * 4200 + 128) 128 (omega arith) hz)
+-- One of three tests passes where one of three stricter ones passes.
+one_of_three : (u v w x y z : Bool) → (u ≡ true → x ≡ true) → (v ≡ true → y ≡ true) → (w ≡ true → z ≡ true) → (u || v || w) ≡ true → (x || y || z) ≡ true
+one_of_three true v w true y z f g h e = refl
+one_of_three true v w false y z f g h e = absurd (true≢false (sym (f refl)))
+one_of_three false true w true y z f g h e = refl
+one_of_three false true w false true z f g h e = refl
+one_of_three false true w false false z f g h e = absurd (true≢false (sym (g refl)))
+one_of_three false false true true y z f g h e = refl
+one_of_three false false true false true z f g h e = refl
+one_of_three false false true false false true f g h e = refl
+one_of_three false false true false false false f g h e = absurd (true≢false (sym (h refl)))
+one_of_three false false false x y z f g h e = absurd (true≢false (sym e))
 
--- A width has room for the values at all samples of a pixel.
-pub samples_fit : (r : ℕ) (t : Triangle) (p : Pattern) (x y : ℕ) → 2 ^ 22 ≤ r → AreWithin r t → x ≤ 4200 → y ≤ 4200 → FitsSamples r t (offsets_of p) (values_at t (pixel_centre x y))
-samples_fit r t p x y wide near hx hy = λ k l.
-    let n = offset_near p k l in
-    let m = reach_small p in
-    let o : ℤ × ℤ = slice_index_or (offsets_of p) k (pos 0, pos 0) in
-    let u = sixteenth o.0 (reach_of p) n.0 in
-    let v = sixteenth o.1 (reach_of p) n.1 in
-    subst (IsRoomFor r) (sym (values_sample t (offsets_of p) x y k))
-    (values_room r t (sample_position o x y) wide near (place_near r x (pos 16 *ℤ o.0) wide hx (omega (arith, u, m)), place_near r y (pos 16 *ℤ o.1) wide hy (omega (arith, v, m))))
+-- Of three pairs of tests one passes, so some first test passes.
+some_below : (u v w x y z : Bool) → ((u && x) || (v && y) || (w && z)) ≡ true → (not u && not v && not w) ≡ false
+some_below true v w x y z e = refl
+some_below false true w x y z e = refl
+some_below false false true x y z e = refl
+some_below false false false x y z e = absurd (true≢false (sym e))
+
+-- What stays below 0 is below 0.
+pub stays_is_below : (n d : Numbers) → stays_below n d ≡ true → none_below n ≡ false
+stays_is_below n d e = some_below (int_lt n.ab (pos 0)) (int_lt n.bc (pos 0)) (int_lt n.ca (pos 0)) (int_lt d.ab (pos 0)) (int_lt d.bc (pos 0)) (int_lt d.ca (pos 0)) e
+
+-- A number below 0 falls.
+falls_on : (x y z : ℤ) → z ≡ x +ℤ y → (int_lt x (pos 0) && int_lt y (pos 0)) ≡ true → (int_lt z (pos 0) && int_lt y (pos 0)) ≡ true
+falls_on x y z f h =
+    let p = and_parts (int_lt x (pos 0)) (int_lt y (pos 0)) h in
+    rw (lt_true z (pos 0) (omega (arith, ints, p.0, p.1)), p.1) refl
+
+-- And stays there after one change more.
+pub stays_on : (m n d : Numbers) → stays_below (plus_all n m) d ≡ true → stays_below (plus_all (plus_all n d) m) d ≡ true
+stays_on m n d e = one_of_three _ _ _ _ _ _ (falls_on (n.ab +ℤ m.ab) d.ab (n.ab +ℤ d.ab +ℤ m.ab) (omega (arith, ints))) (falls_on (n.bc +ℤ m.bc) d.bc (n.bc +ℤ d.bc +ℤ m.bc) (omega (arith, ints))) (falls_on (n.ca +ℤ m.ca) d.ca (n.ca +ℤ d.ca +ℤ m.ca) (omega (arith, ints))) e
+
+-- A row of pixels from (x, y) on, where an edge accepts no sample of pixel (x + i, y), and the less the farther to the right.
+module _ (t : Triangle) (os : List (ℤ × ℤ)) (x y i : ℕ) (m d : Numbers) (e : d ≡ changes t (pos 256) (pos 0)) where
+  -- It accepts none so many pixels farther.
+  row_stays : (j : ℕ) → stays_below (plus_all (values_at t (pixel_centre (x + i) y)) m) d ≡ true → stays_below (plus_all (values_at t (pixel_centre (x + (i + j)) y)) m) d ≡ true
+  row_stays zero h = let z : i + 0 ≡ i = omega arith in rw z h
+  row_stays (suc j) h =
+      let n = values_at t (pixel_centre (x + (i + j)) y) in
+      let z : i + suc j ≡ i + j + 1 = omega arith in
+      rw z (subst (λ (v : Numbers). stays_below (plus_all v m) d ≡ true) (step_right 0 t x y (i + j) n d refl e) (stays_on m n d (row_stays j h)))
+
+  -- So no pixel from there on has a sample.
+  pub row_outside : pos 0 <ℤ edge_function t.a t.b t.c → ((k : ℕ) → k < length os → AreUp (sample_changes t os k) m)
+      → stays_below (plus_all (values_at t (pixel_centre (x + i) y)) m) d ≡ true → (p : ℕ) → x + i ≤ p → mask t os p y ≡ 0
+  row_outside positive up h p l =
+      let z : x + (i + (p - (x + i))) ≡ p = omega arith in
+      let s = subst (λ (q : ℕ). stays_below (plus_all (values_at t (pixel_centre q y)) m) d ≡ true) z (row_stays (p - (x + i)) h) in
+      sym (mask_values t os p y positive (length os)) ∙ mask_outside t os (values_at t (pixel_centre p y)) m up (stays_is_below (plus_all (values_at t (pixel_centre p y)) m) d s)
 
 -- ---- the least and the greatest change to a sample
 

@@ -1,12 +1,14 @@
 -- What a setup keeps of a triangle in positive order.
-use Rattle.std.specs.Prelude.{◌≡◌, true, false, ℕ, ◌-◌, ◌*◌, ◌^◌, ◌<◌, List, length, ℤ}
+use Rattle.std.specs.Prelude.{◌≡◌, true, false, ℕ, ◌+◌, ◌-◌, ◌*◌, ◌^◌, ◌<◌, ◌≤◌, List, length, get_or, ℤ, pos, neg_ℤ, unsigned_abs}
 use Rattle.abuf_raster.specs.declared.setup.Extremes.{Extremes}
+use Rattle.abuf_raster.specs.declared.setup.EdgeLimits.{EdgeLimits}
+use Rattle.abuf_raster.specs.declared.setup.SampleLimits.{SampleLimits}
 use Rattle.abuf_raster.specs.declared.setup.Setup.{Setup}
-use Rattle.abuf_raster.specs.Triangle.{Triangle, IsWithin}
-use Rattle.abuf_raster.specs.declared.tile.Edge.{Edge}
+use Rattle.abuf_raster.specs.declared.point.Point.{Point}
+use Rattle.abuf_raster.specs.Triangle.{Triangle}
 use Rattle.abuf_raster.specs.declared.tile.Tile.{Tile}
 use Rattle.abuf_raster.specs.Samples.{pixel_centre}
-use Rattle.abuf_raster.specs.Values.{Numbers, values_at, farthest, plus_all, sample_changes, AreUp, AreAtMost, EdgeFits}
+use Rattle.abuf_raster.specs.Values.{Numbers, values_at, farthest, plus_all, sample_change, sample_changes, AreUp, AreAtMost}
 use Rattle.abuf_raster.specs.TrioNumbers.{numbers_of}
 
 -- The changes to the samples below a number lie between two bounds, which fit a width of this reach.
@@ -24,13 +26,21 @@ pub record IsSetup {V : Type 0} (number : V → ℤ) (reach : ℕ) (t : Triangle
   pub start : numbers_of number s.start ≡ values_at t (pixel_centre 0 0)
   pub samples : AreExtremes number reach t offsets (length offsets) s.samples
 
--- What an edge with a value keeps to.
-pub record IsEdge {V : Type 0} (number : V → ℤ) (reach : ℕ) (offsets : List (ℤ × ℤ)) (e : Edge V) : Type 0 where
-  pub a_near : IsWithin reach e.a
-  pub b_near : IsWithin reach e.b
-  pub a_small : IsWithin (2 ^ 45) e.a
-  pub b_small : IsWithin (2 ^ 45) e.b
-  pub fits : EdgeFits reach e.a e.b offsets (number e.value)
+-- The least values of the edge from a to b at a pixel's centre with which it accepts each of eight samples, from one on.
+pub record AreLimitsFrom (a b : Point) (offsets : List (ℤ × ℤ)) (from : ℕ) (limits : List ℤ) : Type 0 where
+  pub each : (k : ℕ) → k < 8 → from + k < length offsets → get_or limits k (pos 0) ≡ neg_ℤ (sample_change a b offsets (from + k))
+  pub small : (k : ℕ) → k < 8 → from + k < length offsets → unsigned_abs (neg_ℤ (sample_change a b offsets (from + k))) ≤ 2 ^ 54
+
+-- With which it accepts each of at most sixteen samples.
+pub record AreLimits (a b : Point) (offsets : List (ℤ × ℤ)) (limits : EdgeLimits) : Type 0 where
+  pub low : AreLimitsFrom a b offsets 0 limits.low
+  pub high : AreLimitsFrom a b offsets 8 limits.high
+
+-- The same of the three edges.
+pub record AreSampleLimits (t : Triangle) (offsets : List (ℤ × ℤ)) (limits : SampleLimits) : Type 0 where
+  pub ab : AreLimits t.a t.b offsets limits.ab
+  pub bc : AreLimits t.b t.c offsets limits.bc
+  pub ca : AreLimits t.c t.a offsets limits.ca
 
 -- The greatest and the least numbers in a tile, from those at its first pixel and the extremes in a pixel.
 abbrev pub highest : Triangle → Numbers → Tile → Numbers → Numbers

@@ -1,6 +1,6 @@
 -- The numbers that a walk steps: edge functions from which the top-left rule is taken off, so that an edge accepts a sample
 -- exactly where its number is not below 0.
-use Rattle.std.specs.Prelude.{ℕ, zero, suc, ◌+◌, ◌*◌, ◌^◌, Bool, true, false, ◌&&◌, ◌||◌, not, if◌then◌else◌, ℤ, pos, ◌+ℤ◌, ◌-ℤ◌, ◌*ℤ◌, int_lt, unsigned_abs, List, length, slice_index_or, ◌≤◌, ◌<◌, ◌≤ℤ◌}
+use Rattle.std.specs.Prelude.{ℕ, zero, suc, ◌+◌, ◌*◌, ◌^◌, Bool, true, false, ◌&&◌, ◌||◌, not, if◌then◌else◌, ℤ, pos, ◌+ℤ◌, ◌-ℤ◌, ◌*ℤ◌, int_lt, unsigned_abs, List, length, slice_index_or, ◌≤◌, ◌≤ℤ◌}
 use Rattle.abuf_raster.specs.declared.point.Point.{Point}
 use Rattle.abuf_raster.specs.Edge.{edge_function, is_left_edge, is_top_edge}
 use Rattle.abuf_raster.specs.Triangle.{Triangle}
@@ -45,6 +45,10 @@ plus_all m n = record { ab = m.ab +ℤ n.ab; bc = m.bc +ℤ n.bc; ca = m.ca +ℤ
 abbrev pub none_below : Numbers → Bool
 none_below n = not (int_lt n.ab (pos 0)) && not (int_lt n.bc (pos 0)) && not (int_lt n.ca (pos 0))
 
+-- One of the three is below 0 and falls by such changes, so that it stays below.
+abbrev pub stays_below : Numbers → Numbers → Bool
+stays_below n change = (int_lt n.ab (pos 0) && int_lt change.ab (pos 0)) || (int_lt n.bc (pos 0) && int_lt change.bc (pos 0)) || (int_lt n.ca (pos 0) && int_lt change.ca (pos 0))
+
 -- Each is at most this far from 0.
 abbrev pub AreAtMost : ℕ → Numbers → Type 0
 AreAtMost most n = (unsigned_abs n.ab ≤ most) × (unsigned_abs n.bc ≤ most) × (unsigned_abs n.ca ≤ most)
@@ -82,19 +86,7 @@ mask_of_values_below t offsets n (suc k) = mask_of_values_below t offsets n k + 
 abbrev pub mask_of_values : Triangle → List (ℤ × ℤ) → Numbers → ℕ
 mask_of_values t offsets n = mask_of_values_below t offsets n (length offsets)
 
--- A number is not above that of one edge at each sample.
-abbrev pub IsMinOf : ℤ → Point → Point → List (ℤ × ℤ) → ℤ → Type 0
-IsMinOf min a b offsets n = (k : ℕ) → k < length offsets → min ≤ℤ (n +ℤ sample_change a b offsets k)
-
--- The numbers at each sample are within bounds.
-abbrev pub FitsSamples : ℕ → Triangle → List (ℤ × ℤ) → Numbers → Type 0
-FitsSamples reach t offsets n = (k : ℕ) → k < length offsets → IsRoomFor reach (at_sample t offsets n k)
-
 -- The sum of 2^k over the samples k below a number that one edge accepts, of a pixel with this number at its centre.
 abbrev pub accepted_below : Point → Point → List (ℤ × ℤ) → ℤ → ℕ → ℕ
 accepted_below a b offsets n zero = 0
 accepted_below a b offsets n (suc k) = accepted_below a b offsets n k + (if not (int_lt (n +ℤ sample_change a b offsets k) (pos 0)) then 2 ^ k else 0)
-
--- The number of one edge at each sample is within bounds.
-abbrev pub EdgeFits : ℕ → Point → Point → List (ℤ × ℤ) → ℤ → Type 0
-EdgeFits reach a b offsets n = (k : ℕ) → k < length offsets → unsigned_abs (n +ℤ sample_change a b offsets k) ≤ 14 * (reach * reach)

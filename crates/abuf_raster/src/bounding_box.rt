@@ -173,12 +173,15 @@ pub fn meets(t: &ScreenTri, region: Region, pattern: Pattern) -> bool
     box_meets(t, region, pattern)
 }
 
-/// The first row of the region in which the triangle may cover a sample, by the box around it, or the one behind the last row. It
-/// takes next to nothing.
+/// The first column and the first row of the region in which the triangle may cover a sample, by the box around it, or those behind
+/// the last. They take next to nothing.
 #[inline(always)]
-pub fn first_row(t: &ScreenTri, region: Region, pattern: Pattern) -> u32
-    ensures within { (region.y0 ≤ result) × (result ≤ region.y0 + region.h) }
-    ensures above { (x y : ℕ) → region.y0 ≤ y → y < result → mask t.now (offsets_of pattern) x y ≡ 0 }
+pub fn upper_left(t: &ScreenTri, region: Region, pattern: Pattern) -> (u32, u32)
+    ensures column { (region.x0 ≤ result.0) × (result.0 ≤ region.x0 + region.w) }
+    ensures row { (region.y0 ≤ result.1) × (result.1 ≤ region.y0 + region.h) }
+    ensures left { (x y : ℕ) → region.x0 ≤ x → x < result.0 → mask t.now (offsets_of pattern) x y ≡ 0 }
+    ensures above { (x y : ℕ) → region.y0 ≤ y → y < result.1 → mask t.now (offsets_of pattern) x y ≡ 0 }
 {
-    BoundingBox::of(t, region, pattern).top
+    let bounds = BoundingBox::of(t, region, pattern);
+    (bounds.left, bounds.top)
 }

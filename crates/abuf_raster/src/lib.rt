@@ -30,7 +30,7 @@ mod tiles;
 mod triangle;
 mod width;
 
-pub use bounding_box::{first_row, meets};
+pub use bounding_box::{meets, upper_left};
 pub use for_users::{TileWalk, mask_at};
 pub use fragment::{Fragment, pack, unpack};
 pub use hit_counts::{count_hits, max_hits};

@@ -1,11 +1,11 @@
 // What is computed once for a triangle, before its tiles are visited.
-ghost use Rattle.std.specs.Prelude.{◌≡◌, ◌*◌, ◌^◌, ◌<◌, ◌≤◌, pos, ◌*ℤ◌, unsigned_abs, length, not};
+ghost use Rattle.std.specs.Prelude.{◌≡◌, ◌*◌, ◌^◌, ◌<◌, ◌≤◌, pos, neg_ℤ, ◌*ℤ◌, unsigned_abs, length, not};
 ghost use Rattle.abuf_num.specs.declared.limits.TheConstants.{MAX_SIDE};
 ghost use Rattle.abuf_raster.specs.Triangle.{IsWithin, AreWithin};
 ghost use Rattle.abuf_raster.specs.Samples.{offsets_of, pixel_centre};
-ghost use Rattle.abuf_raster.specs.Values.{values_at, none_below, sample_change, sample_changes, AreAtMost};
+ghost use Rattle.abuf_raster.specs.Values.{values_at, none_below, plus_all, sample_change, sample_changes, AreAtMost};
 ghost use Rattle.abuf_raster.specs.TrioNumbers.{numbers_of};
-ghost use Rattle.abuf_raster.specs.Setup.{AreExtremes, IsSetup, highest, lowest};
+ghost use Rattle.abuf_raster.specs.Setup.{AreExtremes, AreLimits, AreLimitsFrom, AreSampleLimits, IsSetup, highest, lowest};
 ghost use Rattle.abuf_raster.specs.Walk.{IsTile};
 
 use crate::pattern::{Pattern, sample_position};
@@ -14,12 +14,29 @@ use crate::stepping::{Trio, change_of_edge, changes, farthest, values_at};
 use crate::tile::Tile;
 use crate::triangle::ScreenTri;
 use crate::width::Width;
+use abuf_num::difference;
 
 /// For each edge, the least and the greatest change of its value from a pixel's centre to a sample of the pixel.
 #[derive(Clone, Copy)]
 pub(crate) struct Extremes<V> {
     pub(crate) min: Trio<V>,
     pub(crate) max: Trio<V>,
+}
+
+/// The least values of an edge at a pixel's centre with which it accepts the first eight samples, and the others. Where a pattern has
+/// fewer, the places behind the last are of no use.
+#[derive(Clone, Copy)]
+pub(crate) struct EdgeLimits {
+    pub(crate) low: [i64; 8],
+    pub(crate) high: [i64; 8],
+}
+
+/// The limits of the three edges.
+#[derive(Clone, Copy)]
+pub(crate) struct SampleLimits {
+    pub(crate) ab: EdgeLimits,
+    pub(crate) bc: EdgeLimits,
+    pub(crate) ca: EdgeLimits,
 }
 
 /// The values of the edges of a triangle in positive order at the centre of pixel (0, 0), and their extremes.
@@ -41,7 +58,7 @@ fn sixteenths(offset: i32) -> i64
 
 /// How the value of an edge changes from a pixel's centre to sample k.
 #[inline(always)]
-pub(crate) fn change_to_sample<V: Width>(a: Point, b: Point, pattern: Pattern, k: u32) -> V
+fn change_to_sample<V: Width>(a: Point, b: Point, pattern: Pattern, k: u32) -> V
     requires wide { 2 ^ 22 ≤ V.reach }
     requires a_near { IsWithin V.reach a }
     requires b_near { IsWithin V.reach b }
@@ -52,6 +69,76 @@ pub(crate) fn change_to_sample<V: Width>(a: Point, b: Point, pattern: Pattern, k
 {
     let offset = pattern.offset(k);
     change_of_edge::<V>(a, b, sixteenths(offset.0), sixteenths(offset.1))
+}
+
+/// The product of a difference of coordinates and a distance within a pixel.
+#[inline(always)]
+fn short_product(difference: i64, distance: i64) -> i64
+    requires difference_small { unsigned_abs difference < 2 ^ 46 }
+    requires distance_small { unsigned_abs distance ≤ 128 }
+    ensures value { result ≡ difference *ℤ distance }
+    ensures small { unsigned_abs result ≤ 2 ^ 53 }
+{
+    difference * distance
+}
+
+/// The least value of an edge at a pixel's centre with which it accepts sample k. 64 bits hold it, however large the triangle.
+#[inline(always)]
+fn sample_limit(a: Point, b: Point, pattern: Pattern, k: u32) -> i64
+    requires a_near { IsWithin (2 ^ 45) a }
+    requires b_near { IsWithin (2 ^ 45) b }
+    requires sample { k < length (offsets_of pattern) }
+    ensures value { result ≡ neg_ℤ (sample_change a b (offsets_of pattern) k) }
+    ensures small { unsigned_abs result ≤ 2 ^ 54 }
+{
+    let offset = pattern.offset(k);
+    let down = short_product(difference(b.x, a.x), sixteenths(offset.1));
+    let across = short_product(difference(a.y, b.y), sixteenths(offset.0));
+    -(down + across)
+}
+
+/// The least values of an edge at a pixel's centre with which it accepts each of eight samples, from this one on.
+#[inline(always)]
+fn limits_from(a: Point, b: Point, pattern: Pattern, from: u32) -> [i64; 8]
+    requires a_near { IsWithin (2 ^ 45) a }
+    requires b_near { IsWithin (2 ^ 45) b }
+    requires from { from ≤ 8 }
+    ensures { AreLimitsFrom a b (offsets_of pattern) from result }
+{
+    let mut limits = [0; 8];
+    for k in 0..8 {
+        if from + k < pattern.size() {
+            limits[k as usize] = sample_limit(a, b, pattern, from + k);
+        }
+    }
+    limits
+}
+
+impl EdgeLimits {
+    #[inline(always)]
+    fn new(a: Point, b: Point, pattern: Pattern) -> EdgeLimits
+        requires a_near { IsWithin (2 ^ 45) a }
+        requires b_near { IsWithin (2 ^ 45) b }
+        ensures { AreLimits a b (offsets_of pattern) result }
+    {
+        EdgeLimits {
+            low: limits_from(a, b, pattern, 0),
+            high: limits_from(a, b, pattern, 8),
+        }
+    }
+}
+
+impl SampleLimits {
+    #[inline(always)]
+    pub(crate) fn new(t: &ScreenTri, pattern: Pattern) -> SampleLimits
+        ensures { AreSampleLimits t.now (offsets_of pattern) result }
+    {
+        SampleLimits {
+            ab: EdgeLimits::new(t.a, t.b, pattern),
+            bc: EdgeLimits::new(t.b, t.c, pattern),
+            ca: EdgeLimits::new(t.c, t.a, pattern),
+        }
+    }
 }
 
 /// How the values of the three edges change.
@@ -115,6 +202,18 @@ pub(crate) fn all_extremes<V: Width>(t: &ScreenTri, pattern: Pattern) -> Extreme
         more_extremes(t, pattern, 8, size, half)
     } else {
         more_extremes(t, pattern, 1, size, first)
+    }
+}
+
+impl<V: Width> Extremes<V> {
+    /// At least the values at the samples of a pixel with these values at its centre.
+    #[inline(always)]
+    pub(crate) fn highest(self, at: Trio<V>) -> Trio<V>
+        requires at { AreAtMost (9 * (V.reach * V.reach)) (numbers_of V.number at) }
+        requires max { AreAtMost (V.reach * V.reach) (numbers_of V.number self.max) }
+        ensures { numbers_of V.number result ≡ plus_all (numbers_of V.number at) (numbers_of V.number self.max) }
+    {
+        at.plus(self.max)
     }
 }
 

@@ -1,19 +1,19 @@
 // The hits of a triangle in a tile of at most 8 by 8 pixels.
-ghost use Rattle.std.specs.Prelude.{◌≡◌, ℕ, if◌then◌else◌, ◌+◌, ◌*◌, ◌^◌, ◌<◌, ◌≤◌, pos, ◌<ℤ◌, ◌≤ℤ◌, ◌+ℤ◌, length, take, ◌++◌};
+ghost use Rattle.std.specs.Prelude.{◌≡◌, ℕ, false, if◌then◌else◌, ◌+◌, ◌*◌, ◌^◌, ◌<◌, ◌≤◌, pos, ◌<ℤ◌, ◌≤ℤ◌, ◌+ℤ◌, length, take, ◌++◌};
 ghost use Rattle.abuf_num.specs.declared.limits.TheConstants.{MAX_SIDE};
 ghost use Rattle.abuf_raster.specs.Edge.{edge_function};
 ghost use Rattle.abuf_raster.specs.Triangle.{AreWithin};
 ghost use Rattle.abuf_raster.specs.Samples.{offsets_of, pixel_centre};
-ghost use Rattle.abuf_raster.specs.Values.{IsMinOf, values_at, AreAtMost, FitsSamples, mask_of_values, accepted_below};
+ghost use Rattle.abuf_raster.specs.Values.{values_at, none_below, AreAtMost, mask_of_values, accepted_below};
 ghost use Rattle.abuf_raster.specs.TrioNumbers.{numbers_of};
 ghost use Rattle.abuf_raster.specs.Walk.{row_hits, block_hits, hit_of, found, full_row, full_hits, IsTile};
-ghost use Rattle.abuf_raster.specs.Setup.{AreExtremes, IsSetup, IsEdge};
+ghost use Rattle.abuf_raster.specs.Setup.{AreExtremes, AreLimits, AreLimitsFrom, AreSampleLimits, IsSetup};
 
 use crate::fragment::Fragment;
 use crate::pattern::Pattern;
 use crate::point::Point;
 use crate::region::Hit;
-use crate::setup::{Extremes, Setup, all_extremes, change_to_sample};
+use crate::setup::{EdgeLimits, Extremes, SampleLimits, Setup, all_extremes};
 use crate::stepping::{Trio, changes};
 use crate::triangle::ScreenTri;
 use crate::width::Width;
@@ -41,6 +41,13 @@ pub(crate) struct Edge<V> {
     a: Point,
     b: Point,
     value: V,
+}
+
+/// The pixels of a row, and the values at the centre of the first.
+#[derive(Clone, Copy)]
+struct RowStart<V> {
+    span: RowSpan,
+    values: Trio<V>,
 }
 
 /// The number of a primitive, the pattern that it is sampled in, and its extremes there.
@@ -72,58 +79,63 @@ fn bit(set: bool, k: u32) -> u16
 
 /// The samples that the edge accepts, from sample `from` on and up to sample `to`, put to those before.
 #[inline(always)]
-fn more_samples<V: Width>(edge: Edge<V>, pattern: Pattern, from: u32, to: u32, before: u16) -> u16
-    requires wide { 2 ^ 22 ≤ V.reach }
-    requires edge { IsEdge V.number V.reach (offsets_of pattern) edge }
-    requires order { from ≤ to }
+fn more_samples<V: Width>(
+    edge: Edge<V>,
+    limits: &[i64; 8],
+    pattern: Pattern,
+    from: u32,
+    to: u32,
+    before: u16,
+) -> u16
+    requires limits { AreLimitsFrom edge.a edge.b (offsets_of pattern) from limits.now }
+    requires order { (from ≤ to) × (to ≤ from + 8) }
     requires end { to ≤ length (offsets_of pattern) }
     requires before { before ≡ accepted_below edge.a edge.b (offsets_of pattern) (V.number edge.value) from }
     ensures { result ≡ accepted_below edge.a edge.b (offsets_of pattern) (V.number edge.value) to }
 {
     let mut mask = before;
     for k in from..to {
-        let change = change_to_sample::<V>(edge.a, edge.b, pattern, k);
-        mask += bit(!edge.value.plus(change).is_below_zero(), k);
+        let limit = limits[(k - from) as usize];
+        mask += bit(!edge.value.is_below_limit(limit), k);
     }
     mask
 }
 
-/// The samples that the edge accepts, each tested, or all where the least of its values isn't below 0.
+/// The samples that the edge accepts.
 #[inline(always)]
-fn accepted<V: Width>(edge: Edge<V>, pattern: Pattern, min: V) -> u16
-    requires wide { 2 ^ 22 ≤ V.reach }
-    requires edge { IsEdge V.number V.reach (offsets_of pattern) edge }
-    requires min { IsMinOf (V.number min) edge.a edge.b (offsets_of pattern) (V.number edge.value) }
+fn accepted<V: Width>(edge: Edge<V>, limits: &EdgeLimits, pattern: Pattern) -> u16
+    requires { AreLimits edge.a edge.b (offsets_of pattern) limits.now }
     ensures { result ≡ accepted_below edge.a edge.b (offsets_of pattern) (V.number edge.value) (length (offsets_of pattern)) }
 {
     let size = pattern.size();
-    if !min.is_below_zero() {
-        pattern.full_mask()
-    } else if size > 8 {
+    if size > 8 {
         // Two short loops are unrolled where a long one is not.
-        let half = more_samples(edge, pattern, 0, 8, 0);
-        more_samples(edge, pattern, 8, size, half)
+        let half = more_samples(edge, &limits.low, pattern, 0, 8, 0);
+        more_samples(edge, &limits.high, pattern, 8, size, half)
     } else {
-        more_samples(edge, pattern, 0, size, 0)
+        more_samples(edge, &limits.low, pattern, 0, size, 0)
     }
 }
 
-/// The mask of a pixel with these values at its centre: 0 where an edge accepts none of its samples, all where the three
-/// edges accept all. Else the samples are tested by the edges that cross them, mostly one.
+/// The mask of a pixel with these values at its centre: 0 where an edge accepts none of its samples, all where the three edges accept
+/// all. Else each sample is tested by each edge, which takes less time than to ask which edges cross the pixel.
 #[inline(always)]
-fn pixel_mask<V: Width>(t: &ScreenTri, pattern: Pattern, samples: Extremes<V>, at: Trio<V>) -> u16
-    requires wide { 2 ^ 22 ≤ V.reach }
-    requires near { AreWithin V.reach t.now }
+fn pixel_mask<V: Width>(
+    t: &ScreenTri,
+    pattern: Pattern,
+    samples: Extremes<V>,
+    limits: &SampleLimits,
+    at: Trio<V>,
+) -> u16
     requires samples { AreExtremes V.number V.reach t.now (offsets_of pattern) (length (offsets_of pattern)) samples }
-    requires fits { FitsSamples V.reach t.now (offsets_of pattern) (numbers_of V.number at) }
+    requires limits { AreSampleLimits t.now (offsets_of pattern) limits.now }
     requires room { AreAtMost (9 * (V.reach * V.reach)) (numbers_of V.number at) }
     ensures { result ≡ mask_of_values t.now (offsets_of pattern) (numbers_of V.number at) }
 {
-    if !at.plus(samples.max).none_below() {
+    if !samples.highest(at).none_below() {
         return 0;
     }
-    let min = at.plus(samples.min);
-    if min.none_below() {
+    if at.plus(samples.min).none_below() {
         return pattern.full_mask();
     }
     let ab = Edge {
@@ -141,7 +153,9 @@ fn pixel_mask<V: Width>(t: &ScreenTri, pattern: Pattern, samples: Extremes<V>, a
         b: t.a,
         value: at.ca,
     };
-    accepted(ab, pattern, min.ab) & accepted(bc, pattern, min.bc) & accepted(ca, pattern, min.ca)
+    accepted(ab, &limits.ab, pattern)
+        & accepted(bc, &limits.bc, pattern)
+        & accepted(ca, &limits.ca, pattern)
 }
 
 /// A hit, or none where the mask is 0, put at place `count` of the hits.
@@ -159,13 +173,23 @@ fn put(hits: &mut [Hit; 64], count: usize, prim: u32, x: u32, y: u32, mask: u16)
     count + (mask != 0) as usize
 }
 
-/// The hits in a row of pixels, whose first has these values at its centre, put behind the first `count` hits.
+/// Whether the mask of a pixel is asked where these are the highest values of the edges: unless one of them accepts no sample. With a
+/// single sample every pixel is asked, which then takes no branch.
+#[inline(always)]
+fn is_tested<V: Width>(pattern: Pattern, highest: Trio<V>) -> bool
+    ensures { result ≡ false → none_below (numbers_of V.number highest) ≡ false }
+{
+    pattern.size() == 1 || highest.none_below()
+}
+
+/// The hits in a row of pixels, whose first has these values at its centre, put behind the first `count` hits. No pixel is asked
+/// behind the one from which on an edge accepts no sample.
 #[inline(always)]
 fn row<V: Width>(
     t: &ScreenTri,
     primitive: SampledPrimitive<V>,
-    span: RowSpan,
-    start: Trio<V>,
+    limits: &SampleLimits,
+    start: RowStart<V>,
     hits: &mut [Hit; 64],
     count: usize,
 ) -> usize
@@ -173,19 +197,27 @@ fn row<V: Width>(
     requires near { AreWithin V.reach t.now }
     requires positive { pos 0 <ℤ edge_function t.now.a t.now.b t.now.c }
     requires samples { AreExtremes V.number V.reach t.now (offsets_of primitive.pattern) (length (offsets_of primitive.pattern)) primitive.samples }
-    requires start { numbers_of V.number start ≡ values_at t.now (pixel_centre span.x span.y) }
-    requires x_small { span.x + span.w ≤ MAX_SIDE }
-    requires y_small { span.y < MAX_SIDE }
-    requires room { count + span.w ≤ 64 }
-    ensures room { result ≤ count + span.w }
-    ensures hits { take result hits.new ≡ take count hits.old ++ row_hits t.now primitive.number (offsets_of primitive.pattern) span.x span.w span.y }
+    requires limits { AreSampleLimits t.now (offsets_of primitive.pattern) limits.now }
+    requires start { numbers_of V.number start.values ≡ values_at t.now (pixel_centre start.span.x start.span.y) }
+    requires x_small { start.span.x + start.span.w ≤ MAX_SIDE }
+    requires y_small { start.span.y < MAX_SIDE }
+    requires room { count + start.span.w ≤ 64 }
+    ensures room { result ≤ count + start.span.w }
+    ensures hits { take result hits.new ≡ take count hits.old
+        ++ row_hits t.now primitive.number (offsets_of primitive.pattern) start.span.x start.span.w start.span.y }
 {
     let right = changes::<V>(t, 256, 0);
-    let mut at = start;
+    let span = start.span;
+    let mut at = start.values;
     let mut count = count;
     for column in 0..span.w {
-        let mask = pixel_mask(t, primitive.pattern, primitive.samples, at);
-        count = put(hits, count, primitive.number, span.x + column, span.y, mask);
+        let max = primitive.samples.highest(at);
+        if is_tested(primitive.pattern, max) {
+            let mask = pixel_mask(t, primitive.pattern, primitive.samples, limits, at);
+            count = put(hits, count, primitive.number, span.x + column, span.y, mask);
+        } else if max.stays_below(right) {
+            break;
+        }
         at = at.plus(right);
     }
     count
@@ -209,6 +241,7 @@ fn tested_tile<V: Width>(
     ensures room { result ≤ 64 }
     ensures hits { take result hits.new ≡ block_hits t.now primitive.number (offsets_of primitive.pattern) tile.x tile.w tile.y tile.h }
 {
+    let limits = SampleLimits::new(t, primitive.pattern);
     let down = changes::<V>(t, 0, 256);
     let mut at = start;
     let mut count = 0;
@@ -218,7 +251,8 @@ fn tested_tile<V: Width>(
             y: tile.y + line,
             w: tile.w,
         };
-        count = row(t, primitive, span, at, hits, count);
+        let start = RowStart { span, values: at };
+        count = row(t, primitive, &limits, start, hits, count);
         at = at.plus(down);
     }
     count

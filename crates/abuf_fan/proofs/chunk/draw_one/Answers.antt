@@ -1,4 +1,4 @@
-use Rattle.std.proofs.Common.{ℕ, List, slice_index_or, sym, subst, ap, ◌∙◌}
+use Rattle.std.proofs.Common.{ℕ, List, sym, subst}
 use Rattle.abuf_raster.specs.declared.pattern.Pattern.{Pattern}
 use Rattle.abuf_raster.specs.Region.{Region}
 use Rattle.abuf_raster.specs.Triangle.{Triangle}
@@ -12,8 +12,8 @@ pub returns-clause-passes : goal.returns-clause-passes
 returns-clause-passes c =
     let v = c.args.pass.now.view in let w = c.draw.new.pass.view in let n = c.args.number in let b = c.requires.brush in
     let os = offsets_of c.args.work.now.pattern in let r = c.args.work.now.region in let ts : List Triangle = c.args.work.now.tris.now in
-    let t : Triangle = slice_index_or ts n c.index-work-number.result in
-    let is = fragments_at ts os r n c.index-work-number.result c.requires.number c.index-work-number.is ∙ ap (λ (u : Triangle). fragments u n os r) c.index-work-number.is in
+    let t : Triangle = c.args.triangle.now in
+    let is = fragments_at ts os r n t c.requires.number c.requires.triangle in
     let old : List (ℕ × ℕ) = c.args.brush.now.batch in let new : List (ℕ × ℕ) = c.draw.new.self.batch in
     let same = subst (λ (p : Pattern). Passes old (fragments t n (offsets_of p) r) new v w) b.1
     (subst (λ (z : Region). Passes old (fragments t n (offsets_of c.args.brush.now.pattern) z) new v w) b.0 c.draw.ensures.passes) in

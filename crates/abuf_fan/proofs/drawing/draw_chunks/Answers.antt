@@ -25,11 +25,11 @@ loop-chunk-init g c = record {
 
 pub draw_chunk-requires-clause-numbers : goal.draw_chunk-requires-clause-numbers
 draw_chunk-requires-clause-numbers g c = let P : ℕ → Type 0 = λ n. n < length c.args.work.now.tris.now in let order : List ℕ = c.args.work.now.order.now in
-    subst (All P) (sym c.chunk_of-numbers.ensures) (All-take P 64 (drop (64 * c.in-Some.chunk) order) (All-drop P (64 * c.in-Some.chunk) order c.args.work.now.each.small))
+    subst (All P) (sym c.chunk_of-numbers.ensures.chunk) (All-take P 64 (drop (64 * c.in-Some.chunk) order) (All-drop P (64 * c.in-Some.chunk) order c.args.work.now.each.small))
 
 pub draw_chunk-requires-clause-credit : goal.draw_chunk-requires-clause-credit
 draw_chunk-requires-clause-credit g c = let i = c.loop-chunk.invariant in let t = c.in-Some.ensures.number in let above = i.above t.0 t.2 in let a = t.3.0 in
-    rw c.chunk_of-numbers.ensures (chunk_room c.args.work.now.order.now c.loop-chunk.next c.in-Some.chunk (c.args.work.now.region.w * c.args.work.now.region.h) c.loop-chunk.pass.view.credit (omega arith) i.room)
+    rw c.chunk_of-numbers.ensures.chunk (chunk_room c.args.work.now.order.now c.loop-chunk.next c.in-Some.chunk (c.args.work.now.region.w * c.args.work.now.region.h) c.loop-chunk.pass.view.credit (omega arith) i.room)
 
 pub loop-chunk-smaller : goal.loop-chunk-smaller
 loop-chunk-smaller g c = let i = c.loop-chunk.invariant in let t = c.in-Some.ensures.number in let above = i.above t.0 t.2 in let a = t.3.0 in let b = t.3.1 in let p = c.args.work.now.chunks in omega arith
@@ -38,8 +38,8 @@ pub loop-chunk-preserved : goal.loop-chunk-preserved
 loop-chunk-preserved g c = let i = c.loop-chunk.invariant in let t = c.in-Some.ensures.number in let above = i.above t.0 t.2 in let a = t.3.0 in let b = t.3.1 in let p = c.args.work.now.chunks in
     let ts = c.args.work.now.tris.now in let order = c.args.work.now.order.now in let os = offsets_of c.args.work.now.pattern in let r = c.args.work.now.region in
     let low = i.low in let turns = i.turns in let some : 1 ≤ c.loop-chunk.turn.view.credit = omega arith in let credit = ap (λ (h : TurnView). h.credit) t.1 in
-    let chunk : Draws (chunk_fragments ts os r order c.in-Some.chunk) c.loop-chunk.pass.view c.draw_chunk.new.pass.view = rw c.chunk_of-numbers.ensures at c.draw_chunk.ensures.draws in
-    let few : c.loop-chunk.pass.view.credit ≤ c.draw_chunk.new.pass.view.credit + length (take 64 (drop (64 * c.in-Some.chunk) order)) * (r.w * r.h) = rw c.chunk_of-numbers.ensures at c.draw_chunk.ensures.few in record {
+    let chunk : Draws (chunk_fragments ts os r order c.in-Some.chunk) c.loop-chunk.pass.view c.draw_chunk.new.pass.view = rw c.chunk_of-numbers.ensures.chunk at c.draw_chunk.ensures.draws in
+    let few : c.loop-chunk.pass.view.credit ≤ c.draw_chunk.new.pass.view.credit + length (take 64 (drop (64 * c.in-Some.chunk) order)) * (r.w * r.h) = rw c.chunk_of-numbers.ensures.chunk at c.draw_chunk.ensures.few in record {
       same = c.draw_chunk.ensures.frame ∙ i.same;
       seat = c.take.ensures.table ∙ i.seat;
       numbers = i.numbers ++ t.0 ∷ [];

@@ -7,7 +7,7 @@ use Rattle.abuf_raster.proofs.tile.row.Given as goal
 
 abbrev pub invariant-loop-column : goal.invariant-loop-column
 invariant-loop-column g l = record {
-  at : numbers_of g.V.Width.number l.at ≡ values_at l.t (pixel_centre (l.span.x + l.column) l.span.y);
+  at : numbers_of g.V.Width.number l.at ≡ values_at l.t (pixel_centre (l.fn.start.span.x + l.column) l.fn.start.span.y);
   room : l.count ≤ l.fn.count + l.column;
-  hits : take l.count l.hits ≡ take l.fn.count l.fn.hits ++ row_hits l.t l.primitive.number (offsets_of l.primitive.pattern) l.span.x l.column l.span.y;
+  hits : take l.count l.hits ≡ take l.fn.count l.fn.hits ++ row_hits l.t l.fn.primitive.number (offsets_of l.fn.primitive.pattern) l.fn.start.span.x l.column l.fn.start.span.y;
 }
