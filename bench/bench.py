@@ -42,11 +42,11 @@ NOTHING = hashlib.sha256().hexdigest()  # of an output that is empty
 TOLD = re.compile(rb"pool full: (\d+) fragments")  # how a refusal tells the number of fragments
 
 
-# Touches as much memory as any scene takes, and ends. On a virtual machine a page that was free for a while may have gone back to the
+# Touches more memory than any scene takes, and ends. On a virtual machine a page that was free for a while may have gone back to the
 # host, and the first to touch it waits several times as long: without this, what ran before decides a good part of a time.
 WARM = """
 import mmap
-memory = mmap.mmap(-1, 384 << 20)
+memory = mmap.mmap(-1, 512 << 20)
 memory.madvise(mmap.MADV_HUGEPAGE)
 for at in range(0, len(memory), 4096):
     memory[at] = 1
