@@ -1,10 +1,10 @@
-// Calls by number on threads, and a desk.
+// Calls by number on threads, jobs, and a desk.
 ghost use Rattle.std.specs.Prelude.{◌≡◌, ◌≤◌};
 ghost use Rattle.abuf_num.specs.declared.limits.TheConstants.{MAX_THREADS};
 ghost use Rattle.abuf_share.specs.declared.desk.TheConstants.{MAX_NUMBERS};
 
 use abuf_num::NoMemory;
-use abuf_share::{Desk, map_numbered};
+use abuf_share::{Desk, map_jobs, map_numbered};
 use std::alloc::Global;
 use std::process::Abort;
 use std::test::Fail;
@@ -73,6 +73,23 @@ fn no_results_where_one_call_fails(rt: HostRuntime) -> Result<(), Fail> {
             },
         );
         assert!(rt; found.is_err(), "by {threads} threads");
+    }
+    Ok(())
+}
+
+fn by_jobs<R: Threads + Sync + Abort>(rt: &R, alloc: Global, count: u64) -> Result<(), Fail> {
+    let jobs: Vec<u64> = (0..count).collect(alloc)?;
+    let found = map_jobs(rt, alloc, jobs, &|job| of_number(job))?;
+    let expected: Vec<u64> = (0..count).map(|number| of_number(number)).collect(alloc)?;
+    assert!(rt; found == expected, "{count} jobs");
+    Ok(())
+}
+
+#[test]
+fn the_results_of_all_jobs(rt: HostRuntime) -> Result<(), Fail> {
+    let alloc = rt.alloc();
+    for count in [0, 1, 2, 3, 7, 64] {
+        by_jobs(&rt, alloc, count)?;
     }
     Ok(())
 }

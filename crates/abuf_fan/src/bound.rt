@@ -26,7 +26,9 @@ fn max_of(t: &ScreenTri, region: Region, pattern: Pattern) -> u32
     max_hits(t, region, pattern)
 }
 
-/// The sum of what each of the triangles has at most, up to what is enough.
+/// The sum of what each of the triangles has at most, up to what is enough. Not inlined, so that the frames of [`max_fragments`] are
+/// small, of which the caller's stack holds one for each thread.
+#[inline(never)]
 fn sum_of(tris: &[ScreenTri], region: Region, pattern: Pattern, enough: u64) -> u64
     requires few { length tris.now ≤ MAX_PRIMITIVES }
     ensures bound { IsBound tris.now (offsets_of pattern) region enough result }
@@ -74,8 +76,9 @@ pub fn max_fragments<R: Threads + Sync>(
     if threads == 1 || is_little(tris.len(), region) {
         return sum_of(tris, region, pattern, enough);
     }
-    let left = threads / 2;
-    let right = threads - left;
+    // One part for a new thread, and the others for the caller, which starts all threads itself.
+    let left = 1;
+    let right = threads - 1;
     let (front, back) = tris.split_at(tris.len() * left as usize / threads as usize);
     // In a recursion a closure can be lent a struct with a model, and not be given it.
     let shared = &region;

@@ -26,7 +26,9 @@ fn pass_by_again<G: Gate>(gate: &G, worker: u32, pass: &Pass, next: u32) {
     }
 }
 
-/// Takes chunks from the desk and draws them, until none is left.
+/// Takes chunks from the desk and draws them, until none is left. Not inlined, so that what a chunk needs isn't in the frames of
+/// [`draw_workers`], of which the caller's stack holds one for each thread.
+#[inline(never)]
 fn draw_chunks<G: Gate>(gate: &G, worker: u32, work: &Work, pass: &mut Pass, turn: &mut Turn)
     requires can { CanServe work.now 1 turn.old pass.old }
     ensures served { HaveServed work.now turn.old turn.new pass.old pass.new }
@@ -43,7 +45,7 @@ fn draw_chunks<G: Gate>(gate: &G, worker: u32, work: &Work, pass: &mut Pass, tur
     pass_by_again(gate, worker, pass, next);
 }
 
-/// Splits off a pass with the credit that so many workers of the right half need, and keeps what those of the left half need.
+/// Splits off a pass with the credit that so many workers on the right need, and keeps what those on the left need.
 fn lend(work: &Work, pass: &mut Pass, left: u32, right: u32) -> Pass
     requires frame { pass.old.frame ≡ work.now.frame.now }
     requires workers { left + right ≤ MAX_THREADS }
@@ -56,8 +58,9 @@ fn lend(work: &Work, pass: &mut Pass, left: u32, right: u32) -> Pass
     pass.split(work.frame, right as u64 * each)
 }
 
-/// Draws chunks by these workers: each half of them on a thread of its own, the right one by a pass and a turn that are split
-/// off, and joined when both halves have returned.
+/// Draws chunks by these workers: the first on a thread of its own, and the others by a pass and a turn that are split off, and
+/// joined when all have returned. [`join_mut`] starts a thread for what it is given first. So the caller starts all threads itself:
+/// a thread that a new one starts may be left on its parent's processor while another is idle.
 fn draw_workers<R: Threads + Sync, G: Gate + Sync>(
     rt: &R,
     gate: &G,
@@ -73,7 +76,7 @@ fn draw_workers<R: Threads + Sync, G: Gate + Sync>(
         draw_chunks(gate, workers.first, work, pass, turn);
         return;
     }
-    let (left, right) = workers.halves();
+    let (left, right) = workers.split_first();
     let mut other = lend(work, pass, left.count, right.count);
     let mut other_turn = turn.split(work.desk, right.count as u64 * (MAX_NUMBERS + 1) as u64);
     join_mut(

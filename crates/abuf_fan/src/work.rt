@@ -1,5 +1,5 @@
 // What is drawn, and by which workers.
-ghost use Rattle.std.specs.Prelude.{◌≡◌, ◌+◌, ◌-◌, ◌*◌, ◌/◌, ◌≤◌, length};
+ghost use Rattle.std.specs.Prelude.{◌≡◌, ◌+◌, ◌-◌, ◌*◌, ◌≤◌, length};
 ghost use Rattle.abuf_num.specs.declared.limits.TheConstants.{MAX_PRIMITIVES, MAX_THREADS};
 ghost use Rattle.abuf_fan.specs.Chunks.{IsOrder, chunks_of};
 
@@ -33,20 +33,19 @@ pub(crate) struct Workers {
 }
 
 impl Workers {
-    /// The lower half of the numbers, and the others.
-    pub(crate) fn halves(self) -> (Workers, Workers)
+    /// The first of the workers, and the others.
+    pub(crate) fn split_first(self) -> (Workers, Workers)
         requires { 2 ≤ self.count }
-        ensures { (result.0.count ≡ self.count / 2) × (result.1.count ≡ self.count - self.count / 2) }
+        ensures { (result.0.count ≡ 1) × (result.1.count ≡ self.count - 1) }
     {
-        let left = self.count / 2;
         (
             Workers {
                 first: self.first,
-                count: left,
+                count: 1,
             },
             Workers {
-                first: self.first + left,
-                count: self.count - left,
+                first: self.first + 1,
+                count: self.count - 1,
             },
         )
     }

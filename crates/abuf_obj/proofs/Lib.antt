@@ -4,6 +4,7 @@ pub mod Joining
 pub mod Late
 pub mod Reading
 pub mod Splitting
+pub mod Parts
 pub mod PieceReading
 pub mod Tallies
 pub mod Rows

@@ -65,3 +65,20 @@ pub record HasPiece (before lines : List (List ℕ)) (r : ObjReader) : Type 0 wh
 abbrev pub GivesPiece : ℕ → ObjReader → List (List ℕ) → Result ObjReader GivenUp → Type 0
 GivesPiece lines_above start lines result =
     (before : List (List ℕ)) → lines_above ≡ length before → BeginsBehind before start → IfOk result (HasPiece before lines)
+
+-- the first reader has the lines of a piece that stands behind these, and the others have the lines behind that piece
+pub record HasFirst (AreOthers : List (List ℕ) → List (List ℕ) → Type 0) (before lines : List (List ℕ)) (first : ObjReader) : Type 0 where
+  pub front : List (List ℕ)
+  pub back : List (List ℕ)
+  pub all : lines ≡ front ++ back
+  pub has : HasPiece before front first
+  pub others : AreOthers (before ++ front) back
+
+-- the readers have lines that stand behind these, each those of a piece, in the order of the pieces
+abbrev pub HavePieces : List ObjReader → List (List ℕ) → List (List ℕ) → Type 0
+HavePieces [] before lines = lines ≡ []
+HavePieces (first ∷ others) before lines = HasFirst (HavePieces others) before lines first
+
+-- so it is whatever so many lines stand above, if the reader begins with what stands there
+abbrev pub Behind : ℕ → ObjReader → (List (List ℕ) → Type 0) → Type 0
+Behind lines_above start IsSo = (before : List (List ℕ)) → lines_above ≡ length before → BeginsBehind before start → IsSo before

@@ -1,8 +1,8 @@
 // The pieces of a file, each read on a thread.
-ghost use Rattle.std.specs.Prelude.{◌+◌, ◌-◌, ◌^◌, ◌<◌, ◌≤◌, length, IfOk};
+ghost use Rattle.std.specs.Prelude.{◌≡◌, ◌∷◌, ◌+◌, ◌-◌, ◌^◌, ◌<◌, ◌≤◌, length, List as Items, ℕ, vec_len, IfOk};
 ghost use Rattle.abuf_num.specs.declared.limits.TheConstants.{MAX_THREADS};
 ghost use Rattle.abuf_text.specs.Lines.{lines};
-ghost use Rattle.abuf_obj.specs.Pieces.{GivesPiece, IsTally};
+ghost use Rattle.abuf_obj.specs.Pieces.{Behind, GivesPiece, HasPiece, HavePieces, IsTally};
 ghost use denote.Param.Send.{IsSync};
 
 use crate::given_up::GivenUp;
@@ -28,9 +28,10 @@ pub(crate) fn tally_on_threads<'a, R: Threads + Sync>(
     if threads == 1 {
         return Tally::of(alloc, bytes);
     }
-    let left = threads / 2;
-    let right = threads - left;
-    let (front, back) = split_lines(bytes, bytes.len() / threads as usize * left as usize);
+    // The caller starts all threads: one that a new thread starts may be left on its parent's processor while another is idle.
+    let left = 1;
+    let right = threads - 1;
+    let (front, back) = split_lines(bytes, bytes.len() / threads as usize);
     let first = move || -> Result<Tally, GivenUp>
         requires { IsSync R.row × (1 ≤ left) × (left ≤ MAX_THREADS) × (length front.now < 2 ^ 32 - 1) }
         ensures { IfOk result (IsTally (lines front.entry.now)) × IfOk result (λ t. t.lines ≤ length front.entry.now) }
@@ -45,7 +46,9 @@ pub(crate) fn tally_on_threads<'a, R: Threads + Sync>(
     Tally::both(first, second)
 }
 
-/// Reads a piece behind so many lines, where `start` knows what else stands above.
+/// Reads a piece behind so many lines, where `start` knows what else stands above. Not inlined, so that the frames of [`read_pieces`]
+/// are small, of which the caller's stack holds one for each thread.
+#[inline(never)]
 fn read_piece(
     alloc: Global,
     lines_above: u32,
@@ -64,7 +67,19 @@ fn read_piece(
     Ok(reader)
 }
 
-/// Reads a piece on so many threads, by halves: the tally of the first half tells what stands above the second.
+/// A reader, and others behind it. Not inlined, as [`read_piece`] isn't.
+#[inline(never)]
+fn with_first(first: ObjReader, others: Vec<ObjReader>) -> Result<Vec<ObjReader>, GivenUp>
+    ensures some { IfOk result (λ readers. 1 ≤ vec_len readers) }
+    ensures items { IfOk result (λ readers. readers.items ≡ first ∷ others.items) }
+{
+    let mut readers = others;
+    readers.insert(0, first)?;
+    Ok(readers)
+}
+
+/// Reads so many pieces, each on a thread, and gives their readers in order. The tally of the first piece tells what stands above
+/// the others. While a thread reads it, the caller goes on with them.
 pub(crate) fn read_pieces<R: Threads + Sync>(
     rt: &R,
     alloc: Global,
@@ -72,31 +87,47 @@ pub(crate) fn read_pieces<R: Threads + Sync>(
     lines_above: u32,
     start: &ObjReader,
     bytes: &[u8],
-) -> Result<ObjReader, GivenUp>
+) -> Result<Vec<ObjReader>, GivenUp>
     requires threads { (1 ≤ threads) × (threads ≤ MAX_THREADS) }
     requires few { lines_above + length bytes.now < 2 ^ 32 - 1 }
-    ensures { GivesPiece lines_above start.now (lines bytes.now) result }
+    ensures some { IfOk result (λ readers. 1 ≤ vec_len readers) }
+    ensures pieces { Behind lines_above start.now (λ before. IfOk result (λ readers. HavePieces readers.items before (lines bytes.now))) }
 {
     if threads == 1 {
-        return read_piece(alloc, lines_above, start, bytes);
+        let last = read_piece(alloc, lines_above, start, bytes)?;
+        let alone = with_first(last, Vec::new(alloc))?;
+        return Ok(alone);
     }
-    let left = threads / 2;
-    let right = threads - left;
-    let (front, back) = split_lines(bytes, offset_by_time(bytes, left, threads));
+    let others = threads - 1;
+    let (front, back) = split_lines(bytes, offset_by_time(bytes, 1, threads));
     let tally = tally_on_threads(rt, alloc, threads, front)?;
     let next = start.behind(alloc, &tally)?;
-    let middle = &next;
+    let behind = &next;
     let lines_before = lines_above + tally.lines;
     let first = move || -> Result<ObjReader, GivenUp>
-        requires { IsSync R.row × (1 ≤ left) × (left ≤ MAX_THREADS) × (lines_above + length front.now < 2 ^ 32 - 1) }
+        requires { lines_above + length front.now < 2 ^ 32 - 1 }
         ensures { GivesPiece lines_above start.entry.now (lines front.entry.now) result }
-    { read_pieces(rt, alloc, left, lines_above, start, front) };
-    let second = move || -> Result<ObjReader, GivenUp>
-        requires { IsSync R.row × (1 ≤ right) × (right ≤ MAX_THREADS) × (lines_before + length back.now < 2 ^ 32 - 1) }
-        ensures { GivesPiece lines_before middle.entry.now (lines back.entry.now) result }
-    { read_pieces(rt, alloc, right, lines_before, middle, back) };
-    let (first, second) = join(rt, first, second);
+    { read_piece(alloc, lines_above, start, front) };
+    let rest = move || -> Result<Vec<ObjReader>, GivenUp>
+        requires { IsSync R.row × (1 ≤ others) × (others ≤ MAX_THREADS) × (lines_before + length back.now < 2 ^ 32 - 1) }
+        ensures { IfOk result (λ readers. 1 ≤ vec_len readers)
+            × Behind lines_before behind.entry.now (λ before. IfOk result (λ readers. HavePieces readers.items before (lines back.entry.now))) }
+    { read_pieces(rt, alloc, others, lines_before, behind, back) };
+    let (first, rest) = join(rt, first, rest);
     let first = first?;
-    let second = second?;
-    ObjReader::joined(first, second)
+    let rest = rest?;
+    let readers = with_first(first, rest)?;
+    Ok(readers)
+}
+
+/// What the readers of neighbouring pieces have read, in one. Each puts its points and faces behind those of the first.
+pub(crate) fn join_pieces(mut readers: Vec<ObjReader>) -> Result<ObjReader, GivenUp>
+    requires { 1 ≤ vec_len readers }
+    ensures { (before ls : Items (Items ℕ)) → HavePieces readers.items before ls → IfOk result (HasPiece before ls) }
+{
+    let mut all = readers.remove(0);
+    for reader in readers {
+        all = ObjReader::joined(all, reader)?;
+    }
+    Ok(all)
 }

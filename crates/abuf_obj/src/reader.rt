@@ -106,7 +106,9 @@ impl ObjReader {
         Ok(())
     }
 
-    /// A reader that begins behind a piece, of which the tally is known, where this one begins before it.
+    /// A reader that begins behind a piece, of which the tally is known, where this one begins before it. Not inlined, so that it
+    /// takes no room in the frames of [`read_pieces`](crate::pieces::read_pieces).
+    #[inline(never)]
     pub(crate) fn behind(&self, alloc: Global, tally: &Tally) -> Result<ObjReader, GivenUp>
         ensures { (before lines : Items (Items ℕ)) → BeginsBehind before self.now → IsTally lines tally.now → IfOk result (BeginsBehind (before ++ lines)) }
     {

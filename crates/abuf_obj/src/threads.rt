@@ -7,7 +7,7 @@ ghost use Rattle.abuf_obj.specs.Sound.{IsScene};
 
 use crate::fault::ObjFault;
 use crate::given_up::GivenUp;
-use crate::pieces::read_pieces;
+use crate::pieces::{join_pieces, read_pieces};
 use crate::reader::ObjReader;
 use crate::scene::{FlatObj, finish, first_astray, read_flat};
 use abuf_text::Names;
@@ -35,7 +35,8 @@ pub fn read_in_pieces<R: Threads + Sync>(
     ensures scene { IfOk result IsScene }
 {
     let start = ObjReader::beginning(alloc, 0, 0, Names::new(alloc), Names::new(alloc), None)?;
-    let reader = read_pieces(rt, alloc, pieces, 0, &start, bytes)?;
+    let readers = read_pieces(rt, alloc, pieces, 0, &start, bytes)?;
+    let reader = join_pieces(readers)?;
     let obj = finish(reader);
     match first_astray(&obj) {
         Some(_) => Err(GivenUp),
@@ -45,8 +46,8 @@ pub fn read_in_pieces<R: Threads + Sync>(
 
 /// Reads a scene as [`read_obj`](crate::read_obj) does, and gives the same answer, on at most so many threads.
 ///
-/// A file of at least 262144 bytes is shared, 131072 bytes or more for each thread. While the pieces are joined, which is two and two,
-/// the later points and faces of each pair take as much memory again. Where the pieces are [given up](read_in_pieces), the file is
+/// A file of at least 262144 bytes is shared, 131072 bytes or more for each thread. While the pieces are joined, one after another,
+/// the points and faces of all but the first take as much memory again. Where the pieces are [given up](read_in_pieces), the file is
 /// read once more on one thread, which finds the first fault.
 pub fn read_obj_on_threads<R: Threads + Sync>(
     rt: &R,

@@ -19,8 +19,9 @@ use abuf_frame::Closed;
 use abuf_io::{Sink, write_all};
 use abuf_num::NoMemory;
 use abuf_scene::Scene;
+use abuf_share::map_jobs;
 use std::alloc::Global;
-use std::thread::{Threads, map_vec};
+use std::thread::Threads;
 
 /// What the images that are drawn at once may have together, so that the memory of a run stays below 2 GB. A frame takes 16 bytes a
 /// node and 8 a pixel, twice while it is made, and an image 18 bytes a pixel: at most 1.2 GB for so many nodes and pixels. A frame
@@ -91,8 +92,9 @@ fn draw_batch<R: Threads + Sync>(
 {
     let threads = plan.threads / shots.len() as u32;
     let jobs = jobs_of(alloc, shots, written)?;
-    let drawn = map_vec(
+    let drawn = map_jobs(
         rt,
+        alloc,
         jobs,
         &|job|
             requires { IsSync R.row × MayDraw plan.now scene.now.triangles threads job.shot }

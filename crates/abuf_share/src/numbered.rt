@@ -6,9 +6,10 @@ ghost use Rattle.abuf_share.specs.Numbered.{GivesEachOk, HasCalled, IsFresh};
 ghost use Rattle.abuf_share.specs.declared.desk.TheConstants.{MAX_NUMBERS};
 
 use crate::desk::{Desk, MAX_NUMBERS, Turn};
+use crate::jobs::map_jobs;
 use abuf_num::NoMemory;
 use std::alloc::Global;
-use std::thread::{Threads, map_vec};
+use std::thread::Threads;
 
 /// What a call gave, and for which number.
 #[derive(Drop)]
@@ -86,7 +87,7 @@ pub fn map_numbered<R: Threads + Sync, X: Send + Drop, F: Fn(u32) -> Result<X, N
     let desk = &owned;
     // No more workers than numbers.
     let turns = turns_of(alloc, desk, &mut turn, threads.min(count).max(1))?;
-    let mut workers = map_vec(rt, turns, &|turn| call_each(alloc, desk, turn, f))?;
+    let mut workers = map_jobs(rt, alloc, turns, &|turn| call_each(alloc, desk, turn, f))?;
     let mut entries = Vec::with_capacity(alloc, count as usize)?;
     while let Some(worker) = workers.pop() {
         let mut done = worker?;

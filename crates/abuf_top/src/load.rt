@@ -122,6 +122,10 @@ fn room_for(alloc: Global, room: Option<Room>, obj: &FlatObj, bytes: usize) -> R
     }
 }
 
+/// On how many threads a scene is read at most. Joining what more of them read would take longer than the reading. And the caller's
+/// stack holds 2 KiB for each, while Linux maps 128 KiB of it when a process starts, and may not be able to add to them.
+const MAX_READERS: u32 = 32;
+
 /// The scene that these bytes define. They are freed once they are read, so that what comes after can take their memory.
 fn read_list<R: Threads + Sync>(
     rt: &R,
@@ -139,7 +143,7 @@ fn read_list<R: Threads + Sync>(
     ensures libraries { IfOk result (λ obj. obj.libraries ≡ libraries bytes) }
     ensures scene { IfOk result IsScene }
 {
-    read_obj_on_threads(rt, alloc, bytes.as_slice(), threads)
+    read_obj_on_threads(rt, alloc, bytes.as_slice(), threads.min(MAX_READERS))
 }
 
 /// The scene that these bytes define, and its libraries. Where there is no room for its primitives yet, it takes some.

@@ -21,8 +21,9 @@ use abuf_mtl::Materials;
 use abuf_num::NoMemory;
 use abuf_obj::FlatObj;
 use abuf_scene::SceneFault;
+use abuf_share::map_jobs;
 use std::alloc::Global;
-use std::thread::{Threads, map_vec};
+use std::thread::Threads;
 
 /// The least number of faces for each of several workers. Starting a thread takes as long as making the primitives of some
 /// hundred faces.
@@ -56,13 +57,14 @@ fn project_chunks<R: Threads + Sync>(
     requires per_chunk { 1 ≤ per_chunk }
     ensures { IfOk result (λ chunks. AreFaceChunks (look_up palette.now.materials.value) obj.now table.now.eye per_chunk obj.now.faces chunks.items) }
 {
+    let alloc = room.alloc;
     let chunks = face_chunks(room, obj.faces(), per_chunk)?;
-    let made = map_vec(
+    map_jobs(
         rt,
+        alloc,
         chunks,
         &|chunk| project_chunk(chunk, table, obj, palette),
-    )?;
-    Ok(made)
+    )
 }
 
 /// The primitives of all faces as the eye of the table sees them, by the paints of the palette, made in the room. Where one chunk of

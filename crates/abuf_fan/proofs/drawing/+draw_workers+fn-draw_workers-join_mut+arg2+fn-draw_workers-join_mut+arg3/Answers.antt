@@ -8,9 +8,9 @@ use Rattle.abuf_fan.proofs.drawing.+draw_workers+fn-draw_workers-join_mut+arg2+f
 pub returns : goal.returns
 returns g t c =
     let work = c.args.work.now in
-    let moved : ℕ = c.halves.result.1.count * (MAX_NUMBERS + 1) in
+    let moved : ℕ = c.split_first.result.1.count * (MAX_NUMBERS + 1) in
     let turns = c.requires.can.numbers in
-    let halves = c.halves.ensures in
+    let counts = c.split_first.ensures in
     let a : HaveServed work c.split-other_turn.new.self c.turn-1.given.0 c.lend-other.new.pass c.pass-1.given.0 = search rules in
     let b : HaveServed work c.split-other_turn.result c.other_turn-2-1.given.0 c.lend-other.result c.other-2-1.given.0 = search rules in
     record {

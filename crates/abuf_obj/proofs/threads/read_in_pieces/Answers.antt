@@ -3,7 +3,7 @@ use Rattle.abuf_text.specs.Lines.{lines}
 use Rattle.abuf_obj.specs.Above.{Above, points_on}
 use Rattle.abuf_obj.specs.Faults.{fault_from}
 use Rattle.abuf_obj.specs.Scene.{points, faces, names, libraries, obj_fault, or_astray}
-use Rattle.abuf_obj.specs.Pieces.{BeginsBehind, HasPiece}
+use Rattle.abuf_obj.specs.Pieces.{BeginsBehind, HasPiece, HavePieces}
 use Rattle.abuf_obj.proofs.Late.{first_late, found_of_all, faces_of_all}
 use Rattle.abuf_obj.proofs.PieceReading.{sound-whole}
 use Rattle.abuf_obj.proofs.threads.read_in_pieces.Goals as goal
@@ -20,7 +20,8 @@ returns g c =
       points = above;
       names = record { names = start.ensures.names ∙ c.new.ensures; libraries = start.ensures.libraries ∙ c.new-2.ensures; name = start.ensures.name };
     } in
-    let whole : HasPiece [] all r = c.in_ok-reader.ensures [] refl begin in
+    let parts : HavePieces c.in_ok-readers.readers.items [] all = c.in_ok-readers.ensures.pieces [] refl begin in
+    let whole : HasPiece [] all r = c.in_ok-reader.ensures [] all parts in
     let o = c.finish-obj.result in
     let made = c.finish-obj.ensures in
     let few : length o.points ≤ 1048576 = omega (arith, r.few_points, ap length made.points) in

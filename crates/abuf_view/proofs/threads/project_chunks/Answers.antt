@@ -6,8 +6,8 @@ use Rattle.abuf_view.specs.Chunks.{AreCut}
 use Rattle.abuf_view.specs.declared.chunks.FaceChunk.{FaceChunk}
 use Rattle.abuf_view.proofs.threads.project_chunks.Goals as goal
 
-pub map_vec-requires-after_bounds : goal.map_vec-requires-after_bounds
-map_vec-requires-after_bounds g c κs within = λ i x below is κs' ref_ptr held rest.
+pub map_jobs-requires-after_bounds : goal.map_jobs-requires-after_bounds
+map_jobs-requires-after_bounds g c κs within = λ i x below is κs' ref_ptr held rest.
     let p = c.args.per_chunk in
     let cut : AreCut p c.faces.result c.in_ok-chunks.chunks.items = c.in_ok-chunks.ensures in
     let own : x.faces ≡ take p (drop (i * p) c.faces.result) = ap (λ (chunk : FaceChunk). chunk.faces) is ∙ cut.each i x below in
