@@ -2,14 +2,14 @@
 use Rattle.std.proofs.Common.{◌≡◌, ◌∙◌, ◌+◌, ◌≤◌, ◌<◌, ◌++◌, ◌∷◌, [], ℕ, suc, ℤ, pos, negsuc, unsigned_abs, List, ap, sym, subst, take, drop, length, get_or, set, arith, length-append, append_assoc, codes, decimal, ⊎_elim}
 use Rattle.std.proofs.Math.Seq.{take-append-add, take-length, take-suc-set, get_or-append_seam}
 use Rattle.std.proofs.Math.ListN.{get_or-append}
-use Rattle.std.proofs.lemmas.Fmt.{length-decimal-le}
+use Rattle.std.proofs.lemmas.Fmt.{decimal_digit, length-decimal-le}
 use Rattle.std.proofs.lemmas.Bool.{cases_lt}
 use Rattle.std.proofs.lemmas.List.{length-take-le, take-append-le, take-append-drop}
 use Rattle.std.proofs.lemmas.Simd.{take_more_put_chunk}
 use lib.Lanes.{put_chunk, chunk}
 use Rattle.abuf_scene.specs.Demo.{coordinate}
-use Rattle.abuf_scene.specs.Drawing.{drawn, IsNumberText, AreDrawn}
-use Rattle.abuf_scene.specs.declared.number_texts.NumberText.{NumberText}
+use Rattle.abuf_scene.specs.Drawing.{drawn, IsShortText, AreDrawn}
+use Rattle.abuf_scene.specs.declared.short_texts.ShortText.{ShortText}
 
 -- the first bytes of eight that were written stand behind what stood before them
 pub put_is : (at n : ℕ) (buf bytes : List ℕ) → at + 8 ≤ length buf → length bytes ≡ 8 → n ≤ 8 → take (at + n) (put_chunk at buf (chunk 0 8 bytes)) ≡ take at buf ++ take n bytes
@@ -38,19 +38,35 @@ point_is x y z =
     ap (λ (l : List ℕ). l ++ codes " " ++ z ++ codes "\n") (append_assoc (codes "v " ++ x) (codes " ") y)
     ∙ ap (λ (l : List ℕ). l ++ codes "\n") (append_assoc (codes "v " ++ x ++ (32 ∷ y)) (codes " ") z)
 
+-- five texts in a row behind some bytes
+pub five_behind : (before a x y z e : List ℕ) → before ++ a ++ x ++ y ++ z ++ e ≡ before ++ (a ++ x ++ y ++ z ++ e)
+five_behind before a x y z e =
+    ap (λ (l : List ℕ). l ++ y ++ z ++ e) (append_assoc before a x)
+    ∙ ap (λ (l : List ℕ). l ++ z ++ e) (append_assoc before (a ++ x) y)
+    ∙ ap (λ (l : List ℕ). l ++ e) (append_assoc before (a ++ x ++ y) z)
+    ∙ append_assoc before (a ++ x ++ y ++ z) e
+
+-- the lines of a face, by texts of eight bytes and less
+pub face_is : (before : List ℕ) (n : ℕ) → n < 10
+    → before ++ codes "usemtl m" ++ ((48 + n) ∷ codes "\nf -3 -") ++ codes "2 -1\n" ≡ before ++ (codes "usemtl m" ++ decimal n ++ codes "\nf -3 -2 -1\n")
+face_is before n small =
+    ap (λ (l : List ℕ). l ++ codes "2 -1\n") (append_assoc before (codes "usemtl m") ((48 + n) ∷ codes "\nf -3 -"))
+    ∙ append_assoc before (codes "usemtl m" ++ ((48 + n) ∷ codes "\nf -3 -")) (codes "2 -1\n")
+    ∙ ap (λ (l : List ℕ). before ++ (codes "usemtl m" ++ l ++ codes "\nf -3 -2 -1\n")) (sym (decimal_digit n small))
+
 -- one byte more
 pub take_more_set : (i y : ℕ) (buf : List ℕ) → i < length buf → take (i + 1) (set buf i y) ≡ take i buf ++ y ∷ []
 take_more_set i y buf within = let next : i + 1 ≡ suc i = omega arith in ap (λ (k : ℕ). take k (set buf i y)) next ∙ take-suc-set buf i y within
 
 -- the text of the next number
-pub drawn_more : (number_texts : List NumberText) (p : NumberText) (n : ℕ) → length number_texts ≡ n → AreDrawn number_texts → IsNumberText (drawn n) p → AreDrawn (number_texts ++ p ∷ [])
+pub drawn_more : (number_texts : List ShortText) (p : ShortText) (n : ℕ) → length number_texts ≡ n → AreDrawn number_texts → IsShortText (drawn n) p → AreDrawn (number_texts ++ p ∷ [])
 drawn_more number_texts p n size before is = λ i d within.
     ⊎_elim
-    (λ (below : i < length number_texts). subst (λ (q : NumberText). IsNumberText (drawn i) q) (sym (get_or-append number_texts (p ∷ []) d i below)) (before i d below))
+    (λ (below : i < length number_texts). subst (λ (q : ShortText). IsShortText (drawn i) q) (sym (get_or-append number_texts (p ∷ []) d i below)) (before i d below))
     (λ (past : length number_texts ≤ i).
     let last : i ≡ length number_texts = omega (arith, length-append number_texts (p ∷ [])) in
     let found : get_or (number_texts ++ p ∷ []) i d ≡ p = ap (λ (k : ℕ). get_or (number_texts ++ p ∷ []) k d) last ∙ get_or-append_seam number_texts p [] d in
-    subst (λ (q : NumberText). IsNumberText (drawn i) q) (sym found) (subst (λ (k : ℕ). IsNumberText (drawn k) p) (sym (last ∙ size)) is))
+    subst (λ (q : ShortText). IsShortText (drawn i) q) (sym found) (subst (λ (k : ℕ). IsShortText (drawn k) p) (sym (last ∙ size)) is))
     (cases_lt i (length number_texts))
 
 -- a text behind a byte

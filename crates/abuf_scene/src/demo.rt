@@ -1,11 +1,11 @@
 // The demonstration scene.
-ghost use Rattle.std.specs.Prelude.{◌≡◌, ◌≤◌, ◌<◌, ◌/◌, ◌^◌, ◌++◌, take, length, decimal, OnOk, IfOk};
+ghost use Rattle.std.specs.Prelude.{◌≡◌, ◌≤◌, ◌<◌, ◌+◌, ◌/◌, ◌^◌, ◌++◌, take, length, OnOk, IfOk};
 ghost use Rattle.abuf_scene.specs.Demo.{step, face, obj, library};
+ghost use Rattle.abuf_scene.specs.declared.demo.TheConstants.{FACE_ROOM, POINT_ROOM};
 ghost use Rattle.abuf_scene.specs.Drawing.{three, vertex_from, lines_from, AreDrawn};
 
-use crate::number_texts::{NumberText, drawn_texts, put};
+use crate::short_texts::{ShortText, drawn_texts, put};
 use abuf_num::{List, NoMemory};
-use itoa::Buffer;
 use std::alloc::Global;
 
 /// The bytes of a demonstration scene in OBJ, and of its library in MTL.
@@ -35,65 +35,79 @@ impl Register {
     }
 }
 
-/// Writes the line of a point at the start of a buffer, with the next three numbers, and tells where it ends.
+/// The most bytes that the line of a point takes in a buffer: each number is copied as eight.
+const POINT_ROOM: usize = 26;
+
+/// The most bytes that the two lines of a face take there.
+const FACE_ROOM: usize = 24;
+
+/// The most bytes that the lines of a triangle take there.
+const ROOM: usize = 3 * POINT_ROOM + FACE_ROOM;
+
+/// Writes the line of a point into a buffer, with the next three numbers, and tells where it ends.
 #[inline(always)]
-fn put_vertex(buf: &mut [u8], number_texts: &[NumberText], register: &mut Register) -> usize
-    requires room { length buf.old ≡ 32 }
+fn put_vertex(
+    buf: &mut [u8],
+    at: usize,
+    number_texts: &[ShortText],
+    register: &mut Register,
+) -> usize
+    requires room { at + POINT_ROOM ≤ length buf.old }
     requires number_texts { AreDrawn number_texts.now }
     requires count { length number_texts.now ≡ 256 }
     ensures register { register.new.s ≡ three register.old.s }
-    ensures line { take result buf.new ≡ vertex_from register.old.s }
-    ensures within { result ≤ length buf.new }
+    ensures line { take result buf.new ≡ take at buf.old ++ vertex_from register.old.s }
+    ensures end { result ≤ at + POINT_ROOM }
+    ensures size { length buf.new ≡ length buf.old }
 {
-    buf[0] = b'v';
-    let x = put(buf, 1, number_texts[register.draw()]);
+    buf[at] = b'v';
+    let x = put(buf, at + 1, number_texts[register.draw()]);
     let y = put(buf, x, number_texts[register.draw()]);
     let z = put(buf, y, number_texts[register.draw()]);
     buf[z] = b'\n';
     z + 1
 }
 
-/// Puts the line of a point last, with the next three numbers.
-fn push_vertex(
-    out: &mut Vec<u8>,
-    number_texts: &[NumberText],
-    register: &mut Register,
-) -> Result<(), NoMemory>
-    requires number_texts { AreDrawn number_texts.now }
-    requires count { length number_texts.now ≡ 256 }
-    ensures register { register.new.s ≡ three register.old.s }
-    ensures line { OnOk result (out.new.items ≡ out.old.items ++ vertex_from register.old.s) }
+/// Writes the two lines of a face into a buffer, and tells where they end.
+#[inline(always)]
+fn put_face(buf: &mut [u8], at: usize, i: u32) -> usize
+    requires room { at + FACE_ROOM ≤ length buf.old }
+    ensures lines { take result buf.new ≡ take at buf.old ++ face i }
+    ensures end { result ≤ at + FACE_ROOM }
+    ensures size { length buf.new ≡ length buf.old }
 {
-    let mut buf = [0; 32];
-    let end = put_vertex(&mut buf, number_texts, register);
-    out.extend_from_slice(&buf[..end])?;
-    Ok(())
-}
-
-/// Puts a number last, between some bytes.
-fn push_number(out: &mut Vec<u8>, before: &[u8], number: u32, behind: &[u8]) -> Result<(), NoMemory>
-    ensures { OnOk result (out.new.items ≡ out.old.items ++ before.now ++ decimal number ++ behind.now) }
-{
-    let mut buffer = Buffer::new();
-    out.extend_from_slice(before)?;
-    out.extend_from_slice(buffer.format(number).as_bytes())?;
-    out.extend_from_slice(behind)?;
-    Ok(())
-}
-
-/// Puts the two lines of a face last.
-fn push_face(out: &mut Vec<u8>, i: u32) -> Result<(), NoMemory>
-    ensures { OnOk result (out.new.items ≡ out.old.items ++ face i) }
-{
-    push_number(out, b"usemtl m", i % 8, b"\nf -3 -2 -1\n")?;
-    Ok(())
+    let digit = b'0' + (i % 8) as u8;
+    let keyword = put(
+        buf,
+        at,
+        ShortText {
+            bytes: *b"usemtl m",
+            length: 8,
+        },
+    );
+    let first = put(
+        buf,
+        keyword,
+        ShortText {
+            bytes: [digit, b'\n', b'f', b' ', b'-', b'3', b' ', b'-'],
+            length: 8,
+        },
+    );
+    put(
+        buf,
+        first,
+        ShortText {
+            bytes: *b"2 -1\n\0\0\0",
+            length: 5,
+        },
+    )
 }
 
 /// Puts the lines of triangle i last.
 #[tactic(auto, unfolding(crate::specs::Drawing::lines_from))]
 fn push_lines(
     out: &mut Vec<u8>,
-    number_texts: &[NumberText],
+    number_texts: &[ShortText],
     register: &mut Register,
     i: u32,
 ) -> Result<(), NoMemory>
@@ -102,10 +116,12 @@ fn push_lines(
     ensures register { OnOk result (register.new.s ≡ three (three (three register.old.s))) }
     ensures lines { OnOk result (out.new.items ≡ out.old.items ++ lines_from register.old.s i) }
 {
-    push_vertex(out, number_texts, register)?;
-    push_vertex(out, number_texts, register)?;
-    push_vertex(out, number_texts, register)?;
-    push_face(out, i)?;
+    let mut buf = [0; ROOM];
+    let first = put_vertex(&mut buf, 0, number_texts, register);
+    let second = put_vertex(&mut buf, first, number_texts, register);
+    let third = put_vertex(&mut buf, second, number_texts, register);
+    let end = put_face(&mut buf, third, i);
+    out.extend_from_slice(&buf[..end])?;
     Ok(())
 }
 

@@ -7,7 +7,7 @@
 
 mod assembly;
 mod demo;
-mod number_texts;
+mod short_texts;
 mod triangle_fans;
 mod triangles;
 

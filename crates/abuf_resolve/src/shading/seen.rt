@@ -28,7 +28,7 @@ impl<'a, 'b> Shading<'a, 'b> {
         ensures words { All (IsDepthWord (length self.now.paints.now)) keys.old.items → All (IsDepthWord (length self.now.paints.now)) keys.new.items }
         ensures seen { IfOk result (IsStillSeenAt self.now at k word keys.old.items keys.new.items least) }
     {
-        if self.planes.max_word(FragmentWord(word).primitive() as u32) < least {
+        if least > 0 && self.planes.max_word(FragmentWord(word).primitive() as u32) < least {
             return Ok(least);
         }
         let key = self.planes.sample_word(word, at, self.pattern, k);

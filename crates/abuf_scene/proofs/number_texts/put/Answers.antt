@@ -1,6 +1,0 @@
-use Rattle.std.proofs.Common.{arith}
-use Rattle.abuf_scene.proofs.Putting.{put_is}
-use Rattle.abuf_scene.proofs.number_texts.put.Goals as goal
-
-pub returns-clause-text : goal.returns-clause-text
-returns-clause-text c = put_is c.args.at c.args.number_text.length c.args.buf.now c.args.number_text.bytes c.requires.room (omega arith) c.requires.short
