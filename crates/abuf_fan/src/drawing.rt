@@ -10,7 +10,7 @@ ghost use denote.Param.Send.{IsSync};
 
 use crate::chunk::{chunk_of, draw_chunk};
 use crate::gate::Gate;
-use crate::order::order_of;
+use crate::order::OrderedTriangles;
 use crate::work::{Work, Workers};
 use abuf_frame::{Frame, Pass};
 use abuf_num::NoMemory;
@@ -94,9 +94,49 @@ fn draw_workers<R: Threads + Sync, G: Gate + Sync>(
     turn.join(work.desk, other_turn);
 }
 
-/// Draws all triangles into the frame, triangle i as primitive number i, by `threads` workers, of 1 to 64: a new entry for each
-/// fragment in the region, Linked or Lost. A whole pass stays whole, and a settled one settled. What the pass is told of may
-/// grow, by Linked entries that are its own at the return. Where memory runs out, nothing was drawn, and the pass is unchanged.
+/// Draws all triangles into the frame in their order, triangle i of the list as primitive number i, by `threads` workers, of 1 to 64:
+/// a new entry for each fragment in the region, Linked or Lost. A whole pass stays whole, and a settled one settled. What the pass is
+/// told of may grow, by Linked entries that are its own at the return. Where memory runs out, nothing was drawn, and the pass is
+/// unchanged.
+pub fn draw_ordered<R: Threads + Sync, G: Gate + Sync>(
+    rt: &R,
+    alloc: Global,
+    frame: &Frame,
+    pass: &mut Pass,
+    ordered: &OrderedTriangles,
+    threads: u32,
+    gate: &G,
+) -> Result<(), NoMemory>
+    requires frame { pass.old.frame ≡ frame.now }
+    requires pixels { ordered.now.region.w * ordered.now.region.h ≤ frame.now.pixels }
+    requires threads { (1 ≤ threads) × (threads ≤ MAX_THREADS) }
+    requires credit { threads * (length ordered.now.tris.now * (ordered.now.region.w * ordered.now.region.h)) ≤ pass.old.view.credit }
+    ensures frame { pass.new.frame ≡ pass.old.frame }
+    ensures drawn { OnOk result
+        (Grows (all_fragments ordered.now.tris.now 0 (offsets_of ordered.now.pattern) ordered.now.region) pass.old.view pass.new.view) }
+    ensures few { pass.old.view.credit ≤ pass.new.view.credit + length ordered.now.tris.now * (ordered.now.region.w * ordered.now.region.h) }
+    ensures unchanged { OnErr result (pass.new ≡ pass.old) }
+    ensures endowment { endowment pass.new.view ≡ endowment pass.old.view }
+    ensures loose { loose pass.new.view.entries ≡ loose pass.old.view.entries }
+{
+    let (desk, mut turn) = Desk::start(alloc, ordered.tris.len().div_ceil(64) as u32)?;
+    let work = Work {
+        frame,
+        desk: &desk,
+        tris: ordered.tris,
+        order: &ordered.numbers,
+        region: ordered.region,
+        pattern: ordered.pattern,
+    };
+    let workers = Workers {
+        first: 0,
+        count: threads,
+    };
+    draw_workers(rt, gate, &work, workers, pass, &mut turn);
+    Ok(())
+}
+
+/// Orders the triangles and draws them, as [`draw_ordered`] does.
 pub fn draw_all<R: Threads + Sync, G: Gate + Sync>(
     rt: &R,
     alloc: Global,
@@ -120,20 +160,6 @@ pub fn draw_all<R: Threads + Sync, G: Gate + Sync>(
     ensures endowment { endowment pass.new.view ≡ endowment pass.old.view }
     ensures loose { loose pass.new.view.entries ≡ loose pass.old.view.entries }
 {
-    let order = order_of(alloc, tris, region, pattern)?;
-    let (desk, mut turn) = Desk::start(alloc, tris.len().div_ceil(64) as u32)?;
-    let work = Work {
-        frame,
-        desk: &desk,
-        tris,
-        order: &order,
-        region,
-        pattern,
-    };
-    let workers = Workers {
-        first: 0,
-        count: threads,
-    };
-    draw_workers(rt, gate, &work, workers, pass, &mut turn);
-    Ok(())
+    let ordered = OrderedTriangles::new(alloc, tris, region, pattern)?;
+    draw_ordered(rt, alloc, frame, pass, &ordered, threads, gate)
 }

@@ -11,13 +11,19 @@ use Rattle.abuf_raster.specs.declared.pattern.Pattern.{Pattern}
 use Rattle.abuf_raster.specs.Region.{Region}
 use Rattle.abuf_raster.specs.Triangle.{Triangle}
 use Rattle.abuf_resolve.specs.Words.{AreWordsAt}
+use Rattle.abuf_fan.specs.declared.order.OrderedTriangles.{OrderedTriangles}
 use Rattle.abuf_picture.specs.Picture.{IsFrameOf, fragments, total}
+use Rattle.abuf_picture.specs.declared.target.Target.{Target}
 
 -- So many nodes serve for a pool of this many: for so many fragments as are drawn, more would never be claimed.
 pub record IsPool (fragments nodes room : ℕ) : Type 0 where
   pub some : 1 ≤ room
   pub few : room ≤ nodes
   pub enough : min fragments nodes ≤ room
+
+-- The triangles were ordered for a drawing of the target's region, with its samples.
+abbrev pub IsOrderOf : List Triangle → Target → OrderedTriangles → Type 0
+IsOrderOf triangles target ordered = (ordered.tris.now ≡ triangles) × (ordered.region ≡ target.region) × (ordered.pattern ≡ target.pattern)
 
 -- The pass is the whole one of the frame, which has an empty list for each pixel of the region, and as many nodes as the pool, or
 -- fewer, where these are enough for all fragments.

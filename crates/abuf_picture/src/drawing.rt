@@ -1,15 +1,16 @@
 // The drawing into a frame, and its closing.
-ghost use Rattle.std.specs.Prelude.{◌≡◌, ◌*◌, ◌≤◌, min, IfOk};
-ghost use Rattle.abuf_num.specs.declared.limits.TheConstants.{MAX_NODES};
+ghost use Rattle.std.specs.Prelude.{◌≡◌, ◌*◌, ◌≤◌, length, min, IfOk};
+ghost use denote.Param.Send.{IsSync};
+ghost use Rattle.abuf_num.specs.declared.limits.TheConstants.{MAX_NODES, MAX_PRIMITIVES};
 ghost use Rattle.abuf_frame.specs.Words.{Sized};
 ghost use Rattle.abuf_frame.specs.Views.{lost};
-ghost use Rattle.abuf_picture.specs.Drawn.{IsDrawn, IsPool, IsStarted};
+ghost use Rattle.abuf_picture.specs.Drawn.{IsDrawn, IsOrderOf, IsPool, IsStarted};
 ghost use Rattle.abuf_picture.specs.Picture.{IsFrameOf, total};
 
 use crate::primitives::Primitives;
 use crate::redrawing::{close_roomy, in_pool, redraw};
 use crate::target::Target;
-use abuf_fan::{Gate, draw_all, max_fragments};
+use abuf_fan::{Gate, OrderedTriangles, draw_ordered, max_fragments};
 use abuf_frame::{Closed, Frame, InitialWords, Pass};
 use abuf_num::NoMemory;
 use abuf_raster::region_law;
@@ -46,30 +47,33 @@ pub(crate) fn nodes_needed<R: Threads + Sync>(
     nodes_for(most, target.nodes)
 }
 
+/// The triangles in the order in which they are drawn.
+pub(crate) fn order_of<'a>(
+    alloc: Global,
+    primitives: &Primitives<'a>,
+    target: &Target,
+) -> Result<OrderedTriangles<'a>, NoMemory>
+    ensures { IfOk result (IsOrderOf primitives.now.triangles.now target.now) }
+{
+    OrderedTriangles::new(alloc, primitives.triangles, target.region, target.pattern)
+}
+
 /// Draws the primitives into a frame that was started, on the target's number of threads.
 pub(crate) fn draw_into<R: Threads + Sync, G: Gate + Sync>(
     rt: &R,
     alloc: Global,
-    primitives: &Primitives,
+    ordered: &OrderedTriangles,
     target: &Target,
     started: (Frame, Pass),
     gate: &G,
 ) -> Result<(Frame, Pass), NoMemory>
-    requires { IsStarted primitives.now.triangles.now target.now.pattern target.now.region target.now.nodes started.0 started.1 }
-    ensures { IfOk result (λ p. IsDrawn primitives.now.triangles.now target.now.pattern target.now.region target.now.nodes p.0 p.1) }
+    requires order { (ordered.now.region ≡ target.now.region) × (ordered.now.pattern ≡ target.now.pattern) }
+    requires started { IsStarted ordered.now.tris.now target.now.pattern target.now.region target.now.nodes started.0 started.1 }
+    ensures { IfOk result (λ p. IsDrawn ordered.now.tris.now target.now.pattern target.now.region target.now.nodes p.0 p.1) }
 {
-    let Target {
-        region,
-        pattern,
-        threads,
-        ..
-    } = *target;
-    let triangles = primitives.triangles;
     let (frame, mut pass) = started;
-    region_law(region);
-    let drawn = draw_all(
-        rt, alloc, &frame, &mut pass, triangles, region, pattern, threads, gate,
-    );
+    region_law(ordered.region);
+    let drawn = draw_ordered(rt, alloc, &frame, &mut pass, ordered, target.threads, gate);
     match drawn {
         Ok(()) => Ok((frame, pass)),
         Err(_) => {
@@ -111,6 +115,42 @@ fn initial_words_for<R: Threads + Sync>(
     initial_words
 }
 
+/// From how many triangles on their order is found beside the frame's start: for fewer, starting a thread takes longer.
+const MANY_TRIANGLES: usize = 8192;
+
+/// The words of the frame at its start, and the triangles in order. Where there are many, and three threads or more, their order is found
+/// on a thread of its own.
+fn prepare<'a, R: Threads + Sync>(
+    rt: &R,
+    alloc: Global,
+    primitives: &Primitives<'a>,
+    target: &Target,
+    room: u32,
+) -> Result<(InitialWords, OrderedTriangles<'a>), NoMemory>
+    requires { (1 ≤ room) × (room ≤ MAX_NODES) }
+    ensures words { IfOk result (λ p. (p.0.pixels ≡ target.now.region.w * target.now.region.h) × (p.0.nodes ≡ room)) }
+    ensures order { IfOk result (λ p. IsOrderOf primitives.now.triangles.now target.now p.1) }
+{
+    let triangles = primitives.triangles;
+    if target.threads < 3 || triangles.len() < MANY_TRIANGLES {
+        let initial_words = initial_words_for(rt, alloc, target, room)?;
+        let ordered = order_of(alloc, primitives, target)?;
+        return Ok((initial_words, ordered));
+    }
+    let (ordered, initial_words) = join(
+        rt,
+        move || -> Result<OrderedTriangles, NoMemory>
+            requires { length triangles.now ≤ MAX_PRIMITIVES }
+            ensures { IfOk result (IsOrderOf triangles.entry.now target.entry.now) }
+        { OrderedTriangles::new(alloc, triangles, target.region, target.pattern) },
+        move || -> Result<InitialWords, NoMemory>
+            requires { IsSync R.row × (1 ≤ room) × (room ≤ MAX_NODES) }
+            ensures { IfOk result (λ b. (b.pixels ≡ target.entry.now.region.w * target.entry.now.region.h) × (b.nodes ≡ room)) }
+        { initial_words_for(rt, alloc, target, room) },
+    );
+    Ok((initial_words?, ordered?))
+}
+
 /// A frame of so many nodes into which the primitives are drawn, on the target's number of threads, and its whole pass.
 pub(crate) fn draw_pass<R: Threads + Sync, G: Gate + Sync>(
     rt: &R,
@@ -123,10 +163,10 @@ pub(crate) fn draw_pass<R: Threads + Sync, G: Gate + Sync>(
     requires { IsPool (total primitives.now.triangles.now target.now.pattern target.now.region) target.now.nodes room }
     ensures { IfOk result (λ p. IsDrawn primitives.now.triangles.now target.now.pattern target.now.region target.now.nodes p.0 p.1) }
 {
-    let initial_words = initial_words_for(rt, alloc, target, room)?;
+    let (initial_words, ordered) = prepare(rt, alloc, primitives, target, room)?;
     let started = Frame::start_from(alloc, &initial_words)?;
     drop(initial_words);
-    draw_into(rt, alloc, primitives, target, started, gate)
+    draw_into(rt, alloc, &ordered, target, started, gate)
 }
 
 /// Closes the frame of a drawing, as one of the target's nodes.

@@ -5,7 +5,7 @@ ghost use Rattle.abuf_picture.specs.Drawn.{IsDrawn, IsPool};
 ghost use Rattle.abuf_picture.specs.Picture.{IsFrameOf, total};
 ghost use Rattle.abuf_picture.specs.Redrawing.{IsRoomyFrameOf, Serves};
 
-use crate::drawing::{draw_into, draw_pass, nodes_needed};
+use crate::drawing::{draw_into, draw_pass, nodes_needed, order_of};
 use crate::primitives::Primitives;
 use crate::target::Target;
 use abuf_fan::Gate;
@@ -52,8 +52,9 @@ fn redraw_pass<R: Threads + Sync, G: Gate + Sync>(
     let needed = nodes_needed(rt, primitives, target);
     match serving(kept, target, needed) {
         Some(closed) => {
+            let ordered = order_of(alloc, primitives, target)?;
             let started = closed.reopen(alloc)?;
-            draw_into(rt, alloc, primitives, target, started, gate)
+            draw_into(rt, alloc, &ordered, target, started, gate)
         }
         None => draw_pass(rt, alloc, primitives, target, needed, gate),
     }

@@ -1,9 +1,10 @@
 // The points of a scene on the screen, each computed once: a point is a corner of several faces.
-ghost use Rattle.std.specs.Prelude.{◌≡◌, ◌+◌, ◌*◌, ◌/◌, ◌^◌, ◌<◌, ◌≤◌, [], All, length, map, nat_le, slice_index_or, Some, None, IfOk, IfSome};
+ghost use Rattle.std.specs.Prelude.{ℕ, ◌≡◌, ◌+◌, ◌*◌, ◌/◌, ◌^◌, ◌<◌, ◌≤◌, [], All, drop, length, map, nat_le, slice_index_or, take, Some, None, IfOk, IfSome};
 ghost use Rattle.abuf_num.specs.declared.limits.TheConstants.{MAX_THREADS};
 ghost use Rattle.abuf_num.specs.declared.plain.Paint.{Paint};
 ghost use Rattle.abuf_obj.specs.Sound.{IsInRange};
 ghost use Rattle.abuf_scene.specs.Triangles.{triangle};
+ghost use Rattle.abuf_share.specs.declared.desk.TheConstants.{MAX_NUMBERS};
 ghost use Rattle.abuf_view.specs.Eye.{IsEye};
 ghost use Rattle.abuf_view.specs.declared.short_points.ShortPoint.{ShortPoint};
 ghost use Rattle.abuf_view.specs.ShortPoints.{short_point, AreOf, AreChunks, AreEntries, IsWhole};
@@ -12,8 +13,9 @@ use crate::eye::Eye;
 use crate::short_points::{ShortPoint, joined, short_point};
 use abuf_num::{List, NoMemory};
 use abuf_raster::ScreenTri;
+use abuf_share::{MAX_NUMBERS, map_numbered};
 use std::alloc::Global;
-use std::thread::{Threads, map_chunks};
+use std::thread::Threads;
 
 /// The least number of points for each of several workers. Starting a thread takes as long as some hundred points.
 const MIN_POINTS: u64 = 4096;
@@ -103,6 +105,24 @@ fn entries_of(alloc: Global, eye: &Eye, points: &[[i64; 3]]) -> List<Option<Shor
     }
 }
 
+/// How many chunks of this size there are: as many as it takes for all points, or as many as a desk has numbers.
+fn chunk_count(points: usize, size: usize) -> u32
+    requires { 1 ≤ size }
+    ensures few { result ≤ MAX_NUMBERS }
+    ensures some { (n : ℕ) → n < result → n * size < points }
+{
+    points.div_ceil(size).min(MAX_NUMBERS as usize) as u32
+}
+
+/// The points of a chunk.
+fn chunk_of(points: &[[i64; 3]], size: usize, number: u32) -> &[[i64; 3]]
+    requires { number * size ≤ length points.now }
+    ensures { result.now ≡ take size (drop (number * size) points.now) }
+{
+    let rest = &points[number as usize * size..];
+    &rest[..size.min(rest.len())]
+}
+
 /// The entries of all points, chunk by chunk.
 fn all_chunks<R: Threads + Sync>(
     rt: &R,
@@ -110,20 +130,24 @@ fn all_chunks<R: Threads + Sync>(
     eye: &Eye,
     points: &[[i64; 3]],
     size: usize,
+    threads: u32,
 ) -> Result<Vec<List<Option<ShortPoint>>>, NoMemory>
     requires eye { IsEye eye.now }
     requires range { All IsInRange points.now }
     requires size { 1 ≤ size }
+    requires threads { (1 ≤ threads) × (threads ≤ MAX_THREADS) }
     ensures { IfOk result (λ chunks. AreChunks eye.now points.now size chunks.items) }
 {
-    let chunks = map_chunks(
+    map_numbered(
         rt,
         alloc,
-        points,
-        size,
-        &|_, chunk| entries_of(alloc, eye, chunk),
-    )?;
-    Ok(chunks)
+        chunk_count(points.len(), size),
+        threads,
+        &|number: u32| -> Result<List<Option<ShortPoint>>, NoMemory>
+            requires { IsEye eye.now × All IsInRange points.now × (number * size < length points.now) }
+            ensures { IfOk result (AreOf eye.entry.now (take size (drop (number * size) points.entry.now))) }
+        { Ok(entries_of(alloc, eye, chunk_of(points, size, number))) },
+    )
 }
 
 /// The entries of all points of so many faces, or none where they would not pay.
@@ -134,14 +158,16 @@ fn chunks_of<R: Threads + Sync>(
     points: &[[i64; 3]],
     faces: usize,
     bits: u32,
+    threads: u32,
 ) -> Result<Vec<List<Option<ShortPoint>>>, NoMemory>
     requires eye { IsEye eye.now }
     requires range { All IsInRange points.now }
     requires bits { bits < 64 }
+    requires threads { (1 ≤ threads) × (threads ≤ MAX_THREADS) }
     ensures { IfOk result (λ chunks. AreEntries eye.now points.now bits chunks.items) }
 {
     if is_shared(points.len(), faces) {
-        all_chunks(rt, alloc, eye, points, chunk_size(bits))
+        all_chunks(rt, alloc, eye, points, chunk_size(bits), threads)
     } else {
         Ok(Vec::new(alloc))
     }
@@ -177,7 +203,7 @@ impl<'a> PointTable<'a> {
         ensures points { IfOk result (λ table. table.points.now ≡ points.now) }
     {
         let bits = chunk_bits(points.len(), MIN_POINTS, threads);
-        let chunks = chunks_of(rt, alloc, &eye, points, faces, bits)?;
+        let chunks = chunks_of(rt, alloc, &eye, points, faces, bits, threads)?;
         Ok(PointTable {
             eye,
             points,
