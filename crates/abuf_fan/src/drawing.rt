@@ -136,7 +136,7 @@ pub fn draw_ordered<R: Threads + Sync, G: Gate + Sync>(
     Ok(())
 }
 
-/// Orders the triangles and draws them, as [`draw_ordered`] does.
+/// Draws all triangles into the frame as [`draw_ordered`] does, in an order that it finds itself.
 pub fn draw_all<R: Threads + Sync, G: Gate + Sync>(
     rt: &R,
     alloc: Global,

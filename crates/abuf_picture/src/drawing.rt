@@ -133,8 +133,9 @@ fn prepare<'a, R: Threads + Sync>(
 {
     let triangles = primitives.triangles;
     if target.threads < 3 || triangles.len() < MANY_TRIANGLES {
-        let initial_words = initial_words_for(rt, alloc, target, room)?;
+        // In the other order this would lie in the memory that is kept for the copy of the words.
         let ordered = order_of(alloc, primitives, target)?;
+        let initial_words = initial_words_for(rt, alloc, target, room)?;
         return Ok((initial_words, ordered));
     }
     let (ordered, initial_words) = join(
