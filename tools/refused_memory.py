@@ -76,6 +76,7 @@ def cases():
         yield Case(f"render --size 4x4 --bands 3 {few}", "a square in bands", SQUARE)
         yield Case(f"render --size 4x4 --peel {few}", "a square in layers", SQUARE)
         yield Case(f"sequence p --size 4x4 {few}", "three images of a square", SQUARE, {"p": PATH}, 107)
+    yield Case("demo 8192 --size 8x6 --threads 4", "")  # so many triangles are put in order while the frame is started
     yield Case("render --size 4x4 --nodes 15", "a square, for which the pool is full", SQUARE)
     yield Case("render --size 4x4 --bands 2 --nodes 7", "a square, whose first band is full", SQUARE)
     yield Case("sequence p --size 4x4 --nodes 15", "three images, for whose second the pool is full",
