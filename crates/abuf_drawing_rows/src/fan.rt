@@ -46,6 +46,44 @@ fn no_fewer_than_the_fragments(rt: HostRuntime) -> Result<(), Fail> {
     Ok(())
 }
 
+/// Where some of 4096 equal triangles show that at most an eighth of the nodes would be spared, the bound is all nodes; otherwise it is
+/// the sum. A single triangle that covers the square, among others outside of it, isn't taken for all.
+#[test]
+fn no_more_than_is_enough(rt: HostRuntime) -> Result<(), Fail> {
+    let alloc = rt.alloc();
+    let [upper, _] = halves().ok_or("no triangle")?;
+    let outside = ScreenTri::new([-512, -256, -512], [0, 0, 256], [0; 3]).ok_or("outside")?;
+    let mut equal = Vec::new(alloc);
+    let mut uneven = Vec::new(alloc);
+    for i in 0..4096 {
+        equal.push(upper)?;
+        uneven.push(if i == 0 { upper } else { outside })?;
+    }
+    assert!(rt; equal.len() == 4096 && uneven.len() == 4096);
+    let one = max_fragments(&rt, &[upper], square(), Pattern::Four, 1, 1000);
+    assert!(rt; 10 <= one && one <= 16);
+    let sum = one.saturating_mul(4096);
+    for threads in [1, 3] {
+        for nodes in [sum.saturating_mul(2), sum.saturating_add(sum / 4)] {
+            let most = max_fragments(&rt, &equal, square(), Pattern::Four, threads, nodes);
+            assert!(rt; most == sum, "by {threads} threads");
+        }
+        let nodes = sum.saturating_add(sum / 8);
+        let most = max_fragments(&rt, &equal, square(), Pattern::Four, threads, nodes);
+        assert!(rt; most == nodes, "by {threads} threads");
+        let few = max_fragments(
+            &rt,
+            &uneven,
+            square(),
+            Pattern::Four,
+            threads,
+            one.saturating_mul(2),
+        );
+        assert!(rt; few == one, "by {threads} threads");
+    }
+    Ok(())
+}
+
 /// The two halves, 64 times in turn, so that each of two parts has 512 fragments.
 #[test]
 fn two_workers_meet(rt: HostRuntime) -> Result<(), Fail> {

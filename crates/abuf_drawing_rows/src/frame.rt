@@ -1,7 +1,9 @@
 // The frame: worked rows of passes, looks and lists.
 ghost use Rattle.std.specs.Prelude.{◌≡◌};
 
-use abuf_frame::{Frame, Full, Look};
+use abuf_frame::{Closed, Frame, Full, Look};
+use abuf_num::NoMemory;
+use std::alloc::Global;
 use std::test::Fail;
 use std::thread::{join_mut, map_indices};
 
@@ -295,6 +297,58 @@ fn one_list_after_another(rt: HostRuntime) -> Result<(), Fail> {
     assert!(rt; reader.list() == [94, 93, 92, 91].as_slice());
     reader.read(3)?;
     assert!(rt; reader.list() == [31].as_slice());
+    Ok(())
+}
+
+/// The payloads of a column's two pixels in turn, then of the next column's, where two rows have this width.
+fn read_columns(alloc: Global, closed: &Closed, width: u32) -> Result<Vec<u64>, NoMemory> {
+    let mut reader = closed.row_reader(alloc, width);
+    let mut payloads = Vec::new(alloc);
+    for column in 0..width {
+        if column < closed.pixels() {
+            reader.read(column)?;
+            payloads.extend_from_slice(reader.list())?;
+        }
+        let below = column.saturating_add(width);
+        if below < closed.pixels() {
+            reader.read(below)?;
+            payloads.extend_from_slice(reader.list())?;
+        }
+    }
+    Ok(payloads)
+}
+
+#[test]
+fn lists_of_two_rows_in_turn(rt: HostRuntime) -> Result<(), Fail> {
+    let alloc = rt.alloc();
+    let (frame, mut pass) = Frame::start(alloc, 6, 8)?;
+    pass.insert_all(
+        &frame,
+        &[
+            (0, 1),
+            (3, 30),
+            (1, 11),
+            (4, 40),
+            (2, 21),
+            (5, 50),
+            (0, 2),
+            (5, 51),
+        ],
+    );
+    let closed = frame.close(pass);
+    assert!(rt;
+        read_columns(alloc, &closed, 3)?.as_slice() == [2, 1, 30, 11, 40, 21, 51, 50].as_slice()
+    );
+    // The lower row is shorter, then there is none, and then it lies past all numbers.
+    assert!(rt;
+        read_columns(alloc, &closed, 4)?.as_slice() == [2, 1, 40, 11, 51, 50, 21, 30].as_slice()
+    );
+    assert!(rt;
+        read_columns(alloc, &closed, 6)?.as_slice() == [2, 1, 11, 21, 30, 40, 51, 50].as_slice()
+    );
+    let mut reader = closed.row_reader(alloc, u32::MAX);
+    reader.read(5)?;
+    assert!(rt; reader.list() == [51, 50].as_slice());
     Ok(())
 }
 

@@ -3,14 +3,20 @@ ghost use Rattle.std.specs.Prelude.{◌≡◌, ◌≤◌, length, true, IfOk};
 ghost use Rattle.std.specs.List.{All};
 ghost use Rattle.abuf_num.specs.declared.limits.TheConstants.{MAX_NODES, MAX_THREADS};
 ghost use Rattle.abuf_io.specs.Plans.{IsPlan as IsSinkPlan};
+ghost use Rattle.abuf_obj.specs.Sound.{IsScene};
 ghost use Rattle.abuf_sequence.specs.Sequences.{IsPlan};
 ghost use Rattle.abuf_view.specs.Primitives.{AreInLimits};
 
 use abuf_io::{MemSink, Step};
+use abuf_mtl::{Materials, read_mtl};
 use abuf_num::{List, NoMemory, Paint};
+use abuf_obj::{Obj, read_flat, read_obj};
 use abuf_raster::Pattern;
-use abuf_scene::{Scene, Triangle};
-use abuf_sequence::{PathFault, PathWhy, Plan, SequenceFault, Shot, read_path, sequence};
+use abuf_scene::{Scene, SceneFault, Triangle, assemble};
+use abuf_sequence::{
+    PathFault, PathWhy, Plan, SequenceFault, Shot, read_path, sequence, sequence_flat,
+};
+use abuf_view::FlatScene;
 use std::alloc::Global;
 use std::test::Fail;
 use std::thread::Threads;
@@ -304,5 +310,99 @@ fn without_shots_nothing_is_written(rt: HostRuntime) -> Result<(), Fail> {
     let done = sequence(&rt, alloc, &scene, &[], &plan(1, 2), &mut out);
     assert_eq!(rt; done, Ok(()));
     assert!(rt; out.taken().is_empty());
+    Ok(())
+}
+
+/// Faces that share points, with two materials and none.
+const FACES: &[u8] =
+    b"v -4 4 0\nv 4 4 0\nv 4 -4 0\nv -4 -4 1\nv 0 0 6\nf 1 2 4\nusemtl red\nf 2 3 4\nusemtl blue\nf 1 2 3 4 5\nf 5 3 1";
+
+const LIBRARY: &[u8] = b"newmtl red\nKd 1 0 0\nd 0.5\nnewmtl blue\nKd 0 0.2 1\nd 0.25\n";
+
+/// From in front, near by, from behind, from where nothing is seen, and askew.
+const VIEWS: &[u8] =
+    b"1 0 0 0 0 0 -4\n1 0 0 0 0 0 -5\n0 0 1 0 0 0 -4\n1 0 0 0 0 0 9\n3 1 0 -1 1 0 -7\n";
+
+/// A list of a scene's triangles.
+fn listed(alloc: Global, obj: &Obj, materials: &Materials) -> Result<Scene, SceneFault>
+    requires { IsScene obj.now }
+    ensures { IfOk result (λ scene. AreInLimits scene.triangles) }
+{
+    let scene = assemble(alloc, obj, materials)?;
+    Ok(scene)
+}
+
+/// Writes the images of a list of the faces' triangles.
+fn write_listed<R: Threads + Sync>(
+    rt: &R,
+    alloc: Global,
+    threads: u32,
+    out: &mut MemSink,
+) -> Option<Result<(), SequenceFault>>
+    requires { (1 ≤ threads) × (threads ≤ MAX_THREADS) }
+{
+    let mut materials = Materials::new(alloc);
+    if read_mtl(alloc, LIBRARY, &mut materials).is_err() {
+        return None;
+    }
+    let (Ok(obj), Ok(shots)) = (read_obj(alloc, FACES), read_path(alloc, VIEWS)) else {
+        return None;
+    };
+    match listed(alloc, &obj, &materials) {
+        Ok(scene) => Some(sequence(
+            rt,
+            alloc,
+            &scene,
+            shots.as_slice(),
+            &plan(1000, threads),
+            out,
+        )),
+        Err(_) => None,
+    }
+}
+
+/// Writes the images of the faces as their file has them.
+fn write_flat<R: Threads + Sync>(
+    rt: &R,
+    alloc: Global,
+    threads: u32,
+    out: &mut MemSink,
+) -> Option<Result<(), SequenceFault>>
+    requires { (1 ≤ threads) × (threads ≤ MAX_THREADS) }
+{
+    let mut materials = Materials::new(alloc);
+    if read_mtl(alloc, LIBRARY, &mut materials).is_err() {
+        return None;
+    }
+    let (Ok(obj), Ok(shots)) = (read_flat(alloc, FACES), read_path(alloc, VIEWS)) else {
+        return None;
+    };
+    match FlatScene::new(alloc, obj, &materials) {
+        Ok(scene) => Some(sequence_flat(
+            rt,
+            alloc,
+            &scene,
+            shots.as_slice(),
+            &plan(1000, threads),
+            out,
+        )),
+        Err(_) => None,
+    }
+}
+
+#[test]
+fn both_forms_of_a_scene_give_the_same_images(rt: HostRuntime) -> Result<(), Fail> {
+    let alloc = rt.alloc();
+    for threads in [1, 3] {
+        let mut listed = MemSink::new(alloc, 1000, List::new(alloc))?;
+        let mut flat = MemSink::new(alloc, 1000, List::new(alloc))?;
+        assert_eq!(rt;
+            write_listed(&rt, alloc, threads, &mut listed),
+            Some(Ok(()))
+        );
+        assert_eq!(rt; write_flat(&rt, alloc, threads, &mut flat), Some(Ok(())));
+        assert_eq!(rt; listed.taken().len(), 535);
+        assert!(rt; flat.taken() == listed.taken());
+    }
     Ok(())
 }

@@ -26,7 +26,7 @@ fn max_of(t: &ScreenTri, region: Region, pattern: Pattern) -> u32
     max_hits(t, region, pattern)
 }
 
-/// The sum of what each of the triangles has at most, up to what is enough. Not inlined, so that the frames of [`max_fragments`] are
+/// The sum of what each of the triangles has at most, up to what is enough. Not inlined, so that the frames of [`bound_on_threads`] are
 /// small, of which the caller's stack holds one for each thread.
 #[inline(never)]
 fn sum_of(tris: &[ScreenTri], region: Region, pattern: Pattern, enough: u64) -> u64
@@ -56,11 +56,8 @@ fn is_little(count: usize, region: Region) -> bool
     count as u64 * u64::from(region.pixels() + 64) <= LITTLE
 }
 
-/// An upper bound on the number of fragments of the triangles in the region, whatever their primitive numbers. It is the sum of the
-/// bounds of all triangles, found on 1 to 64 threads, or on one if there is little to do. A frame of so many nodes loses none. More
-/// nodes would only take memory, and time to clear it. Where the sum reaches what is enough, the rest isn't asked: no caller needs
-/// a bound above the nodes that its pool may have. The call takes no memory.
-pub fn max_fragments<R: Threads + Sync>(
+/// The bound, found by so many threads.
+fn bound_on_threads<R: Threads + Sync>(
     rt: &R,
     tris: &[ScreenTri],
     region: Region,
@@ -87,11 +84,62 @@ pub fn max_fragments<R: Threads + Sync>(
         move || -> u64
             requires { IsSync R.row × CanCount front.now left }
             ensures { IsBound front.entry.now (offsets_of pattern) shared.entry.now enough result × (result ≤ length front.entry.now * MAX_PIXELS) }
-        { max_fragments(rt, front, *shared, pattern, left, enough) },
+        { bound_on_threads(rt, front, *shared, pattern, left, enough) },
         move || -> u64
             requires { IsSync R.row × CanCount back.now right }
             ensures { IsBound back.entry.now (offsets_of pattern) shared.entry.now enough result × (result ≤ length back.entry.now * MAX_PIXELS) }
-        { max_fragments(rt, back, *shared, pattern, right, enough) },
+        { bound_on_threads(rt, back, *shared, pattern, right, enough) },
     );
     before + after
+}
+
+/// From how many triangles on some of them stand for all.
+const MANY: usize = 2048;
+
+/// Every triangle at a multiple of this stands for so many.
+const STEP: usize = 16;
+
+/// Whether the triangles have about as many fragments as are enough, or more, judged by some of them. It is a guess, and isn't made where
+/// a few large triangles would decide it. A wrong one costs memory, or the time that a right one saves.
+fn seem_enough(tris: &[ScreenTri], region: Region, pattern: Pattern, enough: u64) -> bool
+    requires few { length tris.now ≤ MAX_PRIMITIVES }
+    ensures { IsTrue result → enough ≤ length tris.now * MAX_PIXELS }
+{
+    let all = tris.len() as u64 * u64::from(region.pixels());
+    if tris.len() < MANY || all < enough {
+        return false;
+    }
+    region_law(region);
+    let mut sum = 0;
+    let mut greatest = 0;
+    for i in 0..tris.len() / STEP {
+        let most = u64::from(max_of(&tris[STEP * i], region, pattern));
+        sum += most;
+        greatest = most.max(greatest);
+    }
+    let is_even = STEP as u64 * greatest <= sum;
+    is_even && enough - enough / 8 <= STEP as u64 * sum
+}
+
+/// An upper bound on the number of fragments of the triangles in the region, whatever their primitive numbers. It is the sum of the
+/// bounds of all triangles, found on 1 to 64 threads, or on one if there is little to do. A frame of so many nodes loses none. More
+/// nodes would only take memory, and time to clear it. Where the sum reaches what is enough, or seems to come near it, the rest isn't
+/// asked, and the bound is what is enough: no caller needs one above the nodes that its pool may have. The call takes no memory.
+pub fn max_fragments<R: Threads + Sync>(
+    rt: &R,
+    tris: &[ScreenTri],
+    region: Region,
+    pattern: Pattern,
+    threads: u32,
+    enough: u64,
+) -> u64
+    requires few { length tris.now ≤ MAX_PRIMITIVES }
+    requires threads { (1 ≤ threads) × (threads ≤ MAX_THREADS) }
+    ensures bound { IsBound tris.now (offsets_of pattern) region enough result }
+    ensures small { result ≤ length tris.now * MAX_PIXELS }
+{
+    if seem_enough(tris, region, pattern, enough) {
+        return enough;
+    }
+    bound_on_threads(rt, tris, region, pattern, threads, enough)
 }

@@ -82,6 +82,10 @@ module _ (words : List ℕ) (pixels nodes : ℕ) where
     pub threaded : Threaded words pixels nodes at rest
     pub sum : done ++ payloads_from words pixels most at ≡ all
 
+  -- Eight walks do, each to collect the list of its pixel, from the first on.
+  abbrev pub AllWalk : ℕ → List ℕ → List (List ℕ) → List (List ℕ) → ℕ → Type 0
+  AllWalk most at done all first = (k : ℕ) → k < 8 → Walks most (slice_index at k) (slice_index_or done k []) (slice_index_or all (first + k) [])
+
   -- the word at which a walk stands refers to a node of the frame, or is 0
   pub refers : (at : ℕ) (rest : List ℕ) → nodes ≤ 8388608 → length words ≡ 1 + pixels + 2 * nodes → Threaded words pixels nodes at rest → Refers words pixels at
   refers at [] few wide t = let e : at ≡ 0 = t in (omega arith, omega arith)

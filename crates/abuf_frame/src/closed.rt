@@ -110,11 +110,20 @@ impl Closed {
         Frame::start(alloc, pixels, nodes)
     }
 
-    /// A reader of the lists, which has read none yet.
+    /// A reader of the lists, which has read none yet. It copies those of sixteen pixels that follow each other at a time.
     pub fn reader<'a>(&'a self, alloc: Global) -> ListReader<'a>
         ensures frame { result.frame ≡ self.now }
         ensures list { result.list ≡ [] }
     {
-        ListReader::new(self, alloc)
+        ListReader::new(self, alloc, 8)
+    }
+
+    /// A reader for pixels that are read by pairs of rows of this width, eight pixels of the upper row and then the eight below
+    /// them. It copies the lists of these sixteen at a time.
+    pub fn row_reader<'a>(&'a self, alloc: Global, width: u32) -> ListReader<'a>
+        ensures frame { result.frame ≡ self.now }
+        ensures list { result.list ≡ [] }
+    {
+        ListReader::new(self, alloc, width)
     }
 }

@@ -6,6 +6,8 @@
 #[cfg(test)]
 mod cli;
 #[cfg(test)]
+mod flat_scene;
+#[cfg(test)]
 mod io;
 #[cfg(test)]
 mod mtl;

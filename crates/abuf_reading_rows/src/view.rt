@@ -1,18 +1,15 @@
-// Whole scenes before a camera, and the camera's bounds.
+// Triangles before a camera, and the camera's bounds.
 ghost use Rattle.std.specs.Prelude.{◌≤◌, unsigned_abs};
 ghost use Rattle.abuf_obj.specs.Sound.{IsInRange};
 
-use abuf_mtl::{Materials, read_mtl};
 use abuf_num::{List, NoMemory, Paint};
-use abuf_obj::read_flat;
 use abuf_raster::{Pattern, Region, ScreenTri, TileWalk, depth_at, mask_at};
-use abuf_scene::{Scene, SceneFault, Triangle};
-use abuf_view::{Camera, Projected, Room, project, project_faces};
-use std::alloc::{AllocError, Global};
+use abuf_scene::{Scene, Triangle};
+use abuf_view::{Camera, Projected, project};
+use std::alloc::Global;
 use std::test::Fail;
-use std::thread::Threads;
 
-const WHITE: Paint = Paint {
+pub(crate) const WHITE: Paint = Paint {
     colour: [65535; 3],
     alpha: 65535,
 };
@@ -51,7 +48,7 @@ fn shown_by(
 }
 
 /// How many primitives cover the centre of the pixel.
-fn covering(tris: &[ScreenTri], x: u32, y: u32) -> u32
+pub(crate) fn covering(tris: &[ScreenTri], x: u32, y: u32) -> u32
     requires x { x ≤ 4095 }
     requires y { y ≤ 4095 }
 {
@@ -63,7 +60,7 @@ fn covering(tris: &[ScreenTri], x: u32, y: u32) -> u32
 }
 
 /// How many pixels of the region the first primitive covers with this depth key.
-fn pixels_at(projected: &Projected, region: Region, depth: u32) -> u32 {
+pub(crate) fn pixels_at(projected: &Projected, region: Region, depth: u32) -> u32 {
     let mut count: u32 = 0;
     if let Some(triangle) = projected.tris.as_slice().first() {
         for hit in TileWalk::new(triangle, 0, region, Pattern::One) {
@@ -77,11 +74,11 @@ fn pixels_at(projected: &Projected, region: Region, depth: u32) -> u32 {
 }
 
 /// The camera at z = 4 that looks along -z, with an image of 4 by 4 pixels.
-fn front() -> Option<Camera> {
+pub(crate) fn front() -> Option<Camera> {
     Camera::new(4, 4, [1, 0, 0, 0], [0, 0, -262144], 65536, 8192)
 }
 
-fn four_by_four() -> Region {
+pub(crate) fn four_by_four() -> Region {
     Region::whole_image(4, 4)
 }
 
@@ -171,157 +168,6 @@ fn farthest_shifts(rt: HostRuntime) -> Result<(), Fail> {
                 assert!(rt; covering(projected.tris.as_slice(), x, y) == 0);
             }
         }
-    }
-    Ok(())
-}
-
-/// Two halves of a square, of which the second has a material.
-const SQUARE: &[u8] = b"v -4 4 0\nv 4 4 0\nv 4 -4 0\nv -4 -4 0\nf 1 2 4\nusemtl red\nf 2 3 4";
-
-/// What a camera sees of the square, by the materials of this library.
-fn seen_by_faces<R: Threads + Sync>(
-    rt: &R,
-    alloc: Global,
-    camera: &Camera,
-    library: &[u8],
-) -> Option<Result<Projected, SceneFault>> {
-    let mut materials = Materials::new(alloc);
-    if library.len() > 1000 || read_mtl(alloc, library, &mut materials).is_err() {
-        return None;
-    }
-    match read_flat(alloc, SQUARE) {
-        Ok(obj) => Some(project_faces(rt, Room::new(alloc, 0), &obj, &materials, camera, 2)),
-        Err(_) => None,
-    }
-}
-
-#[test]
-fn faces_have_the_paint_of_their_material(rt: HostRuntime) -> Result<(), Fail> {
-    let camera = front().ok_or("camera")?;
-    match seen_by_faces(&rt, rt.alloc(), &camera, b"newmtl red\nKd 1 0 0\nd 0.5") {
-        Some(Ok(projected)) => {
-            let red = Paint {
-                colour: [65535, 0, 0],
-                alpha: 32768,
-            };
-            assert!(rt; projected.tris.as_slice().len() == 2);
-            assert!(rt; projected.paints.as_slice() == [WHITE, red].as_slice());
-            for x in 0..4 {
-                for y in 0..4 {
-                    assert!(rt; covering(projected.tris.as_slice(), x, y) == 1);
-                }
-            }
-            assert!(rt; pixels_at(&projected, four_by_four(), 524287) == 6);
-        }
-        _ => assert!(rt; false),
-    }
-    Ok(())
-}
-
-#[test]
-fn face_of_an_unknown_material_is_told(rt: HostRuntime) -> Result<(), Fail> {
-    let camera = front().ok_or("camera")?;
-    match seen_by_faces(&rt, rt.alloc(), &camera, b"newmtl blue") {
-        Some(Err(fault)) => assert!(rt; fault == SceneFault::UnknownMaterial { line: 7 }),
-        _ => assert!(rt; false),
-    }
-    Ok(())
-}
-
-/// Five materials, each for this many faces: so many that each of three workers has some. Those of the second have two triangles
-/// each.
-const FACES_EACH: u32 = 2500;
-
-const CORNERS: &[u8] = b"v -4 4 0\nv 4 4 0\nv 4 -4 0\nv -4 -4 0\n";
-
-const MATERIALS_AND_FACES: [(&[u8], &[u8]); 5] = [
-    (b"usemtl a\n", b"f 1 2 4\n"),
-    (b"usemtl b\n", b"f 2 3 4 1\n"),
-    (b"usemtl c\n", b"f 2 3 4\n"),
-    (b"usemtl d\n", b"f 1 2 3\n"),
-    (b"usemtl e\n", b"f 1 3 4\n"),
-];
-
-fn many_faces(alloc: Global) -> Result<Vec<u8>, AllocError> {
-    let mut text = Vec::from_slice(alloc, CORNERS)?;
-    for (material, face) in MATERIALS_AND_FACES {
-        text.extend_from_slice(material)?;
-        for _ in 0..FACES_EACH {
-            text.extend_from_slice(face)?;
-        }
-    }
-    Ok(text)
-}
-
-/// What a camera sees of these faces on three threads, by the materials of this library.
-fn seen_on_threads<R: Threads + Sync>(
-    rt: &R,
-    alloc: Global,
-    camera: &Camera,
-    library: &[u8],
-) -> Option<Result<Projected, SceneFault>> {
-    let mut materials = Materials::new(alloc);
-    if library.len() > 1000 || read_mtl(alloc, library, &mut materials).is_err() {
-        return None;
-    }
-    let Ok(text) = many_faces(alloc) else {
-        return None;
-    };
-    if text.len() > 1000000 {
-        return None;
-    }
-    match read_flat(alloc, text.as_slice()) {
-        Ok(obj) => Some(project_faces(rt, Room::new(alloc, 0), &obj, &materials, camera, 3)),
-        Err(_) => None,
-    }
-}
-
-fn grey(level: u16) -> Paint {
-    Paint {
-        colour: [level; 3],
-        alpha: 65535,
-    }
-}
-
-const GREYS: &[u8] =
-    b"newmtl a\nKd 0 0 0\nnewmtl b\nKd 0.2 0.2 0.2\nnewmtl c\nKd 0.4 0.4 0.4\nnewmtl d\nKd 0.6 0.6 0.6\nnewmtl e\nKd 0.8 0.8 0.8";
-
-/// The faces cover the square 7500 times.
-#[test]
-fn three_workers_give_all_primitives_in_order(rt: HostRuntime) -> Result<(), Fail> {
-    let camera = front().ok_or("camera")?;
-    match seen_on_threads(&rt, rt.alloc(), &camera, GREYS) {
-        Some(Ok(projected)) => {
-            let paints = projected.paints.as_slice();
-            assert_eq!(rt; paints.len(), 15000);
-            for (first, end, level) in [
-                (0, 2500, 0),
-                (2500, 7500, 13107),
-                (7500, 10000, 26214),
-                (10000, 12500, 39321),
-                (12500, 15000, 52428),
-            ] {
-                for paint in paints.get(first..end).ok_or("paints")? {
-                    assert!(rt; *paint == grey(level));
-                }
-            }
-            for x in 0..4 {
-                for y in 0..4 {
-                    assert!(rt; covering(projected.tris.as_slice(), x, y) == 7500);
-                }
-            }
-        }
-        _ => assert!(rt; false),
-    }
-    Ok(())
-}
-
-#[test]
-fn first_of_several_unknown_materials_is_told(rt: HostRuntime) -> Result<(), Fail> {
-    let camera = front().ok_or("camera")?;
-    match seen_on_threads(&rt, rt.alloc(), &camera, b"newmtl a\nnewmtl b\nnewmtl c") {
-        Some(Err(fault)) => assert!(rt; fault == SceneFault::UnknownMaterial { line: 7509 }),
-        _ => assert!(rt; false),
     }
     Ok(())
 }

@@ -1,9 +1,11 @@
 -- What was summed of some pixels.
-use Rattle.std.proofs.Common.{◌≡◌, ℕ, max, List, [], ◌∷◌, ◌++◌, length, slice_index_or, ap, ap₂, ◌∙◌, sym, subst, arith}
-use Rattle.std.specs.List.{All}
-use Rattle.std.proofs.lemmas.List.{map-append}
+use Rattle.std.proofs.Common.{◌≡◌, ℕ, ◌+◌, max, List, [], ◌∷◌, ◌++◌, length, slice_index_or, ap, ap₂, ◌∙◌, sym, subst, arith}
+use Rattle.std.specs.List.{All, range_with_len}
+use Rattle.std.proofs.lemmas.List.{append_assoc, map-append}
 use Rattle.std.proofs.lemmas.List.Elements.{All-append, All-cons, All-nil}
 use Rattle.abuf_num.specs.declared.plain.PixelSum.{PixelSum}
+use Rattle.abuf_frame.specs.Closing.{Ended}
+use Rattle.abuf_raster.proofs.Blocks.{range_cut}
 use Rattle.abuf_raster.specs.Region.{Region}
 use Rattle.abuf_raster.specs.Samples.{offsets_of}
 use Rattle.abuf_resolve.specs.declared.shading.spans.Resolved.{Resolved}
@@ -42,3 +44,14 @@ span_more shading r lists places p old new sum n is pushed most here count small
     let IsFew : PixelSum → Type 0 = IsSmall (length (offsets_of shading.pattern)) in
     span_join shading r lists places (p ∷ []) old (record { sums = sum ∷ []; longest = n }) new is
     (record { sums = ap (λ (s : PixelSum). s ∷ []) here; small = All-cons IsFew sum [] small (All-nil IsFew); longest = omega (arith, count) }) pushed most
+
+-- With those of pixels that follow, read from a frame that is the same.
+pub places_more : (shading : Shading) (r : Region) (f g : Ended) → f ≡ g → (front : List ℕ) (from done n : ℕ) (old new : Resolved)
+    → ((places : List ℕ) → AreSpanSums shading r f.lists places old → AreSpanSums shading r f.lists (places ++ range_with_len (from + done) n) new)
+    → AreSpanSums shading r g.lists (front ++ range_with_len from done) old → AreSpanSums shading r g.lists (front ++ range_with_len from (done + n)) new
+places_more shading r f g same front from done n old new added before =
+    let order : (front ++ range_with_len from done) ++ range_with_len (from + done) n ≡ front ++ range_with_len from (done + n) =
+    append_assoc front (range_with_len from done) (range_with_len (from + done) n) ∙ ap (λ (ps : List ℕ). front ++ ps) (range_cut from done n) in
+    subst (λ (ps : List ℕ). AreSpanSums shading r g.lists ps new) order
+    (subst (λ (e : Ended). AreSpanSums shading r e.lists ((front ++ range_with_len from done) ++ range_with_len (from + done) n) new) same
+    (added (front ++ range_with_len from done) (subst (λ (e : Ended). AreSpanSums shading r e.lists (front ++ range_with_len from done) old) (sym same) before)))

@@ -1,5 +1,5 @@
 -- Images that were drawn at once, written one after another after those before them.
-use Rattle.std.proofs.Common.{◌≡◌, ◌≤◌, ◌<◌, ◌+◌, ◌-◌, ℕ, List, [], length, take, drop, slice_index_or, Option, Result, Ok, Err, sym, ap, subst, ◌∙◌, arith}
+use Rattle.std.proofs.Common.{◌≡◌, ◌≤◌, ◌<◌, ◌+◌, ℕ, List, [], length, take, drop, slice_index_or, Option, Result, Ok, Err, sym, ap, subst, ◌∙◌, arith}
 use Rattle.std.specs.Io.KnownBytes.{Appends}
 use Rattle.std.proofs.lemmas.List.{get_or-take, get_or-drop}
 use Rattle.std.proofs.Math.ListN.{length-take, length-drop}
@@ -11,7 +11,7 @@ use Rattle.abuf_sequence.specs.declared.job.Drawn.{Drawn}
 use Rattle.abuf_sequence.specs.declared.path.Shot.{Shot}
 use Rattle.abuf_sequence.specs.declared.plan.Plan.{Plan}
 use Rattle.abuf_io.specs.Sinks.{Taken}
-use Rattle.abuf_sequence.specs.Sequences.{image_of, IsSequenceAnswer}
+use Rattle.abuf_sequence.specs.Sequences.{IsSequenceAnswer}
 use Rattle.abuf_sequence.specs.Single.{AreBytes, IsDrawAnswer, IsWriteAnswer, IsWritten, WritesDrawn, fault_after}
 use Rattle.abuf_sequence.specs.Batches.{AreDrawn, AreDrawnFrom, HaveWritten}
 use Rattle.abuf_sequence.proofs.Joining.{ends, one_more, written_more}

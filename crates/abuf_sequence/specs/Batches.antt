@@ -1,6 +1,6 @@
 -- Images of a sequence that are drawn at once, and then written after those before them.
 use Rattle.std.specs.Prelude.{◌≡◌, ◌≤◌, ◌<◌, ◌+◌, ℕ, List, take, length, slice_index_or, Option, Result, Ok, Err}
-use Rattle.std.specs.List.{All, concat}
+use Rattle.std.specs.List.{concat}
 use Rattle.std.specs.Io.KnownBytes.{Appends}
 use Rattle.abuf_num.specs.declared.limits.TheConstants.{MAX_THREADS}
 use Rattle.abuf_scene.specs.declared.triangles.Triangle.{Triangle}

@@ -12,14 +12,14 @@ use crate::fault::ImageFault;
 use crate::job::{Drawn, Job};
 use crate::path::Shot;
 use crate::plan::Plan;
+use crate::subject::Subject;
 use abuf_fan::OpenGate;
 use abuf_frame::Closed;
 use abuf_num::{List, PixelSum};
 use abuf_pam::image_bytes;
 use abuf_picture::{Primitives, Target, redraw, resolve_drawn};
 use abuf_raster::Region;
-use abuf_scene::Scene;
-use abuf_view::{Camera, Lens, project};
+use abuf_view::{Camera, Lens};
 use std::alloc::Global;
 use std::thread::Threads;
 
@@ -58,24 +58,24 @@ fn target_of(plan: &Plan, nodes: u32, threads: u32) -> Target
 
 /// The sums of the image's pixels, by so many threads, and the frame into which it was drawn. The primitives are dropped.
 #[tactic(auto, unfolding(crate::specs::Sequences::total_of, crate::specs::Sequences::sums_of))]
-fn sums_of<R: Threads + Sync>(
+fn sums_of<R: Threads + Sync, S: Subject>(
     rt: &R,
     alloc: Global,
-    scene: &Scene,
+    scene: &S,
     job: Job,
     plan: &Plan,
     threads: u32,
 ) -> Result<(List<PixelSum>, Closed), ImageFault>
-    requires scene { AreInLimits scene.now.triangles }
+    requires scene { AreInLimits (S.triangles scene.now) }
     requires plan { IsPlan plan.now }
     requires shot { IsShot job.shot }
     requires threads { (1 ≤ threads) × (threads ≤ MAX_THREADS) }
-    ensures { IsDrawAnswer plan.now scene.now.triangles job.shot (λ drawn. AreSums plan.now scene.now.triangles job.shot drawn.0) result }
+    ensures { IsDrawAnswer plan.now (S.triangles scene.now) job.shot (λ drawn. AreSums plan.now (S.triangles scene.now) job.shot drawn.0) result }
 {
     let Job { shot, kept } = job;
     let camera = camera_of(plan, shot);
     let pool = target_of(plan, plan.nodes, threads);
-    let projected = project(alloc, scene, &camera)?;
+    let projected = scene.primitives(rt, alloc, &camera, threads)?;
     let primitives = Primitives::of(&projected);
     let closed = redraw(rt, alloc, &primitives, &pool, kept, &OpenGate)?;
     if let Some(full) = closed.full() {
@@ -91,19 +91,19 @@ fn sums_of<R: Threads + Sync>(
 
 /// The bytes of the image, which so many threads draw, and the frame into which it was drawn.
 #[tactic(auto, unfolding(crate::specs::Sequences::image_of))]
-fn image_of<R: Threads + Sync>(
+fn image_of<R: Threads + Sync, S: Subject>(
     rt: &R,
     alloc: Global,
-    scene: &Scene,
+    scene: &S,
     job: Job,
     plan: &Plan,
     threads: u32,
 ) -> Result<(List<u8>, Closed), ImageFault>
-    requires scene { AreInLimits scene.now.triangles }
+    requires scene { AreInLimits (S.triangles scene.now) }
     requires plan { IsPlan plan.now }
     requires shot { IsShot job.shot }
     requires threads { (1 ≤ threads) × (threads ≤ MAX_THREADS) }
-    ensures { IsDrawAnswer plan.now scene.now.triangles job.shot (λ drawn. AreBytes plan.now scene.now.triangles job.shot drawn.0) result }
+    ensures { IsDrawAnswer plan.now (S.triangles scene.now) job.shot (λ drawn. AreBytes plan.now (S.triangles scene.now) job.shot drawn.0) result }
 {
     let (sums, closed) = sums_of(rt, alloc, scene, job, plan, threads)?;
     let bytes = image_bytes(
@@ -118,19 +118,19 @@ fn image_of<R: Threads + Sync>(
 }
 
 /// Draws the image of a job, by so many threads.
-pub(crate) fn draw_image<R: Threads + Sync>(
+pub(crate) fn draw_image<R: Threads + Sync, S: Subject>(
     rt: &R,
     alloc: Global,
-    scene: &Scene,
+    scene: &S,
     job: Job,
     plan: &Plan,
     threads: u32,
 ) -> Drawn
-    requires scene { AreInLimits scene.now.triangles }
+    requires scene { AreInLimits (S.triangles scene.now) }
     requires plan { IsPlan plan.now }
     requires shot { IsShot job.shot }
     requires threads { (1 ≤ threads) × (threads ≤ MAX_THREADS) }
-    ensures { IsDrawAnswer plan.now scene.now.triangles job.shot (AreBytes plan.now scene.now.triangles job.shot) result.image }
+    ensures { IsDrawAnswer plan.now (S.triangles scene.now) job.shot (AreBytes plan.now (S.triangles scene.now) job.shot) result.image }
 {
     match image_of(rt, alloc, scene, job, plan, threads) {
         Ok((bytes, closed)) => Drawn {

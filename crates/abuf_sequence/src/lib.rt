@@ -10,9 +10,10 @@ mod image;
 mod job;
 mod path;
 mod plan;
+mod subject;
 mod writing;
 
 pub use fault::SequenceFault;
 pub use path::{PathFault, PathWhy, Shot, read_path};
 pub use plan::Plan;
-pub use writing::sequence;
+pub use writing::{sequence, sequence_flat};

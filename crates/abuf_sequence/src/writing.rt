@@ -15,18 +15,21 @@ use crate::image::draw_image;
 use crate::job::{Drawn, Job};
 use crate::path::Shot;
 use crate::plan::Plan;
+use crate::subject::Subject;
 use abuf_frame::Closed;
 use abuf_io::{Sink, write_all};
 use abuf_num::NoMemory;
 use abuf_scene::Scene;
 use abuf_share::map_jobs;
+use abuf_view::FlatScene;
 use std::alloc::Global;
 use std::thread::Threads;
 
 /// What the images that are drawn at once may have together, so that the memory of a run stays below 2 GB. A frame takes 16 bytes a
 /// node and 8 a pixel, twice while it is made, and an image 18 bytes a pixel: at most 1.2 GB for so many nodes and pixels. A frame
 /// that is kept from an image before is dropped before the next is made, so there is never more than one for an image. A primitive
-/// takes about 130 bytes, and a triangle has at most two: at most 0.6 GB for so many triangles.
+/// takes about 130 bytes, and a triangle has at most two; a table of points has at most two for each face, of 16 bytes each: at most
+/// 0.7 GB for so many triangles.
 const NODES_AND_PIXELS_AT_ONCE: u32 = 33554432;
 
 const TRIANGLES_AT_ONCE: usize = 2097152;
@@ -76,19 +79,19 @@ fn jobs_of(alloc: Global, shots: &[Shot], written: Vec<Drawn>) -> Result<Vec<Job
 
 /// The images of some shots, all drawn at once: each by a thread of its own, or by several where there are fewer images than
 /// threads. They are drawn into the frames of images that were written before, where these serve.
-fn draw_batch<R: Threads + Sync>(
+fn draw_batch<R: Threads + Sync, S: Subject + Sync>(
     rt: &R,
     alloc: Global,
-    scene: &Scene,
+    scene: &S,
     shots: &[Shot],
     plan: &Plan,
     written: Vec<Drawn>,
 ) -> Result<Vec<Drawn>, NoMemory>
-    requires scene { AreInLimits scene.now.triangles }
+    requires scene { AreInLimits (S.triangles scene.now) }
     requires shots { All IsShot shots.now }
     requires some { (1 ≤ length shots.now) × (length shots.now ≤ plan.now.threads) }
     requires plan { IsPlan plan.now }
-    ensures { IfOk result (λ drawn. AreDrawn plan.now scene.now.triangles shots.now drawn.items) }
+    ensures { IfOk result (λ drawn. AreDrawn plan.now (S.triangles scene.now) shots.now drawn.items) }
 {
     let threads = plan.threads / shots.len() as u32;
     let jobs = jobs_of(alloc, shots, written)?;
@@ -97,7 +100,7 @@ fn draw_batch<R: Threads + Sync>(
         alloc,
         jobs,
         &|job|
-            requires { IsSync R.row × MayDraw plan.now scene.now.triangles threads job.shot }
+            requires { IsSync R.row × IsSync S.row × MayDraw plan.now (S.triangles scene.now) threads job.shot }
         { draw_image(rt, alloc, scene, job, plan, threads) },
     )?;
     Ok(drawn)
@@ -133,6 +136,38 @@ fn write_images<O: Sink>(drawn: &[Drawn], before: u32, out: &mut O) -> Result<()
     Ok(())
 }
 
+/// What [`sequence`] does, of a scene in either form.
+fn draw_and_write<R: Threads + Sync, S: Subject + Sync, O: Sink>(
+    rt: &R,
+    alloc: Global,
+    scene: &S,
+    shots: &[Shot],
+    plan: &Plan,
+    out: &mut O,
+) -> Result<(), SequenceFault>
+    requires scene { AreInLimits (S.triangles scene.now) }
+    requires shots { (length shots.now ≤ MAX_IMAGES) × All IsShot shots.now }
+    requires plan { IsPlan plan.now }
+    ensures answer { IsSequenceAnswer plan.now (S.triangles scene.now) shots.now (sink_change O.taken O.faults out.old out.new) result }
+    ensures later { O.faults out.old ≤ O.faults out.new }
+{
+    let at_once = images_at_once(plan, scene.count());
+    let mut images = 0;
+    let mut written = Vec::new(alloc);
+    while images < shots.len() {
+        let end = shots.len().min(images + at_once);
+        match draw_batch(rt, alloc, scene, &shots[images..end], plan, written) {
+            Ok(drawn) => {
+                write_images(&drawn, images as u32, out)?;
+                written = drawn;
+            }
+            Err(fault) => return Err(ImageFault::from(fault).after(images as u32)),
+        }
+        images = end;
+    }
+    Ok(())
+}
+
 /// Draws the image of each shot, and writes it to `out` by one call, in order. As many images are drawn at once as there are
 /// threads and memory for. When they are written, their memory is freed before the next are begun. Only their frames are kept, and
 /// the next images are drawn into these.
@@ -153,19 +188,24 @@ pub fn sequence<R: Threads + Sync, O: Sink>(
     ensures answer { IsSequenceAnswer plan.now scene.now.triangles shots.now (sink_change O.taken O.faults out.old out.new) result }
     ensures later { O.faults out.old ≤ O.faults out.new }
 {
-    let at_once = images_at_once(plan, scene.triangles.as_slice().len());
-    let mut images = 0;
-    let mut written = Vec::new(alloc);
-    while images < shots.len() {
-        let end = shots.len().min(images + at_once);
-        match draw_batch(rt, alloc, scene, &shots[images..end], plan, written) {
-            Ok(drawn) => {
-                write_images(&drawn, images as u32, out)?;
-                written = drawn;
-            }
-            Err(fault) => return Err(ImageFault::from(fault).after(images as u32)),
-        }
-        images = end;
-    }
-    Ok(())
+    draw_and_write(rt, alloc, scene, shots, plan, out)
+}
+
+/// What [`sequence`] does, of a scene as its file has it. For each image a point that several faces share is computed once, and no
+/// list of the triangles is made.
+pub fn sequence_flat<R: Threads + Sync, O: Sink>(
+    rt: &R,
+    alloc: Global,
+    scene: &FlatScene,
+    shots: &[Shot],
+    plan: &Plan,
+    out: &mut O,
+) -> Result<(), SequenceFault>
+    requires scene { AreInLimits scene.now }
+    requires shots { (length shots.now ≤ MAX_IMAGES) × All IsShot shots.now }
+    requires plan { IsPlan plan.now }
+    ensures answer { IsSequenceAnswer plan.now scene.now shots.now (sink_change O.taken O.faults out.old out.new) result }
+    ensures later { O.faults out.old ≤ O.faults out.new }
+{
+    draw_and_write(rt, alloc, scene, shots, plan, out)
 }

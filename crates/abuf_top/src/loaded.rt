@@ -5,7 +5,8 @@ use crate::task::Task;
 use abuf_cli::{Job, What};
 use abuf_mtl::Materials;
 use abuf_obj::FlatObj;
-use abuf_view::{Room, project_faces};
+use abuf_view::{FlatScene, Room};
+use std::alloc::Global;
 use std::thread::Threads;
 
 /// A scene and the materials of its libraries. It isn't projected yet; the room is for its primitives.
@@ -29,6 +30,7 @@ impl Loaded {
     pub(crate) fn drawing<R: Threads + Sync>(
         self,
         rt: &R,
+        alloc: Global,
         job: Job,
         what: What,
     ) -> Result<Task, Stop>
@@ -44,9 +46,12 @@ impl Loaded {
             obj,
             materials,
         } = self;
-        let projected = project_faces(rt, room, &obj, &materials, job.camera(), job.threads())?;
-        drop(obj);
+        let scene = FlatScene::new(alloc, obj, &materials)?;
         drop(materials);
+        let Ok(projected) = scene.project(rt, room, job.camera(), job.threads()) else {
+            return Err(Stop::Memory);
+        };
+        drop(scene);
         Ok(Task::Draw(Drawing::new(job, what, projected)))
     }
 }

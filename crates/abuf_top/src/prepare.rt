@@ -31,7 +31,7 @@ fn task_of<R: Threads + Sync, S: Source, H: Shelf>(
         Command::Draw(what) => {
             let what = *what;
             let loaded = load(rt, alloc, what, scene, shelf, job.threads())?;
-            loaded.drawing(rt, job, what)
+            loaded.drawing(rt, alloc, job, what)
         }
         Command::Sequence { name } => {
             prepare_images(rt, alloc, &job, name.as_slice(), scene, shelf)

@@ -4,8 +4,10 @@ ghost use Rattle.abuf_uses.specs.Seen.{IsFault, seen};
 
 use crate::fault::NoImage;
 use abuf_mtl::{Materials, read_mtl};
+use abuf_num::NoMemory;
 use abuf_obj::read_flat;
-use abuf_view::{Camera, Projected, Room, project_faces};
+use abuf_scene::SceneFault;
+use abuf_view::{Camera, FlatScene, Projected, Room};
 use std::alloc::Global;
 use std::thread::Threads;
 
@@ -25,7 +27,10 @@ pub fn seen_by<R: Threads + Sync>(
     let obj = read_flat(alloc, scene)?;
     let mut materials = Materials::new(alloc);
     read_mtl(alloc, library, &mut materials)?;
-    let room = Room::new(alloc, obj.faces().len());
-    let projected = project_faces(rt, room, &obj, &materials, camera, 2)?;
-    Ok(projected)
+    let flat = FlatScene::new(alloc, obj, &materials)?;
+    let room = Room::new(alloc, flat.triangle_count());
+    match flat.project(rt, room, camera, 2) {
+        Ok(projected) => Ok(projected),
+        Err(NoMemory) => Err(NoImage::Material(SceneFault::Memory)),
+    }
 }

@@ -5,5 +5,6 @@ pub mod Cutting
 pub mod Ring
 pub mod Quotients
 pub mod Fans
+pub mod Known
 pub mod Together
 pub mod Tables

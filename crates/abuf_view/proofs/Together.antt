@@ -1,88 +1,54 @@
 -- What chunks of faces give together.
-use Rattle.std.proofs.Common.{◌≡◌, ◌∙◌, sym, ap, ap₂, ◌+◌, ◌*◌, ◌<◌, ◌≤◌, ⊎_elim, ℕ, suc, List, [], ◌∷◌, ◌++◌, append-nil, map, flat_map, take, drop, take-append-drop, length, get_or, find, Option, Some, None, option_map, Result, Ok, Err, arith, refl, subst, cond, is_none}
-use Rattle.std.specs.Option.{option_or}
+use Rattle.std.proofs.Common.{◌≡◌, ◌∙◌, sym, ap, ap₂, ◌+◌, ◌*◌, ◌<◌, ◌≤◌, ⊎_elim, ℕ, suc, List, [], ◌∷◌, ◌++◌, append-nil, flat_map, take, drop, take-append-drop, length, get_or, map, Result, IfOk, Ok, Err, arith, refl, subst}
 use Rattle.std.proofs.lemmas.List.{append_assoc, drop-drop, length-drop, length_push, get_or_append_left, get_or_push}
 use Rattle.std.proofs.lemmas.Bool.{cases_lt}
 use Rattle.std.proofs.lemmas.List.Concat.{flat_map-append}
-use Rattle.std.proofs.lemmas.List.Folds.{find-append}
 use Rattle.abuf_num.specs.declared.plain.Paint.{Paint}
+use Rattle.abuf_num.specs.declared.list.NoMemory.{NoMemory}
 use Rattle.abuf_raster.specs.Triangle.{Triangle as OnScreen}
 use Rattle.abuf_obj.specs.declared.face.Face.{Face}
 use Rattle.abuf_obj.specs.declared.scene.Obj.{Obj}
-use Rattle.abuf_scene.specs.Triangles.{Look, is_unknown, paint_by, triangles_of, Tells}
-use Rattle.abuf_scene.specs.Lookup.{line_if_none}
-use Rattle.abuf_scene.specs.declared.assembly.SceneFault.{SceneFault}
-use Rattle.abuf_scene.specs.declared.assembly.SceneFault.TheVariants.{UnknownMaterial, Memory}
+use Rattle.abuf_scene.specs.Triangles.{Look, triangles_of}
 use Rattle.abuf_scene.specs.declared.triangles.Triangle.{Triangle}
 use Rattle.abuf_view.specs.declared.near_plane.EyeTriangle.{EyeTriangle}
 use Rattle.abuf_view.specs.declared.primitive_lists.PrimitiveLists.{PrimitiveLists}
 use Rattle.abuf_view.specs.declared.chunks.FaceChunk.{FaceChunk}
 use Rattle.abuf_view.specs.declared.eye.Eye.{Eye}
 use Rattle.abuf_view.specs.Eye.{clipped_by, on_screen_by}
-use Rattle.abuf_view.specs.Chunks.{IsFaceChunk, AreFaceChunks, unknown_in, before, together, IsAnswer}
+use Rattle.abuf_view.specs.Chunks.{IsFaceChunk, AreFaceChunks, before, together}
 
 -- Nothing before the chunks changes nothing.
-pub before_none : (none : PrimitiveLists) (rest : Result PrimitiveLists SceneFault) → none.tris ≡ [] → none.paints ≡ [] → before none rest ≡ rest
+pub before_none : (none : PrimitiveLists) (rest : Result PrimitiveLists NoMemory) → none.tris ≡ [] → none.paints ≡ [] → before none rest ≡ rest
 before_none none (Ok more) t p = λ i. Ok (record { tris = t i ++ more.tris; paints = p i ++ more.paints })
 before_none none (Err fault) t p = refl
 
 -- One more chunk that was made.
-pub one_more : (old new made : PrimitiveLists) (chunks rest : List (Result PrimitiveLists SceneFault)) (chunk : Result PrimitiveLists SceneFault) → chunks ≡ chunk ∷ rest → chunk ≡ Ok made
+pub one_more : (old new made : PrimitiveLists) (chunks rest : List (Result PrimitiveLists NoMemory)) (chunk : Result PrimitiveLists NoMemory) → chunks ≡ chunk ∷ rest → chunk ≡ Ok made
     → new.tris ≡ old.tris ++ made.tris → new.paints ≡ old.paints ++ made.paints → before new (together rest) ≡ before old (together chunks)
 one_more old new made chunks rest chunk is ok t p =
-    go (together rest) ∙ sym (ap (λ (l : List (Result PrimitiveLists SceneFault)). before old (together l)) (is ∙ ap (λ (r : Result PrimitiveLists SceneFault). r ∷ rest) ok)) where
-      go : (more : Result PrimitiveLists SceneFault) → before new more ≡ before old (before made more)
+    go (together rest) ∙ sym (ap (λ (l : List (Result PrimitiveLists NoMemory)). before old (together l)) (is ∙ ap (λ (r : Result PrimitiveLists NoMemory). r ∷ rest) ok)) where
+      go : (more : Result PrimitiveLists NoMemory) → before new more ≡ before old (before made more)
       go (Ok more) =
           let tris = ap (λ (l : List OnScreen). l ++ more.tris) t ∙ append_assoc old.tris made.tris more.tris in
           let paints = ap (λ (l : List Paint). l ++ more.paints) p ∙ append_assoc old.paints made.paints more.paints in
           λ i. Ok (record { tris = tris i; paints = paints i })
       go (Err fault) = refl
 
--- A chunk that was refused.
-pub refused_first : (old : PrimitiveLists) (chunks rest : List (Result PrimitiveLists SceneFault)) (chunk : Result PrimitiveLists SceneFault) (fault : SceneFault) → chunks ≡ chunk ∷ rest → chunk ≡ Err fault
-    → before old (together chunks) ≡ Err fault
-refused_first old chunks rest chunk fault is err =
-    ap (λ (l : List (Result PrimitiveLists SceneFault)). before old (together l)) (is ∙ ap (λ (r : Result PrimitiveLists SceneFault). r ∷ rest) err)
-
 -- No chunk is left.
-pub at_end : (now : PrimitiveLists) (rest : List (Result PrimitiveLists SceneFault)) → length rest ≡ 0 → before now (together rest) ≡ Ok now
+pub at_end : (now : PrimitiveLists) (rest : List (Result PrimitiveLists NoMemory)) → length rest ≡ 0 → before now (together rest) ≡ Ok now
 at_end now [] none = λ i. Ok (record { tris = append-nil now.tris i; paints = append-nil now.paints i })
 at_end now (chunk ∷ rest) none = absurd (omega arith)
 
--- The refusal may be answered.
-pub is_answer : (whole : Result PrimitiveLists SceneFault) (fault : SceneFault) → whole ≡ Err fault → IsAnswer whole (Err fault)
-is_answer whole (UnknownMaterial line) is = is
-is_answer whole Memory is = tt
-
--- What is made of the first of two that there is.
-map_or : {A B : Type 0} (g : A → B) (a b : Option A) → option_map g (option_or a b) ≡ option_or (option_map g a) (option_map g b)
-map_or g None b = refl
-map_or g (Some a) b = refl
-
--- The unknown material of two chunks of faces is that of the first chunk that has one.
-unknown_both : (look : Look) (names : List (List ℕ)) (xs ys : List Face) → unknown_in look names (xs ++ ys) ≡ option_or (unknown_in look names xs) (unknown_in look names ys)
-unknown_both look names xs ys =
-    ap (option_map (λ (face : Face). face.line)) (find-append (is_unknown look names) xs ys)
-    ∙ map_or (λ (face : Face). face.line) (find (is_unknown look names) xs) (find (is_unknown look names) ys)
-
--- A refusal of a chunk tells the same of it and all that comes after it.
-tells_more : (first second : Option ℕ) (fault : SceneFault) → Tells first fault → Tells (option_or first second) fault
-tells_more first second Memory tells = tt
-tells_more first second (UnknownMaterial line) tells = ap (λ (o : Option ℕ). option_or o second) tells
-
 module _ (look : Look) (obj : Obj) (eye : Eye) where
-  abbrev unknown : List Face → Option ℕ
-  unknown faces = unknown_in look obj.names faces
-
   -- The first worker has the first faces.
-  first_chunk : (per_chunk : ℕ) (faces : List Face) (chunk : Result PrimitiveLists SceneFault) (chunks : List (Result PrimitiveLists SceneFault))
+  first_chunk : (per_chunk : ℕ) (faces : List Face) (chunk : Result PrimitiveLists NoMemory) (chunks : List (Result PrimitiveLists NoMemory))
       → AreFaceChunks look obj eye per_chunk faces (chunk ∷ chunks) → IsFaceChunk look obj eye (take per_chunk faces) chunk
   first_chunk per_chunk faces chunk chunks are =
       let start : 0 * per_chunk ≡ 0 = omega arith in
       subst (λ (k : ℕ). IsFaceChunk look obj eye (take per_chunk (drop k faces)) chunk) start (are.each 0 chunk (omega arith))
 
   -- The others have the faces after them.
-  later_chunks : (per_chunk : ℕ) (faces : List Face) (chunk : Result PrimitiveLists SceneFault) (chunks : List (Result PrimitiveLists SceneFault))
+  later_chunks : (per_chunk : ℕ) (faces : List Face) (chunk : Result PrimitiveLists NoMemory) (chunks : List (Result PrimitiveLists NoMemory))
       → AreFaceChunks look obj eye per_chunk faces (chunk ∷ chunks) → AreFaceChunks look obj eye per_chunk (drop per_chunk faces) chunks
   later_chunks per_chunk faces chunk chunks are = record {
     all = omega (arith, are.all, length-drop per_chunk faces);
@@ -104,42 +70,25 @@ module _ (look : Look) (obj : Obj) (eye : Eye) where
       ∙ flat_map-append g (flat_map (triangles_of look obj) xs) (flat_map (triangles_of look obj) ys))
 
   -- A chunk that was made, and what those after it give, are that of both.
-  both : (xs ys : List Face) (made : PrimitiveLists) (rest : Result PrimitiveLists SceneFault) → IsFaceChunk look obj eye xs (Ok made) → IsFaceChunk look obj eye ys rest → IsFaceChunk look obj eye (xs ++ ys) (before made rest)
+  both : (xs ys : List Face) (made : PrimitiveLists) (rest : Result PrimitiveLists NoMemory) → IsFaceChunk look obj eye xs (Ok made) → IsFaceChunk look obj eye ys rest → IsFaceChunk look obj eye (xs ++ ys) (before made rest)
   both xs ys made (Ok more) front back = record {
-    fault = tt;
-    known = unknown_both look obj.names xs ys ∙ ap₂ (λ (a b : Option ℕ). option_or a b) front.known back.known;
     tris = ap₂ (λ (a b : List OnScreen). a ++ b) front.tris back.tris ∙ both_made (λ (t : Triangle). map (on_screen_by eye) (clipped_by eye t)) xs ys;
     paints = ap₂ (λ (a b : List Paint). a ++ b) front.paints back.paints ∙ both_made (λ (t : Triangle). map (λ (c : EyeTriangle). t.paint) (clipped_by eye t)) xs ys;
   }
-  both xs ys made (Err fault) front back = record {
-    fault = subst (λ (o : Option ℕ). Tells o fault) (sym (unknown_both look obj.names xs ys ∙ ap (λ (o : Option ℕ). option_or o (unknown ys)) front.known)) back.fault;
-    known = tt;
-    tris = tt;
-    paints = tt;
-  }
+  both xs ys made (Err fault) front back = record { tris = tt; paints = tt }
 
   -- The chunks together are that of all faces.
-  pub all_face_chunks : (per_chunk : ℕ) (faces : List Face) (chunks : List (Result PrimitiveLists SceneFault)) → AreFaceChunks look obj eye per_chunk faces chunks → IsFaceChunk look obj eye faces (together chunks)
-  all_face_chunks per_chunk faces [] are = rw (no_faces faces per_chunk are.all) (record { fault = tt; known = refl; tris = refl; paints = refl })
+  pub all_face_chunks : (per_chunk : ℕ) (faces : List Face) (chunks : List (Result PrimitiveLists NoMemory)) → AreFaceChunks look obj eye per_chunk faces chunks → IsFaceChunk look obj eye faces (together chunks)
+  all_face_chunks per_chunk faces [] are = rw (no_faces faces per_chunk are.all) (record { tris = refl; paints = refl })
   all_face_chunks per_chunk faces (Ok made ∷ chunks) are =
       subst (λ (fs : List Face). IsFaceChunk look obj eye fs (together (Ok made ∷ chunks))) (take-append-drop per_chunk faces)
       (both (take per_chunk faces) (drop per_chunk faces) made (together chunks) (first_chunk per_chunk faces (Ok made) chunks are) (all_face_chunks per_chunk (drop per_chunk faces) chunks (later_chunks per_chunk faces (Ok made) chunks are)))
-  all_face_chunks per_chunk faces (Err fault ∷ chunks) are =
-      let front = take per_chunk faces in
-      let back = drop per_chunk faces in
-      let all : option_or (unknown front) (unknown back) ≡ unknown faces = sym (unknown_both look obj.names front back) ∙ ap unknown (take-append-drop per_chunk faces) in
-      record {
-        fault = subst (λ (o : Option ℕ). Tells o fault) all (tells_more (unknown front) (unknown back) fault (first_chunk per_chunk faces (Err fault) chunks are).fault);
-        known = tt;
-        tris = tt;
-        paints = tt;
-      }
+  all_face_chunks per_chunk faces (Err fault ∷ chunks) are = record { tris = tt; paints = tt }
 
   -- So is what is answered.
-  pub answered : (faces : List Face) (whole result : Result PrimitiveLists SceneFault) → IsFaceChunk look obj eye faces whole → IsAnswer whole result → IsFaceChunk look obj eye faces result
+  pub answered : (faces : List Face) (whole result : Result PrimitiveLists NoMemory) → IsFaceChunk look obj eye faces whole → IfOk result (λ made. whole ≡ Ok made) → IsFaceChunk look obj eye faces result
   answered faces whole (Ok made) are is = subst (IsFaceChunk look obj eye faces) is are
-  answered faces whole (Err (UnknownMaterial line)) are is = subst (IsFaceChunk look obj eye faces) is are
-  answered faces whole (Err Memory) are is = record { fault = tt; known = tt; tris = tt; paints = tt }
+  answered faces whole (Err fault) are is = record { tris = tt; paints = tt }
 
 -- One chunk more of faces that are cut.
 pub cut_more : (p : ℕ) (faces : List Face) (chunks new : List FaceChunk) (chunk : FaceChunk) → new ≡ chunks ++ chunk ∷ []
@@ -151,13 +100,3 @@ cut_more p faces chunks new chunk is each last n d within =
     ∙ ⊎_elim (λ (h : n < length chunks). ap (λ (r : FaceChunk). r.faces) (get_or_append_left chunks (chunk ∷ []) d n h) ∙ each n d h)
     (λ (h : length chunks ≤ n). let e : length chunks ≡ n = omega (arith, few, within) in
     ap (λ (r : FaceChunk). r.faces) (get_or_push chunks chunk d n e) ∙ (last ∙ ap (λ (k : ℕ). take p (drop (k * p) faces)) e)) (cases_lt n (length chunks))
-
--- A face with a known material isn't the first of those whose material is unknown.
-passed : (found : Option Paint) (line : ℕ) (face : Face) (more : Option Face) → line_if_none line found ≡ None → more ≡ cond (is_none found) (Some face) more
-passed (Some paint) line face more known = refl
-passed None line face more known = absurd (let e : Some line ≡ None = known in cc)
-
-pub next_known : (look : Look) (names : List (List ℕ)) (face : Face) (left later : List Face) → left ≡ face ∷ later → line_if_none face.line (paint_by look names face.name) ≡ None
-    → find (is_unknown look names) later ≡ find (is_unknown look names) left
-next_known look names face left later is known =
-    passed (paint_by look names face.name) face.line face (find (is_unknown look names) later) known ∙ sym (ap (find (is_unknown look names)) is)

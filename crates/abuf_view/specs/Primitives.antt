@@ -1,11 +1,10 @@
 -- The primitives of a scene's triangles. The index of one in the list is its number.
-use Rattle.std.specs.Prelude.{◌≡◌, ◌≤◌, All, List, length, map, flat_map, Result, IfOk}
+use Rattle.std.specs.Prelude.{◌≤◌, All, List, length, map, flat_map}
 use Rattle.abuf_num.specs.declared.limits.TheConstants.{MAX_TRIANGLES}
 use Rattle.abuf_num.specs.declared.plain.Paint.{Paint}
 use Rattle.abuf_scene.specs.declared.triangles.Triangle.{Triangle}
 use Rattle.abuf_scene.specs.Triangles.{IsTriangleInRange}
 use Rattle.abuf_raster.specs.Triangle.{Triangle as OnScreen}
-use Rattle.abuf_view.specs.declared.projection.Projected.{Projected}
 use Rattle.abuf_view.specs.Camera.{Camera, point_of, eye_point, plane}
 use Rattle.abuf_view.specs.NearPlane.{clipped}
 use Rattle.abuf_view.specs.Screen.{on_screen}
@@ -32,10 +31,3 @@ prims_of k t = map (primitive k t.paint) (clipped (plane k) (eye_point k (point_
 -- Triangle by triangle, what the clip table names.
 abbrev pub prims : Camera → List Triangle → List Primitive
 prims k triangles = flat_map (prims_of k) triangles
-
--- Where there is a result, its triangles on the screen are those of the primitives, and so are its paints.
-abbrev pub HasTriangles : {E : Type 0} → Result Projected E → List Primitive → Type 0
-HasTriangles result those = IfOk result (λ p. p.tris ≡ map (λ (q : Primitive). q.triangle) those)
-
-abbrev pub HasPaints : {E : Type 0} → Result Projected E → List Primitive → Type 0
-HasPaints result those = IfOk result (λ p. p.paints ≡ map (λ (q : Primitive). q.paint) those)

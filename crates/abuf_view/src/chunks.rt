@@ -1,12 +1,11 @@
 // Chunks of faces, put together.
-ghost use Rattle.std.specs.Prelude.{◌≡◌, ◌≤◌, ◌++◌, OnOk, IfOk};
-ghost use Rattle.abuf_view.specs.Chunks.{together, AreCut, IsAnswer};
+ghost use Rattle.std.specs.Prelude.{◌≡◌, ◌≤◌, ◌++◌, Ok, OnOk, IfOk};
+ghost use Rattle.abuf_view.specs.Chunks.{together, AreCut};
 
 use crate::primitive_lists::PrimitiveLists;
 use crate::room::Room;
 use abuf_num::{List, NoMemory};
 use abuf_obj::FaceSlice;
-use abuf_scene::SceneFault;
 use std::alloc::Global;
 
 /// Consecutive faces of a file, and the room in which their primitives are to be made.
@@ -59,12 +58,12 @@ fn append<T: Drop>(items: &mut Vec<T>, chunk: Vec<T>) -> Result<(), NoMemory>
     Ok(())
 }
 
-/// The primitives of all chunks, in the order of the chunks, or the refusal of the first that was refused.
+/// The primitives of all chunks, in the order of the chunks.
 pub(crate) fn put_together(
     alloc: Global,
-    chunks: Vec<Result<PrimitiveLists, SceneFault>>,
-) -> Result<PrimitiveLists, SceneFault>
-    ensures { IsAnswer (together chunks.items) result }
+    chunks: Vec<Result<PrimitiveLists, NoMemory>>,
+) -> Result<PrimitiveLists, NoMemory>
+    ensures { IfOk result (λ made. together chunks.items ≡ Ok made) }
 {
     let mut tris = Vec::new(alloc);
     let mut paints = Vec::new(alloc);

@@ -5,6 +5,7 @@ mod camera;
 mod checked_camera;
 mod chunks;
 mod eye;
+mod flat_scene;
 pub mod laws;
 mod near_plane;
 mod palette;
@@ -22,9 +23,9 @@ mod turns;
 
 pub use camera::{Camera, Lens};
 pub use eye::EyePoint;
+pub use flat_scene::FlatScene;
 pub use near_plane::EyeTriangle;
 pub use projection::Projected;
 pub use room::Room;
 pub use scenes::project;
-pub use threads::project_faces;
 pub use turns::turn_from;

@@ -1,10 +1,13 @@
 // The paints of a scene's names.
-ghost use Rattle.std.specs.Prelude.{◌≡◌, ◌<◌, length, map, IfOk, IfSome};
+ghost use Rattle.std.specs.Prelude.{◌≡◌, ◌<◌, All, length, map, is_some, IfOk, IfSome};
+ghost use Rattle.std.specs.List.{list_all};
+ghost use Rattle.abuf_obj.specs.Sound.{IsFace};
 ghost use Rattle.abuf_scene.specs.Lookup.{look_up};
-ghost use Rattle.abuf_scene.specs.Triangles.{paint_by};
+ghost use Rattle.abuf_scene.specs.Triangles.{paint_by, unknown_by};
 
 use abuf_mtl::Materials;
 use abuf_num::{List, NoMemory, Paint, WHITE};
+use abuf_obj::FlatObj;
 use std::alloc::Global;
 use std::snapshot::Snapshot;
 
@@ -48,5 +51,31 @@ impl Palette {
             None => Some(WHITE),
             Some(n) => self.paints[n as usize],
         }
+    }
+
+    /// Whether each name has a material.
+    fn has_all(&self) -> bool
+        ensures { result ≡ list_all is_some (map (look_up self.now.materials.value) self.now.names.value) }
+    {
+        self.paints.iter().all(|paint| paint.is_some())
+    }
+
+    /// The line of the first face of the file whose name has no material. Where each name has one, no face is looked at.
+    pub(crate) fn first_unknown(&self, obj: &FlatObj) -> Option<u32>
+        requires names { self.now.names.value ≡ obj.now.names }
+        requires faces { All (IsFace (length obj.now.points) (length obj.now.names)) obj.now.faces }
+        ensures { result ≡ unknown_by (look_up self.now.materials.value) obj.now }
+    {
+        if self.has_all() {
+            return None;
+        }
+        let mut left = obj.faces();
+        while let Some((face, later)) = left.split_first() {
+            if self.paint_of(face.name).is_none() {
+                return Some(face.line);
+            }
+            left = later;
+        }
+        None
     }
 }

@@ -9,7 +9,7 @@ use abuf_mtl::{Materials, MtlFault, read_mtl};
 use abuf_num::List;
 use abuf_num::limits::MAX_BYTES;
 use abuf_obj::read_obj_on_threads;
-use abuf_view::{Projected, Room, project_faces};
+use abuf_view::{FlatScene, Projected, Room};
 use std::alloc::Global;
 use std::thread::Threads;
 
@@ -59,7 +59,8 @@ pub(crate) fn load<R: Threads + Sync, S: Source, H: Shelf>(
     let bytes = read_all(alloc, source, MAX_BYTES)?;
     let obj = read_obj_on_threads(rt, alloc, bytes.as_slice(), job.threads())?;
     let materials = read_libraries(alloc, shelf, obj.libraries().as_slice())?;
-    let room = Room::new(alloc, obj.faces().len());
-    let projected = project_faces(rt, room, &obj, &materials, job.camera(), job.threads())?;
+    let scene = FlatScene::new(alloc, obj, &materials)?;
+    let room = Room::new(alloc, scene.triangle_count());
+    let projected = scene.project(rt, room, job.camera(), job.threads())?;
     Ok(projected)
 }

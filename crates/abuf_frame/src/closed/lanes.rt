@@ -1,4 +1,4 @@
-// The lists of eight neighbouring pixels, copied side by side.
+// The lists of neighbouring pixels, copied side by side.
 ghost use Rattle.std.specs.Prelude.{◌≡◌, ℕ, ◌+◌, ◌<◌, [], IfOk, IsTrue, length, map, slice_index, slice_index_or, vec_items};
 ghost use Rattle.abuf_frame.specs.Lanes.{Advances, AllAdvance, Refers, head_or_end};
 ghost use Rattle.abuf_frame.specs.Reading.{HoldsEight};
@@ -41,6 +41,15 @@ fn all_ended(at: &[u64; 8]) -> bool
     *at == [0; 8]
 }
 
+/// Whether all walks of both have.
+#[inline(always)]
+fn both_ended(at: &[u64; 8], others: &[u64; 8]) -> bool
+    ensures at { IsTrue result → (k : ℕ) → k < 8 → slice_index at.now k ≡ 0 }
+    ensures others { IsTrue result → (k : ℕ) → k < 8 → slice_index others.now k ≡ 0 }
+{
+    all_ended(at) && all_ended(others)
+}
+
 /// Passes the node to which the word refers, if it isn't 0: puts its payload last in the list, and returns its next.
 #[inline(always)]
 pub(crate) fn advance(
@@ -79,23 +88,32 @@ fn advance_all(
 }
 
 impl Closed {
-    /// The lists of the eight pixels from this one on, each in the order of its walk, and an empty one for each pixel past
-    /// the last. A walk along one list waits for memory at each node. Eight are walked here side by side, so that their waits
-    /// overlap, and neighbouring nodes are read while they are in the cache. The cost grows with the longest list and with the
-    /// sum of the eight. Where memory runs out, the buffers hold some of the payloads.
-    pub(crate) fn copy_eight(&self, pixel: u32, lists: &mut [Vec<u64>; 8]) -> Result<(), NoMemory>
-        requires { pixel < self.now.pixels }
-        ensures length { length lists.new ≡ 8 }
+    /// The lists of the eight pixels from this one on, and of the eight from another one on, each in the order of its walk, and an empty
+    /// one for each pixel past the last. A walk along one list waits for memory at each node. Sixteen are walked here side by side, so
+    /// that their waits overlap, and neighbouring nodes are read while they are in the cache. The cost grows with the longest list and
+    /// with the sum of the sixteen. Where memory runs out, the buffers hold some of the payloads.
+    pub(crate) fn copy_eights(
+        &self,
+        pixel: u32,
+        other: u32,
+        lists: &mut [Vec<u64>; 8],
+        others: &mut [Vec<u64>; 8],
+    ) -> Result<(), NoMemory>
+        ensures length { (length lists.new ≡ 8) × (length others.new ≡ 8) }
         ensures lists { IfOk result (λ _. HoldsEight self.now pixel (map vec_items lists.new)) }
+        ensures others { IfOk result (λ _. HoldsEight self.now other (map vec_items others.new)) }
     {
         let words = &self.words;
         let mut at = heads(words, self.pixels, pixel);
+        let mut other_at = heads(words, self.pixels, other);
         clear_all(lists);
+        clear_all(others);
         for _ in 0..self.table_nodes {
-            if all_ended(&at) {
+            if both_ended(&at, &other_at) {
                 break;
             }
             advance_all(words, self.pixels, &mut at, lists)?;
+            advance_all(words, self.pixels, &mut other_at, others)?;
         }
         Ok(())
     }

@@ -1,10 +1,10 @@
 // The sums of all pixels, on threads.
 ghost use Rattle.std.specs.Prelude.{◌≡◌, ℕ, ◌-◌, ◌*◌, ◌<◌, ◌≤◌, min, length, map, IfOk};
 ghost use Rattle.std.specs.List.{range_with_len, All};
-ghost use Rattle.abuf_num.specs.declared.limits.TheConstants.{MAX_THREADS};
+ghost use Rattle.abuf_num.specs.declared.limits.TheConstants.{MAX_PIXELS, MAX_THREADS};
 ghost use Rattle.abuf_raster.specs.Samples.{offsets_of};
 ghost use Rattle.abuf_resolve.specs.Lengths.{maximum};
-ghost use Rattle.abuf_resolve.specs.Spans.{AreSpans, AreSpanSums, IsSpan};
+ghost use Rattle.abuf_resolve.specs.Spans.{AreSpans, AreSpanSums, CanRead, IsSpan};
 ghost use Rattle.abuf_resolve.specs.Shading.{sums_of};
 ghost use Rattle.abuf_resolve.specs.Sums.{IsSmall};
 ghost use Rattle.abuf_resolve.specs.Words.{AreFragmentLists};
@@ -22,18 +22,39 @@ use std::thread::Threads;
 /// About how many spans of pixels a worker takes, so that all end at about the same time.
 const SPANS_A_THREAD: u32 = 16;
 
-/// The most pixels of a span.
+/// The most pixels of a span, but where two rows are longer.
 const MAX_SPAN: u32 = 4096;
 
-/// How many pixels each span has but the last: whole groups of eight, since the lists of eight pixels are read together.
-fn span_size(region: Region, threads: u32) -> u32
+/// The least number of pairs of rows for each worker.
+const PAIRS_A_THREAD: u32 = 4;
+
+/// How many pixels a line has, where pixels are read by pairs of lines: those of a row, since pixels that lie above each other have many
+/// nodes near each other, or fewer where there would be too few pairs of rows. Eight pixels of a line are read together.
+fn line_length(region: Region, threads: u32) -> u32
+    requires threads { (1 ≤ threads) × (threads ≤ MAX_THREADS) }
+    ensures some { 1 ≤ result }
+    ensures few { result ≤ MAX_PIXELS }
+{
+    let row = 8 * region.w().div_ceil(8);
+    let share = region.pixels() / threads;
+    if threads == 1 || 2 * row * PAIRS_A_THREAD <= share {
+        row
+    } else {
+        row.min(8 * (share / SPANS_A_THREAD).div_ceil(16).max(1))
+    }
+}
+
+/// How many pixels each span has but the last: whole pairs of lines.
+fn span_size(region: Region, line: u32, threads: u32) -> u32
+    requires line { (1 ≤ line) × (line ≤ MAX_PIXELS) }
     requires threads { (1 ≤ threads) × (threads ≤ MAX_THREADS) }
     ensures some { 1 ≤ result }
     ensures few { region.w * region.h ≤ result * MAX_NUMBERS }
 {
     let pixels = region.pixels();
     let wanted = (pixels / (SPANS_A_THREAD * threads)).min(MAX_SPAN);
-    8 * wanted.max(pixels.div_ceil(MAX_NUMBERS)).div_ceil(8)
+    let least = wanted.max(pixels.div_ceil(MAX_NUMBERS));
+    least.max(1).div_ceil(2 * line) * (2 * line)
 }
 
 /// How many spans of this size the pixels of a region make.
@@ -101,24 +122,24 @@ impl<'a, 'b> Shading<'a, 'b> {
         ensures { IfOk result (AreSpanSums self.now region closed.now.lists (range_with_len 0 (region.w * region.h))) }
     {
         let pixels = closed.pixels();
+        let line = line_length(region, threads);
         if threads == 1 {
             let all = Span {
                 from: 0,
                 count: pixels,
             };
-            return self.span_sums(alloc, closed, region, all);
+            return self.span_sums(alloc, closed, region, all, line);
         }
-        let size = span_size(region, threads);
+        let size = span_size(region, line, threads);
         let spans = map_numbered(
             rt,
             alloc,
             span_count(region, size),
             threads,
             &|number: u32| -> Result<Resolved, NoMemory>
-                requires { (length closed.now.lists ≡ region.w * region.h) × (closed.now.pixels ≡ region.w * region.h) × (size * number < region.w * region.h)
-                    × AreFragmentLists (offsets_of self.now.pattern) self.now.planes region closed.now.lists }
+                requires { CanRead self.now region closed.now × (size * number < region.w * region.h) × (1 ≤ line) × (line ≤ MAX_PIXELS) }
                 ensures { IfOk result (IsSpan self.entry.now region closed.entry.now.lists size number) }
-            { self.span_sums(alloc, closed, region, span_of(region, size, number)) },
+            { self.span_sums(alloc, closed, region, span_of(region, size, number), line) },
         )?;
         self.joined(alloc, closed, region, size, &spans)
     }

@@ -27,16 +27,16 @@ use abuf_cli::Job;
 use abuf_io::{Fetch, Shelf, Sink, Source};
 use abuf_num::List;
 use abuf_num::limits::MAX_PATH_BYTES;
-use abuf_scene::{Scene, assemble};
-use abuf_sequence::{PathFault, Plan, SequenceFault, Shot, read_path, sequence};
+use abuf_sequence::{PathFault, Plan, SequenceFault, Shot, read_path, sequence_flat};
+use abuf_view::FlatScene;
 use std::alloc::Global;
 use std::marker::Model;
 use std::thread::Threads;
 
-/// The triangles of a scene, and how their images are drawn.
+/// A scene, and how its images are drawn.
 #[derive(Drop)]
 pub(crate) struct Images {
-    scene: Scene,
+    scene: FlatScene,
     shots: List<Shot>,
     plan: Plan,
 }
@@ -46,9 +46,9 @@ impl Model for Images {
 
     ghost Value = { Images };
 
-    ghost view = { λ i. record { plan = i.plan; triangles = i.scene.triangles; shots = i.shots } };
+    ghost view = { λ i. record { plan = i.plan; triangles = i.scene; shots = i.shots } };
 
-    ghost invariant = { λ i. AreSound i.plan i.scene.triangles i.shots };
+    ghost invariant = { λ i. AreSound i.plan i.scene i.shots };
 }
 
 impl Images {
@@ -60,12 +60,12 @@ impl Images {
     ghost use Rattle.abuf_io.specs.Sinks.{sink_change};
 
     /// The images of these shots.
-    fn new(scene: Scene, shots: List<Shot>, plan: Plan) -> Images
-        requires scene { AreInLimits scene.triangles }
+    fn new(scene: FlatScene, shots: List<Shot>, plan: Plan) -> Images
+        requires scene { AreInLimits scene }
         requires shots { All IsShot shots }
         requires few_shots { length shots ≤ MAX_IMAGES }
         requires plan { IsPlan plan }
-        ensures { result ≡ record { plan = plan; triangles = scene.triangles; shots = shots } }
+        ensures { result ≡ record { plan = plan; triangles = scene; shots = shots } }
     {
         Images { scene, shots, plan }
     }
@@ -79,7 +79,7 @@ impl Images {
     ) -> Result<(), SequenceFault>
         ensures { IsSequenceAnswer self.now.plan self.now.triangles self.now.shots (sink_change O.taken O.faults out.old out.new) result }
     {
-        sequence(
+        sequence_flat(
             rt,
             alloc,
             &self.scene,
@@ -160,10 +160,7 @@ fn images_of(alloc: Global, job: &Job, shots: List<Shot>, loaded: Loaded) -> Res
         obj,
         materials,
     } = loaded;
-    let Ok(obj) = obj.into_obj(alloc) else {
-        return Err(Stop::Memory);
-    };
-    let scene = assemble(alloc, &obj, &materials)?;
+    let scene = FlatScene::new(alloc, obj, &materials)?;
     Ok(Task::Sequence(Images::new(scene, shots, plan_of(job))))
 }
 

@@ -1,10 +1,10 @@
 // The primitives of faces, without a list of their triangles.
-ghost use Rattle.std.specs.Prelude.{◌≡◌, ◌+◌, ◌≤◌, ◌<◌, ◌++◌, All, length, map, flat_map, None, OnOk, IfOk, IfErr};
+ghost use Rattle.std.specs.Prelude.{◌≡◌, ◌+◌, ◌≤◌, ◌<◌, ◌++◌, All, length, map, OnOk};
 ghost use Rattle.abuf_obj.specs.Sound.{IsFace};
-ghost use Rattle.abuf_scene.specs.Triangles.{fan, triangle, paint_by, triangles_of, Tells};
-ghost use Rattle.abuf_scene.specs.Lookup.{look_up, line_if_none};
+ghost use Rattle.abuf_scene.specs.Triangles.{fan, triangle, triangles_of};
+ghost use Rattle.abuf_scene.specs.Lookup.{look_up};
 ghost use Rattle.abuf_view.specs.Eye.{clipped_by, on_screen_by, tris_by, paints_by};
-ghost use Rattle.abuf_view.specs.Chunks.{unknown_in};
+ghost use Rattle.abuf_view.specs.Chunks.{IsFaceChunk};
 
 use crate::chunks::FaceChunk;
 use crate::palette::Palette;
@@ -12,7 +12,7 @@ use crate::point_table::PointTable;
 use crate::primitive_lists::PrimitiveLists;
 use abuf_num::{NoMemory, Paint};
 use abuf_obj::{FaceRef, FlatObj};
-use abuf_scene::{SceneFault, fan_triangle};
+use abuf_scene::fan_triangle;
 
 impl PrimitiveLists {
     /// Puts the primitives of a fan's triangle of the corners 0, i and i + 1 last. Where the table has all three corners, no
@@ -55,31 +55,26 @@ impl PrimitiveLists {
         Ok(())
     }
 
-    /// Puts the primitives of a face last, or refuses a name without a material.
+    /// Puts the primitives of a face last. A face whose name has no material has no triangles.
     fn push_face(
         &mut self,
         table: &PointTable,
         obj: &FlatObj,
         palette: &Palette,
         face: &FaceRef,
-    ) -> Result<(), SceneFault>
+    ) -> Result<(), NoMemory>
         requires points { table.now.points.now ≡ obj.now.points }
         requires names { palette.now.names.value ≡ obj.now.names }
         requires face { IsFace (length obj.now.points) (length obj.now.names) face.now }
-        ensures fault { IfErr result (Tells (line_if_none face.now.line (paint_by (look_up palette.now.materials.value) obj.now.names face.now.name))) }
-        ensures known { OnOk result (line_if_none face.now.line (paint_by (look_up palette.now.materials.value) obj.now.names face.now.name) ≡ None) }
         ensures tris { OnOk result
             (self.new.tris ≡ self.old.tris ++ tris_by table.now.eye (triangles_of (look_up palette.now.materials.value) obj.now face.now)) }
         ensures paints { OnOk result
             (self.new.paints ≡ self.old.paints ++ paints_by table.now.eye (triangles_of (look_up palette.now.materials.value) obj.now face.now)) }
     {
-        match palette.paint_of(face.name) {
-            None => Err(SceneFault::UnknownMaterial { line: face.line }),
-            Some(paint) => {
-                self.push_fan(table, face.corners, paint)?;
-                Ok(())
-            }
+        if let Some(paint) = palette.paint_of(face.name) {
+            self.push_fan(table, face.corners, paint)?;
         }
+        Ok(())
     }
 }
 
@@ -89,16 +84,11 @@ pub(crate) fn project_chunk(
     table: &PointTable,
     obj: &FlatObj,
     palette: &Palette,
-) -> Result<PrimitiveLists, SceneFault>
+) -> Result<PrimitiveLists, NoMemory>
     requires points { table.now.points.now ≡ obj.now.points }
     requires names { palette.now.names.value ≡ obj.now.names }
     requires faces { All (IsFace (length obj.now.points) (length obj.now.names)) chunk.faces }
-    ensures fault { IfErr result (Tells (unknown_in (look_up palette.now.materials.value) obj.now.names chunk.entry.faces)) }
-    ensures known { OnOk result (unknown_in (look_up palette.now.materials.value) obj.now.names chunk.entry.faces ≡ None) }
-    ensures tris { IfOk result (λ p. p.tris
-        ≡ tris_by table.now.eye (flat_map (triangles_of (look_up palette.now.materials.value) obj.now) chunk.entry.faces)) }
-    ensures paints { IfOk result (λ p. p.paints
-        ≡ paints_by table.now.eye (flat_map (triangles_of (look_up palette.now.materials.value) obj.now) chunk.entry.faces)) }
+    ensures { IsFaceChunk (look_up palette.now.materials.value) obj.now table.now.eye chunk.entry.faces result }
 {
     let FaceChunk { faces, room } = chunk;
     let mut made = room.with_capacity(faces.len())?.into_lists();

@@ -1,4 +1,4 @@
-use Rattle.std.proofs.Common.{◌≡◌, ◌≤◌, ◌+◌, ◌*◌, ◌<◌, ℕ, List, take, drop, length, slice_index_or}
+use Rattle.std.proofs.Common.{◌≡◌, ◌≤◌, ◌+◌, ◌*◌, ◌<◌, ℕ, take, drop, length, slice_index_or}
 use Rattle.abuf_view.specs.declared.chunks.FaceChunk.{FaceChunk}
 use Rattle.abuf_view.proofs.chunks.face_chunks.Given as goal
 

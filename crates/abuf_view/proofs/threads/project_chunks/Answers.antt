@@ -1,4 +1,4 @@
-use Rattle.std.proofs.Common.{◌≡◌, ◌*◌, ◌∙◌, All, List, ap, drop, length, subst, sym, take}
+use Rattle.std.proofs.Common.{◌≡◌, ◌*◌, ◌∙◌, All, ap, drop, length, subst, sym, take}
 use Rattle.std.proofs.lemmas.List.Elements.{All-drop, All-take}
 use Rattle.abuf_obj.specs.Sound.{IsFace}
 use Rattle.abuf_obj.specs.declared.face.Face.{Face}

@@ -1,29 +1,14 @@
-use Rattle.std.proofs.Common.{◌≡◌, ◌∙◌, ◌+◌, ◌-◌, [], List, ℕ, ap, sym, subst, length, slice_index_or, arith}
-use Rattle.std.specs.List.{range_with_len}
-use Rattle.abuf_raster.proofs.Blocks.{range_more}
-use Rattle.abuf_resolve.specs.Spans.{AreSpanSums}
-use Rattle.abuf_resolve.specs.Shading.{sum_in, sum_of_list}
-use Rattle.abuf_resolve.proofs.Spans.{span_more}
+use Rattle.std.proofs.Common.{[], ◌∙◌, arith}
+use Rattle.abuf_resolve.proofs.Spans.{places_more}
 use Rattle.abuf_resolve.proofs.shading.Shading.span_sums.Goals as goal
 
-pub loop-i-preserved : goal.loop-i-preserved
-loop-i-preserved c =
-    let shading = c.args.self.now in
-    let r = c.args.region in
-    let lists = c.args.closed.now.lists in
-    let from = c.args.span.from in
-    let i = c.loop-i.i in
-    let place = from + i in
-    let list_is : c.list-list.result.now ≡ slice_index_or lists place [] =
-    c.list-list.ensures ∙ (c.in_ok-read.ensures.list ∙ ap (λ f. slice_index_or f.lists place []) c.loop-i.invariant.reads) in
-    let here : c.in_ok-sum.sum ≡ sum_in shading r lists place = c.in_ok-sum.ensures.value ∙ ap (sum_of_list shading r place) list_is in
-    let count : length c.list-list.result.now ≡ length (slice_index_or lists place []) = ap (λ (ws : List ℕ). length ws) list_is in
+pub loop-done-preserved : goal.loop-done-preserved
+loop-done-preserved c =
+    let before = c.loop-done.invariant in
     record {
-      span_sums = subst (λ (ps : List ℕ). AreSpanSums shading r lists ps c.push.new.self) (sym (range_more from i))
-          (span_more shading r lists (range_with_len from i) place c.loop-i.span_sums c.push.new.self c.in_ok-sum.sum (length c.list-list.result.now)
-          c.loop-i.invariant.span_sums c.in_ok-push.ensures.sums c.in_ok-push.ensures.longest here count c.in_ok-sum.ensures.small);
-      reads = c.read.ensures.frame ∙ c.loop-i.invariant.reads;
-      last = λ h.
-          let back : from + (i + 1) - 1 ≡ place = omega arith in
-          (omega arith, rw (back, ← c.w.ensures.value) c.offset_at-here.ensures);
+      within = omega (arith, before.within, c.min.ensures);
+      sums = places_more c.args.self.now c.args.region c.loop-done.reading.reader.frame c.args.closed.now before.reads [] c.args.span.from c.loop-done.done c.min.result c.loop-done.lines.all c.add_lines.new.lines.all
+          c.in_ok-add_lines.ensures.sums before.sums;
+      none = c.in_ok-add_lines.ensures.none;
+      reads = c.add_lines.ensures.reads ∙ before.reads;
     }

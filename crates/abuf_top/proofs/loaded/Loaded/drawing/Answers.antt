@@ -5,7 +5,6 @@ use Rattle.abuf_scene.specs.Triangles.{triangles, unknown}
 use Rattle.abuf_scene.specs.declared.triangles.Triangle.{Triangle}
 use Rattle.abuf_view.specs.Camera.{Camera}
 use Rattle.abuf_view.specs.Primitives.{prims}
-use Rattle.abuf_view.specs.declared.projection.Projected.{Projected}
 use Rattle.abuf_cli.specs.Job.{Job}
 use Rattle.abuf_cli.specs.declared.job.What.{What}
 use Rattle.abuf_top.specs.Image.{Drawing}
@@ -29,7 +28,9 @@ drawn job what seen line scene tris paints d same none t p is =
 
 pub returns-clause-told : goal.returns-clause-told
 returns-clause-told g c = λ libraries stands.
-    let projected = c.in_ok-projected.ensures in
-    drawn c.args.job c.args.what c.camera.result.now (unknown libraries c.args.self.obj) (triangles libraries c.args.self.obj) _ _ c.new.result
-    c.camera.ensures.value (projected.known libraries stands)
-    (projected.tris libraries stands) (projected.paints libraries stands) c.new.ensures
+    let scene = c.in_ok-scene.ensures in
+    let seen = c.in-Ok.ensures in
+    let same = ap (prims c.camera.result.now) (scene.triangles libraries stands) in
+    drawn c.args.job c.args.what c.camera.result.now (unknown libraries c.args.self.obj) (triangles libraries c.args.self.obj) _ _ c.new-2.result
+    c.camera.ensures.value (scene.known libraries stands)
+    (seen.tris ∙ ap (map (λ p. p.triangle)) same) (seen.paints ∙ ap (map (λ p. p.paint)) same) c.new-2.ensures

@@ -1,4 +1,4 @@
-use Rattle.std.proofs.Common.{◌≡◌, ◌∙◌, ◌∷◌, All, map, length, subst}
+use Rattle.std.proofs.Common.{◌≡◌, ◌∷◌, All, map, length, subst}
 use Rattle.std.proofs.lemmas.List.Elements.{All-tail}
 use Rattle.abuf_obj.specs.Sound.{IsFace}
 use Rattle.abuf_obj.specs.declared.face.Face.{Face}
@@ -8,7 +8,6 @@ use Rattle.abuf_scene.specs.declared.triangles.Triangle.{Triangle}
 use Rattle.abuf_view.specs.declared.near_plane.EyeTriangle.{EyeTriangle}
 use Rattle.abuf_view.specs.Eye.{clipped_by, on_screen_by}
 use Rattle.abuf_view.proofs.Fans.{next_made}
-use Rattle.abuf_view.proofs.Together.{next_known}
 use Rattle.abuf_view.proofs.primitive_lists.faces.project_chunk.Goals as goal
 
 pub loop-face-preserved : goal.loop-face-preserved
@@ -25,7 +24,6 @@ loop-face-preserved c =
     let P : Face → Type 0 = IsFace (length obj.points) (length obj.names) in
     record {
       fine = All-tail P face later (subst (All P) is before.fine);
-      known = next_known look obj.names face left later is done.known ∙ before.known;
       tris = next_made (λ (t : Triangle). map (on_screen_by eye) (clipped_by eye t)) (triangles_of look obj) c.args.chunk.faces left later face _ _ is done.tris before.tris;
       paints = next_made (λ (t : Triangle). map (λ (k : EyeTriangle). t.paint) (clipped_by eye t)) (triangles_of look obj) c.args.chunk.faces left later face _ _ is done.paints before.paints;
     }

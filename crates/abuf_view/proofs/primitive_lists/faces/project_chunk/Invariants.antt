@@ -1,6 +1,6 @@
-use Rattle.std.proofs.Common.{◌≡◌, ◌++◌, All, find, flat_map, length}
+use Rattle.std.proofs.Common.{◌≡◌, ◌++◌, All, flat_map, length}
 use Rattle.abuf_obj.specs.Sound.{IsFace}
-use Rattle.abuf_scene.specs.Triangles.{is_unknown, triangles_of}
+use Rattle.abuf_scene.specs.Triangles.{triangles_of}
 use Rattle.abuf_scene.specs.Lookup.{look_up}
 use Rattle.abuf_view.specs.Eye.{tris_by, paints_by}
 use Rattle.abuf_view.proofs.primitive_lists.faces.project_chunk.Given as goal
@@ -8,7 +8,6 @@ use Rattle.abuf_view.proofs.primitive_lists.faces.project_chunk.Given as goal
 abbrev pub invariant-loop-face : goal.invariant-loop-face
 invariant-loop-face l = record {
   fine : All (IsFace (length l.obj.points) (length l.obj.names)) l.left;
-  known : find (is_unknown (look_up l.palette.materials.value) l.obj.names) l.left ≡ find (is_unknown (look_up l.palette.materials.value) l.obj.names) l.fn.chunk.faces;
   tris : l.made.tris ++ tris_by l.table.eye (flat_map (triangles_of (look_up l.palette.materials.value) l.obj) l.left)
       ≡ tris_by l.table.eye (flat_map (triangles_of (look_up l.palette.materials.value) l.obj) l.fn.chunk.faces);
   paints : l.made.paints ++ paints_by l.table.eye (flat_map (triangles_of (look_up l.palette.materials.value) l.obj) l.left)

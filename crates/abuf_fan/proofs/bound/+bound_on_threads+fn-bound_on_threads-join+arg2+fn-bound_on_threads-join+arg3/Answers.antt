@@ -3,7 +3,7 @@ use Rattle.abuf_raster.specs.Triangle.{Triangle}
 use Rattle.abuf_raster.specs.Samples.{offsets_of}
 use Rattle.abuf_raster.specs.Hits.{all_fragments}
 use Rattle.abuf_fan.proofs.Counted.{most_both}
-use Rattle.abuf_fan.proofs.bound.+fn-max_fragments-join+arg2+fn-max_fragments-join+arg3+max_fragments.Goals as goal
+use Rattle.abuf_fan.proofs.bound.+bound_on_threads+fn-bound_on_threads-join+arg2+fn-bound_on_threads-join+arg3.Goals as goal
 
 pub returns-clause-bound : goal.returns-clause-bound
 returns-clause-bound g t c = λ first.

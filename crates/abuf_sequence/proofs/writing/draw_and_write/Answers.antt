@@ -3,12 +3,12 @@ use Rattle.std.proofs.lemmas.Result.{err_from_is_err_and}
 use Rattle.abuf_sequence.specs.declared.job.Drawn.{Drawn}
 use Rattle.abuf_sequence.specs.Batches.{AreDrawnFrom, HaveWritten}
 use Rattle.abuf_sequence.proofs.Continuing.{drawn_count, drawn_from}
-use Rattle.abuf_sequence.proofs.writing.sequence.Goals as goal
+use Rattle.abuf_sequence.proofs.writing.draw_and_write.Goals as goal
 
 pub returns-in_err-write_images-in-Ok-clause-answer : goal.returns-in_err-write_images-in-Ok-clause-answer
 returns-in_err-write_images-in-Ok-clause-answer g c =
     let plan = c.args.plan.now in
-    let triangles = c.args.scene.now.triangles in
+    let triangles = g.S.Subject.triangles c.args.scene.now in
     let shots = c.args.shots.now in
     let k : ℕ = c.loop-images.images in
     let n : ℕ = c.min-end.result - k in
@@ -20,7 +20,7 @@ returns-in_err-write_images-in-Ok-clause-answer g c =
 pub loop-images-preserved : goal.loop-images-preserved
 loop-images-preserved g c =
     let plan = c.args.plan.now in
-    let triangles = c.args.scene.now.triangles in
+    let triangles = g.S.Subject.triangles c.args.scene.now in
     let shots = c.args.shots.now in
     let k : ℕ = c.loop-images.images in
     let n : ℕ = c.min-end.result - k in
