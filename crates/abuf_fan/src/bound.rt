@@ -96,8 +96,20 @@ fn bound_on_threads<R: Threads + Sync>(
 /// From how many triangles on some of them stand for all.
 const MANY: usize = 2048;
 
-/// Every triangle at a multiple of this stands for so many.
-const STEP: usize = 16;
+/// How many are looked at, unless they stand for few.
+const SAMPLES: usize = 1024;
+
+/// The fewest triangles that one stands for, itself among them.
+const LEAST_STEP: usize = 16;
+
+/// For how many triangles of so many one stands.
+fn step_of(count: usize) -> usize
+    requires few { count ≤ MAX_PRIMITIVES }
+    ensures some { 1 ≤ result }
+    ensures few { result ≤ MAX_PRIMITIVES }
+{
+    (count / SAMPLES).max(LEAST_STEP)
+}
 
 /// Whether the triangles have about as many fragments as are enough, or more, judged by some of them. It is a guess, and isn't made where
 /// a few large triangles would decide it. A wrong one costs memory, or the time that a right one saves.
@@ -110,15 +122,18 @@ fn seem_enough(tris: &[ScreenTri], region: Region, pattern: Pattern, enough: u64
         return false;
     }
     region_law(region);
+    let step = step_of(tris.len());
     let mut sum = 0;
     let mut greatest = 0;
-    for i in 0..tris.len() / STEP {
-        let most = u64::from(max_of(&tris[STEP * i], region, pattern));
+    let mut i = 0;
+    while i < tris.len() {
+        let most = u64::from(max_of(&tris[i], region, pattern));
         sum += most;
         greatest = most.max(greatest);
+        i += step;
     }
-    let is_even = STEP as u64 * greatest <= sum;
-    is_even && enough - enough / 8 <= STEP as u64 * sum
+    let is_even = LEAST_STEP as u64 * greatest <= sum;
+    is_even && (enough - enough / 8) / step as u64 <= sum
 }
 
 /// An upper bound on the number of fragments of the triangles in the region, whatever their primitive numbers. It is the sum of the

@@ -1,9 +1,13 @@
 -- Rows of faces one after another.
-use Rattle.std.proofs.Common.{◌≡◌, ◌∙◌, ◌+◌, ◌≤◌, ◌++◌, ◌∷◌, [], ℕ, zero, suc, List, take, drop, length, refl, sym, ap, ap₂, arith}
+use Rattle.std.proofs.Common.{◌≡◌, ◌∙◌, ◌+◌, ◌≤◌, ◌<◌, ◌++◌, ◌∷◌, [], ℕ, zero, suc, List, false, None, nat_le, take, drop, length, refl, sym, ap, ap₂, arith, All}
+use Rattle.std.specs.List.{list_any}
+use Rattle.std.proofs.lemmas.Bool.Decides.{nat_tests}
+use Rattle.std.proofs.lemmas.List.Elements.{All-head, All-tail, All-take, All-drop}
 use Rattle.std.proofs.lemmas.List.{take-append-le, drop-append-le, length-drop, length-take-le, take_all, take-take, drop-take, drop-drop}
 use Rattle.abuf_obj.specs.declared.face.Face.{Face}
 use Rattle.abuf_obj.specs.declared.faces.FaceRow.{FaceRow}
 use Rattle.abuf_obj.specs.FaceRows.{corners_in, corners_of, faces_in_rows}
+use Rattle.abuf_obj.specs.Scene.{astray_line}
 
 pub corners-append : (rows more : List FaceRow) → corners_in (rows ++ more) ≡ corners_in rows + corners_in more
 corners-append [] more = omega arith
@@ -68,3 +72,18 @@ rows-corners cs (row ∷ rows) e =
     let left : corners_in rows ≡ length (drop row.count cs) = omega (arith, e, fewer) in
     let later = rows-corners (drop row.count cs) rows left in
     omega (arith, own, later)
+
+-- no corner of a list goes astray that has them all below the number of points
+within-any : (points : ℕ) (cs : List ℕ) → All (λ c. c < points) cs → list_any (λ c. nat_le points c) cs ≡ false
+within-any points [] h = refl
+within-any points (c ∷ cs) h =
+    let below : c < points = All-head (λ (k : ℕ). k < points) c cs h in
+    let here : nat_le points c ≡ false = grind (arith, nat_tests) in
+    rw (here, within-any points cs (All-tail (λ (k : ℕ). k < points) c cs h)) refl
+
+-- where the rows' corners are below the number of points, no face goes astray
+pub rows-within : (points : ℕ) (cs : List ℕ) (rows : List FaceRow) → All (λ c. c < points) cs → astray_line points (faces_in_rows cs rows) ≡ None
+rows-within points cs [] h = refl
+rows-within points cs (row ∷ rows) h =
+    let here = within-any points (take row.count cs) (All-take (λ (k : ℕ). k < points) row.count cs h) in
+    rw (here, rows-within points (drop row.count cs) rows (All-drop (λ (k : ℕ). k < points) row.count cs h)) refl

@@ -1,7 +1,8 @@
 // The faces of a file, with the corners of all of them in one list.
-ghost use Rattle.std.specs.Prelude.{◌≡◌, ◌<◌, ◌≤◌, ◌^◌, ◌++◌, ◌∷◌, [], length, take, drop, IfOk, IfSome, OnErr, OnOk, None};
+ghost use Rattle.std.specs.Prelude.{◌≡◌, ◌<◌, ◌≤◌, ◌^◌, ◌++◌, ◌∷◌, [], All, length, take, drop, IfOk, IfSome, IsTrue, OnErr, OnOk, None};
 ghost use Rattle.abuf_num.specs.declared.limits.TheConstants.{MAX_ELEMENTS, MAX_TRIANGLES};
 ghost use Rattle.abuf_obj.specs.FaceRows.{corners_in, corners_of, faces_in_rows};
+ghost use Rattle.abuf_obj.specs.Scene.{astray_line};
 
 use crate::face::{Face, FaceRef};
 use abuf_num::{List, NoMemory};
@@ -67,6 +68,13 @@ fn count_corners(rows: &[FaceRow]) -> usize
     count
 }
 
+/// Whether all corners are below so many.
+fn are_below(corners: &[u32], count: usize) -> bool
+    ensures { IsTrue result → All (λ c. c < count) corners.now }
+{
+    corners.iter().all(|corner| (*corner as usize) < count)
+}
+
 impl<'a> FaceSlice<'a> {
     /// How many faces there are.
     pub fn len(&self) -> usize
@@ -80,6 +88,13 @@ impl<'a> FaceSlice<'a> {
         ensures { result ≡ corners_of self.now }
     {
         self.corners.len()
+    }
+
+    /// Whether all corners are below so many points. It looks at no row.
+    pub(crate) fn is_within(&self, points: usize) -> bool
+        ensures { IsTrue result → astray_line points self.now ≡ None }
+    {
+        are_below(self.corners, points)
     }
 
     /// The first face, and those after it; `None` if there is none.

@@ -79,7 +79,8 @@ fn with_first(first: ObjReader, others: Vec<ObjReader>) -> Result<Vec<ObjReader>
 }
 
 /// Reads so many pieces, each on a thread, and gives their readers in order. The tally of the first piece tells what stands above
-/// the others. While a thread reads it, the caller goes on with them.
+/// the others. While a thread reads it, the caller goes on with them. So each piece is begun later than the one before it, by about a
+/// twentieth of the time for a piece. That all may end together, the first has more than its share: (threads + 35) / 36 of it.
 pub(crate) fn read_pieces<R: Threads + Sync>(
     rt: &R,
     alloc: Global,
@@ -99,7 +100,7 @@ pub(crate) fn read_pieces<R: Threads + Sync>(
         return Ok(alone);
     }
     let others = threads - 1;
-    let (front, back) = split_lines(bytes, offset_by_time(bytes, 1, threads));
+    let (front, back) = split_lines(bytes, offset_by_time(bytes, 35 + threads, 36 * threads));
     let tally = tally_on_threads(rt, alloc, threads, front)?;
     let next = start.behind(alloc, &tally)?;
     let behind = &next;

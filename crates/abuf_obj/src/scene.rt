@@ -160,12 +160,15 @@ pub fn read_obj(alloc: Global, bytes: &[u8]) -> Result<Obj, ObjFault>
     Ok(obj)
 }
 
-/// The line of the first face with a vertex at or beyond the number of points.
+/// The line of the first face with a vertex at or beyond the number of points. Most files have none, so that it is soon found.
 pub(crate) fn first_astray(obj: &FlatObj) -> Option<u32>
     ensures { result ≡ astray_line (length obj.now.points) obj.now.faces }
 {
     let points = obj.points().len();
     let mut faces = obj.faces();
+    if faces.is_within(points) {
+        return None;
+    }
     while let Some((face, rest)) = faces.split_first() {
         if goes_astray(points, &face) {
             return Some(face.line);

@@ -4,7 +4,7 @@ ghost use Rattle.abuf_text.specs.Lines.{lines};
 ghost use Rattle.abuf_obj.specs.declared.split.TheConstants.{SAMPLES};
 
 /// At how many places the bytes are looked at, to tell how long it takes to read them.
-const SAMPLES: usize = 64;
+const SAMPLES: usize = 512;
 
 /// How many bytes are looked at there.
 const NEAR: usize = 1024;
@@ -43,15 +43,23 @@ fn time_at(bytes: &[u8], offset: usize) -> usize
     }
 }
 
-/// About how long reading takes up to a sample.
-fn time_before(bytes: &[u8], sample: usize) -> usize
+/// About how long reading takes from this sample to the next.
+fn time_of_sample(bytes: &[u8], sample: usize) -> usize
     requires few { length bytes.now < 2 ^ 32 }
     requires sample { sample ≤ SAMPLES }
-    ensures { result ≤ 8 * sample }
+    ensures { result ≤ 8 }
+{
+    time_at(bytes, sample_offset(bytes, sample))
+}
+
+/// About how long reading takes.
+fn time_of(bytes: &[u8]) -> usize
+    requires few { length bytes.now < 2 ^ 32 }
+    ensures { result ≤ 8 * SAMPLES }
 {
     let mut time = 0;
-    for i in 0..sample {
-        time += time_at(bytes, sample_offset(bytes, i));
+    for sample in 0..SAMPLES {
+        time += time_of_sample(bytes, sample);
     }
     time
 }
@@ -62,11 +70,13 @@ pub(crate) fn offset_by_time(bytes: &[u8], part: u32, parts: u32) -> usize
     requires parts { (0 < parts) × (part ≤ parts) }
     ensures { result ≤ length bytes.now }
 {
-    let time = time_before(bytes, SAMPLES) * part as usize / parts as usize;
+    let time = time_of(bytes) * part as usize / parts as usize;
+    let mut before = 0;
     for sample in 0..SAMPLES {
-        if time <= time_before(bytes, sample) {
+        if time <= before {
             return sample_offset(bytes, sample);
         }
+        before += time_of_sample(bytes, sample);
     }
     bytes.len()
 }
