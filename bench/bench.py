@@ -5,6 +5,7 @@
     bench.py --growth [OPTIONS]     doubles the work step by step, and prints the time for a unit of it
     bench.py --reading [OPTIONS]    reads several kinds of text and draws nothing
     bench.py --stored [OPTIONS]     draws scenes in one frame, in bands, and layer by layer
+    bench.py --at-once [OPTIONS]    tells how much faster threads can be here: runs that share nothing, several at once
 
 The scenes are written into a new folder, and of several rounds the best counts. Beside another program, which is given the same
 words and the same scene on standard input, both run in turn, and the ratio of their times is printed. One of the scenes is too
@@ -16,6 +17,7 @@ the growth.
 The status is 0, or 1 where a run ended in another status than it has to or an output isn't the same in every round.
 """
 
+import contextlib
 import datetime
 import hashlib
 import math
@@ -121,6 +123,21 @@ class Bench:
         if task.status and runs[0][0].output != NOTHING:
             raise Failed("a refused run wrote something")
         return [min(done) for done in runs]
+
+    def at_once(self, task, count, threads):
+        """The seconds in which so many runs at once of the first program end, each of them on so many threads."""
+        if not self.is_cold:
+            subprocess.run([sys.executable, "-c", WARM], check=False)
+        with contextlib.ExitStack() as files:
+            inputs = [files.enter_context(open(self.path(task.scene), "rb")) for _ in range(count)]
+            before = time.perf_counter()
+            runs = [subprocess.Popen([self.programs[0], *words_of(task, threads)], stdin=scene, stdout=subprocess.DEVNULL,
+                                     stderr=subprocess.DEVNULL, cwd=self.folder, env=self.variables) for scene in inputs]
+            statuses = {run.wait() for run in runs}
+            seconds = time.perf_counter() - before
+        if statuses != {task.status}:
+            raise Failed(f"{task.words}: statuses {sorted(statuses)} in place of {task.status}")
+        return seconds
 
     def fragments(self, task):
         """The number of fragments, which a pool of one node tells."""
@@ -300,17 +317,35 @@ def measure_stored(bench, given):
     return each(given.only or scenes.STORED, one)
 
 
+def measure_at_once(bench, given):
+    table = Table(["scene", "number", "one run", "as many runs", "times the work", "as many threads", "times as fast"], given.table)
+
+    def one(name):
+        task = scenes.SCENES[name](bench.folder)
+        for number in given.threads:
+            if number == 1:
+                continue
+            ways = [(1, 1), (number, 1), (1, number)]
+            times = [[bench.at_once(task, *way) for way in ways] for _ in range(given.rounds)]
+            alone, runs, threads = (min(way) for way in zip(*times))
+            table.row([name, str(number), milliseconds(alone), milliseconds(runs), f"{number * alone / runs:.2f}",
+                       milliseconds(threads), f"{alone / threads:.2f}"])
+
+    return each(given.only or scenes.SCENES, one)
+
+
 # ---- words
 
 # For each kind of bench, what measures it and the names that it has.
 KINDS = {"scenes": (measure_scenes, scenes.SCENES), "growth": (measure_growth, scenes.SERIES),
-         "reading": (measure_reading, scenes.TEXTS), "stored": (measure_stored, scenes.STORED)}
+         "reading": (measure_reading, scenes.TEXTS), "stored": (measure_stored, scenes.STORED),
+         "at-once": (measure_at_once, scenes.SCENES)}
 
 
 def read_words():
     ask = report.words(__doc__)
     kind = ask.add_mutually_exclusive_group()
-    for name in ("growth", "reading", "stored"):
+    for name in ("growth", "reading", "stored", "at-once"):
         kind.add_argument("--" + name, dest="kind", action="store_const", const=name, default="scenes")
     ask.add_argument("--shares", action="store_true", help="print besides how the time of the scenes is shared; perf is needed")
     ask.add_argument("--functions", metavar="N", type=int, default=0, help="with --shares: and the N greatest functions of each")

@@ -109,6 +109,18 @@ class Rows(Planted):
             self.assertEqual((status, len(rows)), (wanted, 1 - wanted))
             self.assertRegex(lines[0], "; best of 2, on 1 thread$")
 
+    def test_runs_at_once(self):
+        ran = os.path.join(self.folder, "ran")
+        waits = self.plant("waits", f'#!/bin/sh\necho "${{*##* }}" >> {ran}\nsleep 0.3\n')
+        status, rows, _ = self.measured("--at-once", "--only", "white", "--threads", "1,3", abuf=waits)
+        self.assertEqual((status, [(row["scene"], row["number"]) for row in rows]), (0, [("white", "3")]))
+        self.assertEqual(sorted(helping.read(ran).split()), [b"1"] * 8 + [b"3"] * 2)
+        self.assertAlmostEqual(float(rows[0]["times the work"]), 3, delta=1)
+        self.assertAlmostEqual(float(rows[0]["times as fast"]), 1, delta=0.5)
+        status, rows, lines = self.measured("--at-once", "--only", "white", abuf=self.plant("fails", "#!/bin/sh\nexit 3\n"))
+        self.assertEqual((status, rows), (1, []))
+        self.assertRegex(lines[-1], r"^white: .*: statuses \[3\] in place of 0$")
+
     def test_sequences(self):
         words = ["--table", "--rounds", "1", "--threads", "1", "--pieces", "3", "--only", "lantern"]
         done = helping.call(sequences, *words, "--abuf", self.plant("cameras", CAMERAS), folder=self.folder)
