@@ -3,7 +3,7 @@ ghost use Rattle.std.specs.Prelude.{◌≡◌, ◌≤◌};
 ghost use Rattle.abuf_num.specs.declared.limits.TheConstants.{MAX_THREADS};
 ghost use Rattle.abuf_raster.specs.Region.{IsImageSize, whole_image};
 
-use abuf_fan::{Gate, MeetingGate, draw_all, max_fragments};
+use abuf_fan::{Gate, MeetingGate, draw_all, likely_fragments, max_fragments};
 use abuf_frame::{Frame, Pass};
 use abuf_raster::{Pattern, Region, ScreenTri};
 use std::alloc::Global;
@@ -81,6 +81,34 @@ fn no_more_than_is_enough(rt: HostRuntime) -> Result<(), Fail> {
         );
         assert!(rt; few == one, "by {threads} threads");
     }
+    Ok(())
+}
+
+/// Of 65536 equal triangles some stand for all, and the guess is their sum and a sixteenth more. Where one triangle covers the square and
+/// the others lie outside of it, there is no guess, nor for one triangle fewer: they have the bound.
+#[test]
+fn many_triangles_are_guessed(rt: HostRuntime) -> Result<(), Fail> {
+    let alloc = rt.alloc();
+    let [upper, _] = halves().ok_or("no triangle")?;
+    let outside = ScreenTri::new([-512, -256, -512], [0, 0, 256], [0; 3]).ok_or("outside")?;
+    let mut equal = Vec::new(alloc);
+    let mut uneven = Vec::new(alloc);
+    for i in 0..65536 {
+        equal.push(upper)?;
+        uneven.push(if i == 0 { upper } else { outside })?;
+    }
+    assert!(rt; equal.len() == 65536 && uneven.len() == 65536);
+    let one = max_fragments(&rt, &[upper], square(), Pattern::Four, 1, 1000);
+    let sum = one.saturating_mul(65536);
+    let guess = likely_fragments(&rt, &equal, square(), Pattern::Four, 2, 10000000);
+    assert!(rt;
+        sum <= guess && guess <= sum.saturating_add(sum / 15),
+        "{guess} of {sum}"
+    );
+    let few = likely_fragments(&rt, &uneven, square(), Pattern::Four, 2, 10000000);
+    assert!(rt; few == one);
+    let bound = likely_fragments(&rt, &equal[1..], square(), Pattern::Four, 2, 10000000);
+    assert!(rt; bound == one.saturating_mul(65535));
     Ok(())
 }
 

@@ -2,7 +2,7 @@
 ghost use Rattle.std.specs.Prelude.{◌≤◌};
 ghost use Rattle.abuf_num.specs.declared.limits.TheConstants.{MAX_NODES};
 
-use abuf_fan::OpenGate;
+use abuf_fan::{OpenGate, likely_fragments};
 use abuf_num::Paint;
 use abuf_picture::{
     Compositing, Primitives, Target, draw, draw_and_look, draw_and_resolve, resolve_drawn,
@@ -93,6 +93,44 @@ fn a_large_rectangle_is_drawn(rt: HostRuntime) -> Result<(), Fail> {
     assert_eq!(rt; resolved.longest, 1);
     for sum in resolved.sums.as_slice() {
         assert_eq!(rt; sum.channels, [65535; 3]);
+    }
+    Ok(())
+}
+
+/// Of 65536 triangles every fifteenth, which are those that a guess looks at, lies outside of the square. So the first frame has one
+/// node, and all are drawn once more. A pool of 16 nodes is full all the same, and tells how many fragments there are.
+#[test]
+fn a_wrong_guess_is_made_good(rt: HostRuntime) -> Result<(), Fail> {
+    let alloc = rt.alloc();
+    let inside = ScreenTri::new([0, 512, 0], [0, 0, 512], [0; 3]).ok_or("inside")?;
+    let outside = ScreenTri::new([-512, -256, -512], [0, 0, 256], [0; 3]).ok_or("outside")?;
+    let mut triangles = Vec::new(alloc);
+    let mut paints = Vec::new(alloc);
+    let mut count: u64 = 0;
+    for i in 0..65536 {
+        let is_guessed = i % 15 == 0;
+        triangles.push(if is_guessed { outside } else { inside })?;
+        paints.push(WHITE)?;
+        count = count.saturating_add(u64::from(!is_guessed));
+    }
+    assert!(rt; triangles.len() == 65536 && paints.len() == 65536);
+    let primitives = Primitives {
+        triangles: &triangles,
+        paints: &paints,
+    };
+    let region = Region::whole_image(4, 4);
+    let likely = likely_fragments(&rt, &triangles, region, Pattern::One, 2, 8388608);
+    assert_eq!(rt; likely, 0);
+    for nodes in [8388608, 16] {
+        let target = Target {
+            region,
+            pattern: Pattern::One,
+            background: [0; 3],
+            nodes,
+            threads: 2,
+        };
+        let closed = draw(&rt, alloc, &primitives, &target, &OpenGate)?;
+        assert!(rt; closed.fragments() == count && closed.full().is_some() == (nodes == 16));
     }
     Ok(())
 }

@@ -4,7 +4,7 @@ ghost use Rattle.abuf_num.specs.declared.limits.TheConstants.{MAX_PIXELS, MAX_PR
 ghost use Rattle.abuf_raster.specs.Samples.{offsets_of};
 ghost use Rattle.abuf_raster.specs.Hits.{hits};
 ghost use Rattle.abuf_fan.specs.Bound.{CanCount, IsBound};
-ghost use Rattle.abuf_fan.specs.declared.bound.TheConstants.{LITTLE};
+ghost use Rattle.abuf_fan.specs.declared.bound.TheConstants.{GUESSED, LITTLE};
 ghost use denote.Param.Send.{IsSync};
 
 use abuf_raster::{Pattern, Region, ScreenTri, max_hits, meets, region_law};
@@ -157,4 +157,74 @@ pub fn max_fragments<R: Threads + Sync>(
         return enough;
     }
     bound_on_threads(rt, tris, region, pattern, threads, enough)
+}
+
+/// From how many triangles on their fragments are guessed. For fewer the bound takes little time.
+const GUESSED: usize = 65536;
+
+/// The fewest triangles that a guess looks at.
+const GUESS_SAMPLES: usize = 4096;
+
+/// For how many triangles of so many one stands in a guess. It is odd, since triangles often come in pairs that are unlike.
+fn guess_step_of(count: usize) -> usize
+    requires few { count ≤ MAX_PRIMITIVES }
+    ensures some { 1 ≤ result }
+    ensures few { result ≤ MAX_PRIMITIVES }
+{
+    (count / GUESS_SAMPLES).saturating_sub(1) / 2 * 2 + 1
+}
+
+/// How many fragments the triangles are likely to have at most, judged by some of them: what these stand for, and four standard deviations
+/// of that. These are a sixteenth of it, or less, where the number of a triangle's fragments deviates from the mean by no more than the
+/// mean, and an eighth, or less, where it does by no more than twice the mean. Where it deviates by more, a few large triangles would
+/// decide the guess, and there is none.
+fn guess(tris: &[ScreenTri], region: Region, pattern: Pattern) -> Option<u64>
+    requires few { length tris.now ≤ MAX_PRIMITIVES }
+{
+    region_law(region);
+    let step = guess_step_of(tris.len());
+    let mut count: u64 = 0;
+    let mut sum: u64 = 0;
+    let mut squares: u64 = 0;
+    let mut i = 0;
+    while i < tris.len() {
+        let most = u64::from(max_of(&tris[i], region, pattern));
+        count = count.saturating_add(1);
+        sum = sum.saturating_add(most);
+        squares = squares.saturating_add(most.saturating_mul(most));
+        i += step;
+    }
+    let all = sum.saturating_mul(step as u64);
+    let square_of_sum = sum.saturating_mul(sum);
+    let count_of_squares = count.saturating_mul(squares);
+    if count_of_squares <= square_of_sum.saturating_mul(2) {
+        Some(all.saturating_add(all / 16))
+    } else if count_of_squares <= square_of_sum.saturating_mul(5) {
+        Some(all.saturating_add(all / 8))
+    } else {
+        None
+    }
+}
+
+/// As many fragments as the triangles are likely to have at most in the region, or more. For fewer than 65536 triangles it is the bound
+/// of [`max_fragments`]. For more it is a guess, which takes a small part of the time, unless a few large ones would decide it. A frame
+/// of so many nodes may lose some, if the guess is wrong. The call takes no memory.
+pub fn likely_fragments<R: Threads + Sync>(
+    rt: &R,
+    tris: &[ScreenTri],
+    region: Region,
+    pattern: Pattern,
+    threads: u32,
+    enough: u64,
+) -> u64
+    requires few { length tris.now ≤ MAX_PRIMITIVES }
+    requires threads { (1 ≤ threads) × (threads ≤ MAX_THREADS) }
+    ensures bound { length tris.now < GUESSED → IsBound tris.now (offsets_of pattern) region enough result }
+{
+    if GUESSED <= tris.len() {
+        if let Some(guessed) = guess(tris, region, pattern) {
+            return guessed;
+        }
+    }
+    max_fragments(rt, tris, region, pattern, threads, enough)
 }

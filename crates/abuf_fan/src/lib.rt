@@ -10,6 +10,7 @@
 //! was drawn by exactly one worker. No worker knows what another drew before that.
 //!
 //! `max_fragments` tells beforehand how many fragments there are at most, so that a frame needn't have more nodes than that.
+//! `likely_fragments` guesses it in less time, where there are many triangles.
 //!
 //! Whether the workers run at the same time is not promised.
 #![tactic(auto)]
@@ -23,7 +24,7 @@ mod order;
 mod work;
 
 pub use abuf_share::{Desk, MAX_NUMBERS, Turn};
-pub use bound::max_fragments;
+pub use bound::{likely_fragments, max_fragments};
 pub use drawing::{draw_all, draw_ordered};
 pub use gate::{Gate, OpenGate};
 pub use meeting::MeetingGate;

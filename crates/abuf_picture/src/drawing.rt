@@ -4,13 +4,13 @@ ghost use denote.Param.Send.{IsSync};
 ghost use Rattle.abuf_num.specs.declared.limits.TheConstants.{MAX_NODES, MAX_PRIMITIVES};
 ghost use Rattle.abuf_frame.specs.Words.{Sized};
 ghost use Rattle.abuf_frame.specs.Views.{lost};
-ghost use Rattle.abuf_picture.specs.Drawn.{IsDrawn, IsOrderOf, IsPool, IsStarted};
+ghost use Rattle.abuf_picture.specs.Drawn.{IsAttempt, IsDrawn, IsFilled, IsOrderOf, IsStarted};
 ghost use Rattle.abuf_picture.specs.Picture.{IsFrameOf, total};
 
 use crate::primitives::Primitives;
 use crate::redrawing::{close_roomy, in_pool, redraw};
 use crate::target::Target;
-use abuf_fan::{Gate, OrderedTriangles, draw_ordered, max_fragments};
+use abuf_fan::{Gate, OrderedTriangles, draw_ordered, likely_fragments};
 use abuf_frame::{Closed, Frame, InitialWords, Pass};
 use abuf_num::NoMemory;
 use abuf_raster::region_law;
@@ -27,16 +27,17 @@ fn nodes_for(most: u64, nodes: u32) -> u32
     most.clamp(1, u64::from(nodes)) as u32
 }
 
-/// How many nodes the frame of a drawing is made with: as many as the target has, or fewer, where the primitives can't take them
-/// all. A node that is never claimed costs memory, and the time to clear it.
-pub(crate) fn nodes_needed<R: Threads + Sync>(
+/// How many nodes the frame of a drawing is made with at first: about as many as the primitives take, and no more than the target has.
+/// A node that is never claimed costs memory, and the time to clear it.
+pub(crate) fn likely_nodes<R: Threads + Sync>(
     rt: &R,
     primitives: &Primitives,
     target: &Target,
 ) -> u32
-    ensures { IsPool (total primitives.now.triangles.now target.now.pattern target.now.region) target.now.nodes result }
+    ensures some { 1 ≤ result }
+    ensures few { result ≤ target.now.nodes }
 {
-    let most = max_fragments(
+    let most = likely_fragments(
         rt,
         primitives.triangles,
         target.region,
@@ -45,6 +46,13 @@ pub(crate) fn nodes_needed<R: Threads + Sync>(
         u64::from(target.nodes),
     );
     nodes_for(most, target.nodes)
+}
+
+/// A frame that was drawn into, its whole pass, and how many nodes it has.
+pub(crate) struct Attempt {
+    pub(crate) frame: Frame,
+    pub(crate) pass: Pass,
+    pub(crate) nodes: u32,
 }
 
 /// The triangles in the order in which they are drawn.
@@ -68,8 +76,9 @@ pub(crate) fn draw_into<R: Threads + Sync, G: Gate + Sync>(
     gate: &G,
 ) -> Result<(Frame, Pass), NoMemory>
     requires order { (ordered.now.region ≡ target.now.region) × (ordered.now.pattern ≡ target.now.pattern) }
-    requires started { IsStarted ordered.now.tris.now target.now.pattern target.now.region target.now.nodes started.0 started.1 }
-    ensures { IfOk result (λ p. IsDrawn ordered.now.tris.now target.now.pattern target.now.region target.now.nodes p.0 p.1) }
+    requires started { IsStarted target.now.region started.0 started.1 }
+    ensures filled { IfOk result (λ p. IsFilled ordered.now.tris.now target.now.pattern target.now.region p.0 p.1) }
+    ensures nodes { IfOk result (λ p. p.0.nodes ≡ started.0.nodes) }
 {
     let (frame, mut pass) = started;
     region_law(ordered.region);
@@ -152,22 +161,72 @@ fn prepare<'a, R: Threads + Sync>(
     Ok((initial_words?, ordered?))
 }
 
-/// A frame of so many nodes into which the primitives are drawn, on the target's number of threads, and its whole pass.
+/// A new frame of so many nodes into which the primitives are drawn, on the target's number of threads, and its whole pass.
+pub(crate) fn draw_new<R: Threads + Sync, G: Gate + Sync>(
+    rt: &R,
+    alloc: Global,
+    primitives: &Primitives,
+    target: &Target,
+    nodes: u32,
+    gate: &G,
+) -> Result<Attempt, NoMemory>
+    requires nodes { (1 ≤ nodes) × (nodes ≤ target.now.nodes) }
+    ensures attempt { IfOk result (IsAttempt primitives.now.triangles.now target.now.pattern target.now.region target.now.nodes) }
+    ensures nodes { IfOk result (λ a. a.nodes ≡ nodes) }
+{
+    let (initial_words, ordered) = prepare(rt, alloc, primitives, target, nodes)?;
+    let started = Frame::start_from(alloc, &initial_words)?;
+    drop(initial_words);
+    let (frame, pass) = draw_into(rt, alloc, &ordered, target, started, gate)?;
+    Ok(Attempt { frame, pass, nodes })
+}
+
+/// The frame of an attempt and its pass, where it has a node for each fragment, or as many as the target. Else the primitives are drawn
+/// once more, into a frame that has. This is rare, since an attempt has as many nodes as are likely to be enough.
+pub(crate) fn complete<R: Threads + Sync, G: Gate + Sync>(
+    rt: &R,
+    alloc: Global,
+    primitives: &Primitives,
+    target: &Target,
+    first: Attempt,
+    gate: &G,
+) -> Result<(Frame, Pass), NoMemory>
+    requires { IsAttempt primitives.now.triangles.now target.now.pattern target.now.region target.now.nodes first }
+    ensures { IfOk result (λ p. IsDrawn primitives.now.triangles.now target.now.pattern target.now.region target.now.nodes p.0 p.1) }
+{
+    let Attempt {
+        frame,
+        mut pass,
+        nodes,
+    } = first;
+    let fragments = pass.count(&frame);
+    if fragments <= u64::from(nodes) || nodes == target.nodes {
+        return Ok((frame, pass));
+    }
+    // It is closed to be dropped, before memory is taken for another.
+    frame.close(pass);
+    let enough = nodes_for(fragments, target.nodes);
+    let Attempt {
+        frame,
+        pass,
+        nodes: _,
+    } = draw_new(rt, alloc, primitives, target, enough, gate)?;
+    Ok((frame, pass))
+}
+
+/// A frame with a node for each fragment of the primitives, or as many as the target, into which they are drawn, and its whole pass.
 pub(crate) fn draw_pass<R: Threads + Sync, G: Gate + Sync>(
     rt: &R,
     alloc: Global,
     primitives: &Primitives,
     target: &Target,
-    room: u32,
     gate: &G,
 ) -> Result<(Frame, Pass), NoMemory>
-    requires { IsPool (total primitives.now.triangles.now target.now.pattern target.now.region) target.now.nodes room }
     ensures { IfOk result (λ p. IsDrawn primitives.now.triangles.now target.now.pattern target.now.region target.now.nodes p.0 p.1) }
 {
-    let (initial_words, ordered) = prepare(rt, alloc, primitives, target, room)?;
-    let started = Frame::start_from(alloc, &initial_words)?;
-    drop(initial_words);
-    draw_into(rt, alloc, &ordered, target, started, gate)
+    let nodes = likely_nodes(rt, primitives, target);
+    let first = draw_new(rt, alloc, primitives, target, nodes, gate)?;
+    complete(rt, alloc, primitives, target, first, gate)
 }
 
 /// Closes the frame of a drawing, as one of the target's nodes.
@@ -186,7 +245,7 @@ pub(crate) fn close_drawn(
 }
 
 /// The closed frame into which the primitives are drawn, by the target's number of workers together. Every worker passes by the gate
-/// twice. An error means that memory ran out.
+/// twice, or four times, where the primitives have to be drawn once more, into a frame of more nodes. An error means that memory ran out.
 pub fn draw<R: Threads + Sync, G: Gate + Sync>(
     rt: &R,
     alloc: Global,

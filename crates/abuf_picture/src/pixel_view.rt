@@ -2,7 +2,7 @@
 ghost use Rattle.std.specs.Prelude.{◌≡◌, ◌*◌, ◌<◌, IfOk};
 ghost use Rattle.abuf_picture.specs.Drawn.{IsPixelViewOf, found};
 
-use crate::drawing::{close_drawn, draw_pass, nodes_needed};
+use crate::drawing::{close_drawn, draw_pass};
 use crate::primitives::Primitives;
 use crate::target::Target;
 use abuf_fan::Gate;
@@ -51,8 +51,7 @@ pub fn draw_and_look<R: Threads + Sync, G: Gate + Sync>(
 {
     one_each_law(primitives.triangles, target.pattern, target.region, place);
     let mut words = vec![in alloc; 0; primitives.triangles.len()]?;
-    let nodes = nodes_needed(rt, primitives, target);
-    let (frame, mut pass) = draw_pass(rt, alloc, primitives, target, nodes, gate)?;
+    let (frame, mut pass) = draw_pass(rt, alloc, primitives, target, gate)?;
     let entries = pass.count(&frame);
     let room = words.len();
     let look = pass.look(&frame, place, &mut words);

@@ -1,11 +1,11 @@
 // The drawing into a frame that is kept from the drawing before.
-ghost use Rattle.std.specs.Prelude.{◌≡◌, ◌↔◌, ◌≤◌, IfOk, IfSome, IsTrue};
+ghost use Rattle.std.specs.Prelude.{◌≡◌, ◌*◌, ◌↔◌, ◌≤◌, IfOk, IfSome, IsTrue};
 ghost use Rattle.abuf_frame.specs.Views.{lost};
-ghost use Rattle.abuf_picture.specs.Drawn.{IsDrawn, IsPool};
+ghost use Rattle.abuf_picture.specs.Drawn.{IsAttempt, IsDrawn};
 ghost use Rattle.abuf_picture.specs.Picture.{IsFrameOf, total};
 ghost use Rattle.abuf_picture.specs.Redrawing.{IsRoomyFrameOf, Serves};
 
-use crate::drawing::{draw_into, draw_pass, nodes_needed, order_of};
+use crate::drawing::{Attempt, complete, draw_into, draw_new, likely_nodes, order_of};
 use crate::primitives::Primitives;
 use crate::target::Target;
 use abuf_fan::Gate;
@@ -38,6 +38,26 @@ fn serving(kept: Option<Closed>, target: &Target, needed: u32) -> Option<Closed>
     }
 }
 
+/// The kept frame, reopened, into which the primitives are drawn, and its whole pass.
+fn draw_kept<R: Threads + Sync, G: Gate + Sync>(
+    rt: &R,
+    alloc: Global,
+    primitives: &Primitives,
+    target: &Target,
+    kept: Closed,
+    gate: &G,
+) -> Result<Attempt, NoMemory>
+    requires pixels { kept.pixels ≡ target.now.region.w * target.now.region.h }
+    requires nodes { (1 ≤ kept.nodes) × (kept.nodes ≤ target.now.nodes) }
+    ensures { IfOk result (IsAttempt primitives.now.triangles.now target.now.pattern target.now.region target.now.nodes) }
+{
+    let nodes = kept.nodes();
+    let ordered = order_of(alloc, primitives, target)?;
+    let started = kept.reopen(alloc)?;
+    let (frame, pass) = draw_into(rt, alloc, &ordered, target, started, gate)?;
+    Ok(Attempt { frame, pass, nodes })
+}
+
 /// A frame into which the primitives are drawn, and its whole pass: the kept one, reopened, where it serves, or another.
 fn redraw_pass<R: Threads + Sync, G: Gate + Sync>(
     rt: &R,
@@ -49,14 +69,16 @@ fn redraw_pass<R: Threads + Sync, G: Gate + Sync>(
 ) -> Result<(Frame, Pass), NoMemory>
     ensures { IfOk result (λ p. IsDrawn primitives.now.triangles.now target.now.pattern target.now.region target.now.nodes p.0 p.1) }
 {
-    let needed = nodes_needed(rt, primitives, target);
+    let needed = likely_nodes(rt, primitives, target);
     match serving(kept, target, needed) {
         Some(closed) => {
-            let ordered = order_of(alloc, primitives, target)?;
-            let started = closed.reopen(alloc)?;
-            draw_into(rt, alloc, &ordered, target, started, gate)
+            let first = draw_kept(rt, alloc, primitives, target, closed, gate)?;
+            complete(rt, alloc, primitives, target, first, gate)
         }
-        None => draw_pass(rt, alloc, primitives, target, needed, gate),
+        None => {
+            let first = draw_new(rt, alloc, primitives, target, needed, gate)?;
+            complete(rt, alloc, primitives, target, first, gate)
+        }
     }
 }
 

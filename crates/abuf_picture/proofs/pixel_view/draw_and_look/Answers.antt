@@ -14,7 +14,7 @@ pub returns : goal.returns
 returns g c =
     let all = fragments c.args.primitives.now.triangles.now c.args.target.now.pattern c.args.target.now.region in
     let place : ℕ = c.args.place in
-    let drawn = c.in_ok-frame.ensures in
+    let drawn = c.in_ok-frame.ensures.filled in
     let counted : View = c.count-entries.new.self.view in
     let walk = c.look-look.ensures.walk in
     let after : List Entry = c.look-look.new.self.view.entries in
