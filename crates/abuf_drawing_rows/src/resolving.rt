@@ -8,7 +8,7 @@ ghost use Rattle.abuf_resolve.specs.Words.{IsFragmentAt, AreFragmentLists};
 use abuf_frame::{Closed, Frame};
 use abuf_num::{NoMemory, Paint, PixelSum};
 use abuf_raster::{Fragment, Pattern, Region, ScreenTri, depth_at, mask_at, pack};
-use abuf_resolve::{Planes, Resolved, Shading, over, resolve, resolve_counted};
+use abuf_resolve::{Pixel, Planes, Resolved, Shading, over, resolve, resolve_counted};
 use std::alloc::Global;
 use std::test::Fail;
 use std::thread::Threads;
@@ -229,7 +229,7 @@ fn resolved<R: Threads + Sync>(
         rt, alloc, &closed, region, tris, paints, pattern, WHITE, threads,
     )?;
     let shading = Shading {
-        planes: Planes::new(alloc, tris)?,
+        planes: Planes::new(rt, alloc, tris, threads)?,
         paints,
         pattern,
         background: WHITE,
@@ -349,6 +349,38 @@ fn pixels_without_fragments(rt: HostRuntime) -> Result<(), Fail> {
         for sum in all.sums.as_slice() {
             assert_eq!(rt; sum.channels, [1048560; 3]);
         }
+    }
+    Ok(())
+}
+
+/// Threads share the planes of so many triangles. The words of fragments of the first and the last triangle of each part are those by
+/// planes that are made on demand.
+#[test]
+fn planes_of_many_triangles(rt: HostRuntime) -> Result<(), Fail> {
+    let alloc = rt.alloc();
+    let mut tris = Vec::new(alloc);
+    for i in 0..18000 {
+        let depths = [i, 2 * i, 60000 - i];
+        tris.push(ScreenTri::new([0, 512, 0], [0, 0, 512], depths).ok_or("no triangle")?)?;
+    }
+    assert!(rt; tris.len() == 18000);
+    let mut list = Vec::new(alloc);
+    for prim in [0, 5999, 6000, 11999, 12000, 17999] {
+        list.push(pack(Fragment { prim, mask: 1 }))?;
+    }
+    if !are_fragments(&tris, &list, 0, 0, Pattern::One) {
+        return Err("a word of no fragment".into());
+    }
+    let at = Pixel { x: 0, y: 0 };
+    let mut words = Vec::new(alloc);
+    let on_demand = Planes::on_demand(&tris);
+    on_demand.sample_words(&mut words, &list, at, Pattern::One, 0)?;
+    assert!(rt; words.len() == 6);
+    for threads in [1, 3] {
+        let mut same = Vec::new(alloc);
+        let planes = Planes::new(&rt, alloc, &tris, threads)?;
+        planes.sample_words(&mut same, &list, at, Pattern::One, 0)?;
+        assert!(rt; same.as_slice() == words.as_slice(), "by {threads} threads");
     }
     Ok(())
 }

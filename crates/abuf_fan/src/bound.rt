@@ -93,23 +93,62 @@ fn bound_on_threads<R: Threads + Sync>(
     before + after
 }
 
-/// From how many triangles on some of them stand for all.
-const MANY: usize = 2048;
+/// What some of the triangles show: how many of them were looked at, and what these have at most: the sum, the sum of the squares, and the
+/// greatest.
+#[derive(Drop)]
+struct Sample {
+    count: u64,
+    sum: u64,
+    squares: u64,
+    greatest: u64,
+}
 
-/// How many are looked at, unless they stand for few.
-const SAMPLES: usize = 1024;
+/// Looks at the first triangle and then at one of so many.
+fn sample_of(tris: &[ScreenTri], region: Region, pattern: Pattern, step: usize) -> Sample
+    requires few { length tris.now ≤ MAX_PRIMITIVES }
+    requires step { (1 ≤ step) × (step ≤ MAX_PRIMITIVES) }
+{
+    region_law(region);
+    let mut count: u64 = 0;
+    let mut sum: u64 = 0;
+    let mut squares: u64 = 0;
+    let mut greatest: u64 = 0;
+    let mut i = 0;
+    while i < tris.len() {
+        let most = u64::from(max_of(&tris[i], region, pattern));
+        count = count.saturating_add(1);
+        sum = sum.saturating_add(most);
+        squares = squares.saturating_add(most.saturating_mul(most));
+        greatest = most.max(greatest);
+        i += step;
+    }
+    Sample {
+        count,
+        sum,
+        squares,
+        greatest,
+    }
+}
 
-/// The fewest triangles that one stands for, itself among them.
-const LEAST_STEP: usize = 16;
-
-/// For how many triangles of so many one stands.
-fn step_of(count: usize) -> usize
+/// For how many triangles of so many one stands, where so many are looked at, or more. It is odd, since triangles often come in pairs
+/// that are unlike.
+fn step_of(count: usize, samples: usize) -> usize
     requires few { count ≤ MAX_PRIMITIVES }
+    requires samples { 1 ≤ samples }
     ensures some { 1 ≤ result }
     ensures few { result ≤ MAX_PRIMITIVES }
 {
-    (count / SAMPLES).max(LEAST_STEP)
+    (count / samples).saturating_sub(1) / 2 * 2 + 1
 }
+
+/// From how many triangles on some of them stand for all.
+const MANY: usize = 2048;
+
+/// How many are looked at.
+const SAMPLES: usize = 1024;
+
+/// The fewest triangles that one stands for, about, itself among them.
+const LEAST_STEP: usize = 16;
 
 /// Whether the triangles have about as many fragments as are enough, or more, judged by some of them. It is a guess, and isn't made where
 /// a few large triangles would decide it. A wrong one costs memory, or the time that a right one saves.
@@ -122,18 +161,10 @@ fn seem_enough(tris: &[ScreenTri], region: Region, pattern: Pattern, enough: u64
         return false;
     }
     region_law(region);
-    let step = step_of(tris.len());
-    let mut sum = 0;
-    let mut greatest = 0;
-    let mut i = 0;
-    while i < tris.len() {
-        let most = u64::from(max_of(&tris[i], region, pattern));
-        sum += most;
-        greatest = most.max(greatest);
-        i += step;
-    }
-    let is_even = LEAST_STEP as u64 * greatest <= sum;
-    is_even && (enough - enough / 8) / step as u64 <= sum
+    let step = step_of(tris.len(), SAMPLES.min(tris.len() / LEAST_STEP));
+    let sample = sample_of(tris, region, pattern, step);
+    let is_even = sample.greatest.saturating_mul(LEAST_STEP as u64) <= sample.sum;
+    is_even && (enough - enough / 8) / step as u64 <= sample.sum
 }
 
 /// An upper bound on the number of fragments of the triangles in the region, whatever their primitive numbers. It is the sum of the
@@ -165,15 +196,6 @@ const GUESSED: usize = 65536;
 /// The fewest triangles that a guess looks at.
 const GUESS_SAMPLES: usize = 4096;
 
-/// For how many triangles of so many one stands in a guess. It is odd, since triangles often come in pairs that are unlike.
-fn guess_step_of(count: usize) -> usize
-    requires few { count ≤ MAX_PRIMITIVES }
-    ensures some { 1 ≤ result }
-    ensures few { result ≤ MAX_PRIMITIVES }
-{
-    (count / GUESS_SAMPLES).saturating_sub(1) / 2 * 2 + 1
-}
-
 /// How many fragments the triangles are likely to have at most, judged by some of them: what these stand for, and four standard deviations
 /// of that. These are a sixteenth of it, or less, where the number of a triangle's fragments deviates from the mean by no more than the
 /// mean, and an eighth, or less, where it does by no more than twice the mean. Where it deviates by more, a few large triangles would
@@ -181,19 +203,13 @@ fn guess_step_of(count: usize) -> usize
 fn guess(tris: &[ScreenTri], region: Region, pattern: Pattern) -> Option<u64>
     requires few { length tris.now ≤ MAX_PRIMITIVES }
 {
-    region_law(region);
-    let step = guess_step_of(tris.len());
-    let mut count: u64 = 0;
-    let mut sum: u64 = 0;
-    let mut squares: u64 = 0;
-    let mut i = 0;
-    while i < tris.len() {
-        let most = u64::from(max_of(&tris[i], region, pattern));
-        count = count.saturating_add(1);
-        sum = sum.saturating_add(most);
-        squares = squares.saturating_add(most.saturating_mul(most));
-        i += step;
-    }
+    let step = step_of(tris.len(), GUESS_SAMPLES);
+    let Sample {
+        count,
+        sum,
+        squares,
+        greatest: _,
+    } = sample_of(tris, region, pattern, step);
     let all = sum.saturating_mul(step as u64);
     let square_of_sum = sum.saturating_mul(sum);
     let count_of_squares = count.saturating_mul(squares);

@@ -9,7 +9,7 @@ use abuf_view::Projected;
 /// Primitives: their triangles on the screen, and a paint for each. The index of a primitive in the lists is its number.
 #[derive(Clone, Copy)]
 pub struct Primitives<'a> {
-    /// The triangles on the screen, at most 1048576.
+    /// The triangles on the screen, at most 2097152.
     pub triangles: &'a [ScreenTri],
     /// The paint of each triangle.
     pub paints: &'a [Paint],

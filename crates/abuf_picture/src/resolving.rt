@@ -2,6 +2,7 @@
 ghost use Rattle.std.specs.Prelude.{◌≡◌, ◌≤◌, length, IfOk};
 ghost use Rattle.std.specs.List.{All};
 ghost use denote.Param.Send.{IsSync};
+ghost use Rattle.abuf_num.specs.declared.limits.TheConstants.{MAX_PRIMITIVES, MAX_THREADS};
 ghost use Rattle.abuf_raster.specs.Samples.{offsets_of};
 ghost use Rattle.abuf_resolve.specs.Sums.{IsSmall, region_sums};
 ghost use Rattle.abuf_picture.specs.Picture.{IsFrameOf, longest};
@@ -41,18 +42,22 @@ pub trait Resolve {
 /// depth keys there. The sums don't depend on the order of the lists.
 pub struct Compositing;
 
-/// The triangles for the keys of so many fragments: made ready, unless most of them have none.
-fn planes_for<'a>(
+/// The triangles for the keys of so many fragments: made ready on threads, unless most of them have none.
+fn planes_for<'a, R: Threads + Sync>(
+    rt: &R,
     alloc: Global,
     triangles: &'a [ScreenTri],
     fragments: u64,
+    threads: u32,
 ) -> Result<Planes<'a>, NoMemory>
+    requires few { length triangles.now ≤ MAX_PRIMITIVES }
+    requires threads { (1 ≤ threads) × (threads ≤ MAX_THREADS) }
     ensures { IfOk result (λ planes. planes ≡ triangles.now) }
 {
     if fragments < triangles.len() as u64 {
         Ok(Planes::on_demand(triangles))
     } else {
-        Planes::new(alloc, triangles)
+        Planes::new(rt, alloc, triangles, threads)
     }
 }
 
@@ -76,8 +81,9 @@ impl Resolve for Compositing {
             threads,
             ..
         } = *target;
+        let fragments = closed.fragments();
         let shading = Shading {
-            planes: planes_for(alloc, primitives.triangles, closed.fragments())?,
+            planes: planes_for(rt, alloc, primitives.triangles, fragments, threads)?,
             paints: primitives.paints,
             pattern,
             background,

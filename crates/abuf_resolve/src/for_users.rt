@@ -66,7 +66,7 @@ pub fn resolve<R: Threads + Sync>(
     ensures small { IfOk result (λ sums. All (IsSmall (length (offsets_of pattern))) sums) }
 {
     let shading = Shading {
-        planes: Planes::new(alloc, tris)?,
+        planes: Planes::new(rt, alloc, tris, threads)?,
         paints,
         pattern,
         background,

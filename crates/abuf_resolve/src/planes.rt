@@ -2,15 +2,16 @@
 ghost use Rattle.std.specs.Prelude.{◌≡◌, ◌<◌, ◌≤◌, true, nat_lt, length, IfOk};
 ghost use Rattle.std.specs.List.{All};
 ghost use Rattle.std.specs.List.Sorted.{IsNonDecreasing};
-ghost use Rattle.abuf_num.specs.declared.limits.TheConstants.{MAX_DEPTH, MAX_PRIMITIVES};
+ghost use Rattle.abuf_num.specs.declared.limits.TheConstants.{MAX_DEPTH, MAX_PRIMITIVES, MAX_THREADS};
 ghost use Rattle.abuf_raster.specs.Samples.{offsets_of};
 ghost use Rattle.abuf_raster.specs.Coverage.{covers};
 ghost use Rattle.abuf_raster.specs.Depth.{depth_key, HasNoKeyAbove, HasNoKeyBelow};
 ghost use Rattle.abuf_resolve.specs.Colour.{triangle_at};
 ghost use Rattle.abuf_resolve.specs.Keys.{NoKeyBelow, NoKeyAbove, NoWordAbove};
-ghost use Rattle.abuf_resolve.specs.Precomputed.{depth_range, IsOf};
+ghost use Rattle.abuf_resolve.specs.Precomputed.{depth_range, CanShare, IsOf};
 ghost use Rattle.abuf_resolve.specs.Order.{in_order};
 ghost use Rattle.abuf_resolve.specs.Words.{sample_word, sample_words, has_sample, IsDepthWord, IsFragmentAt};
+ghost use denote.Param.Send.{IsSync};
 
 use crate::fragment_words::{FragmentWord, SampleWord};
 use crate::order::put_in_order;
@@ -19,6 +20,7 @@ use abuf_num::NoMemory;
 use abuf_raster::{DepthPlane, Pattern, ScreenTri};
 use std::alloc::Global;
 use std::marker::Model;
+use std::thread::{Threads, join};
 
 /// What was precomputed for the triangles, in their order.
 #[derive(Drop)]
@@ -83,13 +85,12 @@ fn depth_range(t: &ScreenTri) -> Bounds
     }
 }
 
-/// What is precomputed for the triangles, on one thread. Several threads were slower: their lists would have to be copied together, into
-/// memory that the system clears first, and that takes longer than the planes.
-fn precompute(alloc: Global, tris: &[ScreenTri]) -> Result<Precomputed, NoMemory>
+/// What is precomputed for the triangles, on one thread, with memory for so many.
+fn precompute(alloc: Global, tris: &[ScreenTri], room: usize) -> Result<Precomputed, NoMemory>
     ensures { IfOk result (IsOf tris.now) }
 {
-    let mut planes = Vec::with_capacity(alloc, tris.len())?;
-    let mut ranges = Vec::with_capacity(alloc, tris.len())?;
+    let mut planes = Vec::with_capacity(alloc, room)?;
+    let mut ranges = Vec::with_capacity(alloc, room)?;
     for t in tris {
         planes.push(DepthPlane::new(t))?;
         ranges.push(depth_range(t))?;
@@ -97,12 +98,76 @@ fn precompute(alloc: Global, tris: &[ScreenTri]) -> Result<Precomputed, NoMemory
     Ok(Precomputed { planes, ranges })
 }
 
+impl Precomputed {
+    ghost use Rattle.std.specs.Prelude.{List, ◌++◌, IfOk};
+    ghost use Rattle.abuf_raster.specs.Triangle.{Triangle};
+    ghost use Rattle.abuf_resolve.specs.Precomputed.{IsOf};
+
+    /// What is precomputed for some triangles, and then for others.
+    fn followed_by(self, others: Precomputed) -> Result<Precomputed, NoMemory>
+        ensures { (xs ys : List Triangle) → IsOf xs self → IsOf ys others → IfOk result (IsOf (xs ++ ys)) }
+    {
+        let Precomputed {
+            mut planes,
+            mut ranges,
+        } = self;
+        let mut later = others;
+        planes.append(&mut later.planes)?;
+        ranges.append(&mut later.ranges)?;
+        Ok(Precomputed { planes, ranges })
+    }
+}
+
+/// From how many triangles on threads share them: for fewer, starting threads takes longer.
+const MANY: usize = 16384;
+
+/// What is precomputed for the triangles, by so many threads, with memory for so many. The caller takes the first part, which has room for
+/// the others, and starts all threads itself.
+fn precompute_on_threads<R: Threads + Sync>(
+    rt: &R,
+    alloc: Global,
+    tris: &[ScreenTri],
+    threads: u32,
+    room: usize,
+) -> Result<Precomputed, NoMemory>
+    requires few { length tris.now ≤ MAX_PRIMITIVES }
+    requires threads { (1 ≤ threads) × (threads ≤ MAX_THREADS) }
+    ensures { IfOk result (IsOf tris.now) }
+{
+    if threads == 1 || tris.len() < MANY {
+        return precompute(alloc, tris, room);
+    }
+    let left = threads - 1;
+    let (front, back) = tris.split_at(tris.len() * left as usize / threads as usize);
+    let (others, first) = join(
+        rt,
+        move || -> Result<Precomputed, NoMemory>
+            ensures { IfOk result (IsOf back.entry.now) }
+        { precompute(alloc, back, back.len()) },
+        move || -> Result<Precomputed, NoMemory>
+            requires { IsSync R.row × CanShare front.now left }
+            ensures { IfOk result (IsOf front.entry.now) }
+        { precompute_on_threads(rt, alloc, front, left, room) },
+    );
+    let first = first?;
+    let others = others?;
+    let all = first.followed_by(others)?;
+    Ok(all)
+}
+
 impl<'a> Planes<'a> {
-    /// The triangles, made ready for many keys of each. An error means that memory ran out.
-    pub fn new(alloc: Global, tris: &'a [ScreenTri]) -> Result<Planes<'a>, NoMemory>
+    /// At most 2097152 triangles, made ready for many keys of each on 1 to 64 threads. An error means that memory ran out.
+    pub fn new<R: Threads + Sync>(
+        rt: &R,
+        alloc: Global,
+        tris: &'a [ScreenTri],
+        threads: u32,
+    ) -> Result<Planes<'a>, NoMemory>
+        requires few { length tris.now ≤ MAX_PRIMITIVES }
+        requires threads { (1 ≤ threads) × (threads ≤ MAX_THREADS) }
         ensures { IfOk result (λ planes. planes ≡ tris.now) }
     {
-        let precomputed = precompute(alloc, tris)?;
+        let precomputed = precompute_on_threads(rt, alloc, tris, threads, tris.len())?;
         Ok(Planes {
             tris,
             precomputed: Some(precomputed),

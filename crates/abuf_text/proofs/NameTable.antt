@@ -1,5 +1,5 @@
 -- A table of names, and one name more.
-use Rattle.std.proofs.Common.{◌+◌, take, get_or, arith, length-append, ℕ, ◌≡◌, ◌++◌, ◌∷◌, [], Bool, true, false, List, length, Option, Some, None, Vec, Global, refl, sym, ap, ◌∙◌, subst, cond, ⊎_elim}
+use Rattle.std.proofs.Common.{◌+◌, ◌<◌, ◌≤◌, take, get_or, get_or-take, arith, length-append, ℕ, ◌≡◌, ◌++◌, ◌∷◌, [], Bool, true, false, List, length, Option, Some, None, Vec, Global, refl, sym, ap, ◌∙◌, subst, cond, ⊎_elim}
 use Rattle.std.specs.Cmp.Lexicographic.{slice_cmp, nat_list_eq_equiv, bytes_decides}
 use Rattle.std.specs.Str.{bytes_eq}
 use Rattle.std.specs.BTreeMap.{BTreeMap, get_by, UpdatesBy}
@@ -7,9 +7,12 @@ use Rattle.std.specs.Ordering.{nat_cmp, is_eq}
 use Rattle.std.proofs.lemmas.Map.Text.{is_eq-slice_cmp}
 use Rattle.std.specs.Map.{lookup, IsKeyTest, AreApart, KeepsOthers}
 use Rattle.std.proofs.lemmas.Bool.{cases_Bool, cases_lt}
+use Rattle.std.proofs.lemmas.Bool.Decides.{nat_tests}
+use Rattle.std.specs.List.{position_or_len}
+use Rattle.std.proofs.lemmas.List.Sums.{position_or_len_is, fails_before_first}
 use Rattle.std.proofs.Math.ListN.{get_or-append}
 use Rattle.std.proofs.Math.Seq.{get_or-append_seam, take-append_seam}
-use Rattle.std.proofs.lemmas.List.{take-append-le}
+use Rattle.std.proofs.lemmas.List.{take-append-le, length-take-le}
 use Rattle.abuf_text.specs.Names.{index_of, IsEachOnce}
 use Rattle.abuf_text.proofs.Places.{position-push, or_last}
 
@@ -78,3 +81,15 @@ pub index_of-last : (name : List ℕ) (names : List (List ℕ)) → index_of nam
 index_of-last name names none =
     let same : bytes_eq name name ≡ true = (bytes_decides name name).1 refl in
     sym (index_of-push name name names none) ∙ ap (λ v. cond v (Some (length names)) (index_of name names)) same
+
+-- a name has the index at which it stands
+pub index_of-at : (name : List ℕ) (names : List (List ℕ)) (i : ℕ) → IsEachOnce names → i < length names → get_or names i [] ≡ name → index_of name names ≡ Some i
+index_of-at name names i once within is =
+    let front = take i names in
+    let none : index_of name front ≡ None = subst (λ (n : List ℕ). index_of n front ≡ None) is (once i within) in
+    let long : length front ≡ i = length-take-le i names (omega arith) in
+    let late : i ≤ position_or_len (bytes_eq name) front = grind (arith, nat_tests) in
+    let fails : (k : ℕ) → k < i → bytes_eq name (get_or names k []) ≡ false =
+    λ k before. subst (λ (n : List ℕ). bytes_eq name n ≡ false) (get_or-take i names k [] before) (fails_before_first (bytes_eq name) front k [] (omega (arith, late, before))) in
+    let at : position_or_len (bytes_eq name) names ≡ i = position_or_len_is (bytes_eq name) names i [] (omega arith) fails (λ _. (bytes_decides name _).1 (sym is)) in
+    grind (arith, nat_tests)

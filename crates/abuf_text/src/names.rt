@@ -1,5 +1,5 @@
 // A table of names.
-ghost use Rattle.std.specs.Prelude.{◌≡◌, ◌<◌, ◌≤◌, ◌^◌, ◌++◌, ◌∷◌, [], List as Items, ℕ, length, None, Some, IfOk, OnOk, OnErr};
+ghost use Rattle.std.specs.Prelude.{◌≡◌, ◌<◌, ◌≤◌, ◌^◌, ◌++◌, ◌∷◌, [], List as Items, ℕ, length, None, Some, IfOk, IfSome, OnOk, OnErr};
 ghost use Rattle.abuf_text.specs.Names.{index_of, IsEachOnce};
 
 use abuf_num::{List, NoMemory};
@@ -7,13 +7,19 @@ use std::alloc::Global;
 use std::collections::BTreeMap;
 use std::marker::Model;
 
+/// How many hints a table has.
+const HINTS: usize = 64;
+
 /// Names, each once, in the order in which they were put in.
 ///
-/// A name is looked up in a tree, so no choice of names makes a look-up slow.
+/// A name is looked up in a tree, so no choice of names makes a look-up slow. Before that, a look at one of the names, by a hint, finds
+/// most names where they are few.
 #[derive(Drop)]
 pub struct Names {
     list: Vec<List<u8>>,
     indices: BTreeMap<Vec<u8>, u32>,
+    /// For each slot the index of the last name put in that has it.
+    hints: [u32; HINTS],
 }
 
 impl Model for Names {
@@ -31,6 +37,18 @@ impl Model for Names {
         × IsEachOnce n.list.items × (length n.list.items ≤ 2 ^ 32) };
 }
 
+/// The slot of a name among the hints. Names that differ may share one.
+#[inline(always)]
+fn slot_of(name: &[u8]) -> usize
+    ensures { result < 64 }
+{
+    let ends = match (name.first(), name.last()) {
+        (Some(first), Some(last)) => 7 * usize::from(*first) + usize::from(*last),
+        _ => 0,
+    };
+    (ends + name.len() % HINTS) % HINTS
+}
+
 impl Names {
     /// No names.
     pub fn new(alloc: Global) -> Names
@@ -39,6 +57,7 @@ impl Names {
         Names {
             list: Vec::new(alloc),
             indices: BTreeMap::new(alloc),
+            hints: [0; HINTS],
         }
     }
 
@@ -49,11 +68,28 @@ impl Names {
         self.list.as_slice()
     }
 
+    /// The index that the hint for this name gives, if it is the name's.
+    #[inline(always)]
+    fn hinted(&self, name: &[u8]) -> Option<u32>
+        ensures { IfSome result (λ index. index_of name.now self.now ≡ Some index) }
+    {
+        let index = self.hints[slot_of(name)];
+        let at = index as usize;
+        if at < self.list.len() && self.list[at].as_slice() == name {
+            Some(index)
+        } else {
+            None
+        }
+    }
+
     /// The index of a name, if it is there.
     pub fn find(&self, name: &[u8]) -> Option<u32>
         ensures { result ≡ index_of name.now self.now }
     {
-        self.indices.get(name).copied()
+        match self.hinted(name) {
+            Some(index) => Some(index),
+            None => self.indices.get(name).copied(),
+        }
     }
 
     /// Puts a new name last.
@@ -70,6 +106,7 @@ impl Names {
         self.list.reserve(1)?;
         self.indices.insert(key, index)?;
         self.list.push_reserved(item);
+        self.hints[slot_of(name)] = index;
         Ok(())
     }
 
@@ -91,7 +128,11 @@ impl Names {
     pub fn into_list(self) -> List<List<u8>>
         ensures { result ≡ self }
     {
-        let Names { list, indices: _ } = self;
+        let Names {
+            list,
+            indices: _,
+            hints: _,
+        } = self;
         List::from_vec(list)
     }
 }
