@@ -10,6 +10,7 @@ The parts are those below. Each stands between two comments of README.md, and is
 stands outside of them stays. Halt all other work of the machine first.
 
     scenes      bench.py --table --rounds 9, and --beside where another program is given
+    at-once     bench.py --table --at-once --threads 4 --only full,deep,mesh,soup,text --rounds 7
     shares      bench.py --table --shares --rounds 1 --threads 1, of which the second table is kept
     stored      bench.py --table --stored --rounds 5
     growth      bench.py --table --growth --rounds 3, and the pictures of docs/pictures
@@ -31,6 +32,7 @@ from abuflib.report import Fault
 BESIDE = "--beside OTHER"  # as README.md shows it, wherever the other program is
 PARTS = {
     "scenes": "bench.py --table --rounds 9",
+    "at-once": "bench.py --table --at-once --threads 4 --only full,deep,mesh,soup,text --rounds 7",
     "shares": "bench.py --table --shares --rounds 1 --threads 1",
     "stored": "bench.py --table --stored --rounds 5",
     "growth": "bench.py --table --growth --rounds 3",
