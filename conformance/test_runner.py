@@ -9,12 +9,14 @@ skipped.
 
 from __future__ import annotations
 
+import contextlib
 import csv
 import hashlib
 import io
 import json
 import os
 import shlex
+import shutil
 import signal
 import subprocess
 import sys
@@ -227,17 +229,24 @@ class PlantedFaults(Folder):
         self.assertEqual(processes_of(SLEEP), [])
 
 
+def command_of(number: int) -> str:
+    """The command line of a process, nothing if it has ended."""
+    try:
+        with open(f"/proc/{number}/cmdline", "rb") as file:
+            return file.read().rstrip(b"\0").replace(b"\0", b" ").decode(errors="replace")
+    except OSError:
+        return ""
+
+
 def processes_of(command: str) -> list[int]:
     """The processes with this command line."""
-    found = []
-    for name in filter(str.isdigit, os.listdir("/proc")):
-        try:
-            with open(f"/proc/{name}/cmdline", "rb") as file:
-                if file.read().rstrip(b"\0").replace(b"\0", b" ").decode(errors="replace") == command:
-                    found.append(int(name))
-        except OSError:
-            pass
-    return found
+    return [number for number in map(int, filter(str.isdigit, os.listdir("/proc"))) if command_of(number) == command]
+
+
+def kill_processes_of(command: str) -> None:
+    for number in processes_of(command):
+        with contextlib.suppress(ProcessLookupError):
+            os.kill(number, signal.SIGKILL)
 
 
 class Verdicts(unittest.TestCase):
@@ -424,6 +433,13 @@ class Randoms(Folder):
 
 
 class Ends(Folder):
+    def setUp(self) -> None:
+        super().setUp()
+        self.addCleanup(kill_processes_of, SLEEP)  # so that one test's failure is no other's
+
+    def hanging_driver(self) -> str:
+        return "sh " + self.write("hang.sh", f'case "$*" in *--info*) exec {EXACT} --info;; esac\nexec {SLEEP}\n')
+
     def count_lines(self, path: str) -> int:
         if not os.path.exists(path):
             return 0
@@ -457,8 +473,7 @@ class Ends(Folder):
         self.assertEqual(sorted(again), sorted(self.trials()))
 
     def test_a_killed_runner_takes_its_drivers_with_it(self) -> None:
-        script = self.write("hang.sh", 'case "$*" in *--info*) exec ' + EXACT + ' --info;; esac\nexec ' + SLEEP + '\n')
-        process = subprocess.Popen(self.words(f"sh {script}", "--include", SMALL, "--modes", "native"),
+        process = subprocess.Popen(self.words(self.hanging_driver(), "--include", SMALL, "--modes", "native"),
                                    stdout=subprocess.DEVNULL)
         deadline = time.monotonic() + 300
         while time.monotonic() < deadline and not processes_of(SLEEP):
@@ -469,6 +484,30 @@ class Ends(Folder):
         while time.monotonic() < deadline and processes_of(SLEEP):
             time.sleep(0.05)
         self.assertEqual(processes_of(SLEEP), [])
+
+    def test_a_driver_that_starts_while_the_runner_is_killed_ends(self) -> None:
+        started, killed = self.path("started"), self.path("killed")
+        os.mkdir(self.path("bin"))
+        slow = self.write("bin/setpriv", "#!/bin/sh\n"
+                          f'case "$*" in *--info*) ;; *hang.sh*) echo $$ >>{started}\n'
+                          f"while [ ! -e {killed} ]; do sleep 0.05; done;; esac\n"
+                          f'exec {shutil.which("setpriv")} "$@"\n')
+        os.chmod(slow, 0o755)
+        process = subprocess.Popen(self.words(self.hanging_driver(), "--include", SMALL, "--modes", "native"),
+                                   stdout=subprocess.DEVNULL,
+                                   env={**os.environ, "PATH": self.path("bin") + os.pathsep + os.environ["PATH"]})
+        deadline = time.monotonic() + 300
+        while time.monotonic() < deadline and self.count_lines(started) < 2:
+            time.sleep(0.05)
+        process.kill()
+        process.wait()
+        self.write("killed", "")
+        with open(started, encoding="utf-8") as file:
+            drivers_started = [int(line) for line in file]
+        self.assertEqual(len(drivers_started), 2)
+        while time.monotonic() < deadline and any(command_of(number) not in ("", SLEEP) for number in drivers_started):
+            time.sleep(0.05)
+        self.assertEqual([command_of(number) for number in drivers_started], ["", ""])
 
     def test_a_journal_of_another_driver_is_refused(self) -> None:
         words = ("--include", "^subpixel/", "--modes", "native")

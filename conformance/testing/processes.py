@@ -10,8 +10,10 @@ import threading
 import time
 from dataclasses import dataclass
 
-# Where the runner is killed, the kernel kills what it started.
-GUARD = [path, "--pdeathsig", "KILL"] if (path := shutil.which("setpriv")) else []
+# Where the runner is killed, the kernel kills what it started. A program that started while the runner was killed may have asked for
+# that too late, so it then looks whether the runner, whose number is the next word, is still its parent.
+GUARD = ([path, "--pdeathsig", "KILL", "sh", "-c", '[ "$PPID" = "$0" ] && exec "$@"']
+         if (path := shutil.which("setpriv")) else [])
 MOST_TEXT = 2000  # of what a program says on standard error
 
 
@@ -42,7 +44,8 @@ class Processes:
         with self.lock:
             if self.is_over:
                 return Answer(None, b"", "the run was ended", 0)
-            process = subprocess.Popen(GUARD + words, stdin=subprocess.PIPE, stdout=subprocess.PIPE,
+            guard = [*GUARD, str(os.getpid())] if GUARD else []
+            process = subprocess.Popen(guard + words, stdin=subprocess.PIPE, stdout=subprocess.PIPE,
                                        stderr=subprocess.PIPE, env=env, start_new_session=True)
             self.running.add(process)
         try:
