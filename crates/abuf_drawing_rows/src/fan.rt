@@ -46,19 +46,26 @@ fn no_fewer_than_the_fragments(rt: HostRuntime) -> Result<(), Fail> {
     Ok(())
 }
 
-/// Where some of 4096 equal triangles show that at most an eighth of the nodes would be spared, the bound is all nodes; otherwise it is
-/// the sum. A single triangle that covers the square, among others outside of it, isn't taken for all.
-#[test]
-fn no_more_than_is_enough(rt: HostRuntime) -> Result<(), Fail> {
-    let alloc = rt.alloc();
+/// Two lists of so many triangles: the upper half of the square again and again; and that half once, then a triangle outside of the
+/// square again and again.
+fn equal_and_uneven(alloc: Global, count: u32) -> Result<(Vec<ScreenTri>, Vec<ScreenTri>), Fail> {
     let [upper, _] = halves().ok_or("no triangle")?;
     let outside = ScreenTri::new([-512, -256, -512], [0, 0, 256], [0; 3]).ok_or("outside")?;
     let mut equal = Vec::new(alloc);
     let mut uneven = Vec::new(alloc);
-    for i in 0..4096 {
+    for i in 0..count {
         equal.push(upper)?;
         uneven.push(if i == 0 { upper } else { outside })?;
     }
+    Ok((equal, uneven))
+}
+
+/// Where some of 4096 equal triangles show that at most an eighth of the nodes would be spared, the bound is all nodes; otherwise it is
+/// the sum. A single triangle that covers the square, among others outside of it, isn't taken for all.
+#[test]
+fn no_more_than_is_enough(rt: HostRuntime) -> Result<(), Fail> {
+    let [upper, _] = halves().ok_or("no triangle")?;
+    let (equal, uneven) = equal_and_uneven(rt.alloc(), 4096)?;
     assert!(rt; equal.len() == 4096 && uneven.len() == 4096);
     let one = max_fragments(&rt, &[upper], square(), Pattern::Four, 1, 1000);
     assert!(rt; 10 <= one && one <= 16);
@@ -88,15 +95,8 @@ fn no_more_than_is_enough(rt: HostRuntime) -> Result<(), Fail> {
 /// the others lie outside of it, there is no guess, nor for one triangle fewer: they have the bound.
 #[test]
 fn many_triangles_are_guessed(rt: HostRuntime) -> Result<(), Fail> {
-    let alloc = rt.alloc();
     let [upper, _] = halves().ok_or("no triangle")?;
-    let outside = ScreenTri::new([-512, -256, -512], [0, 0, 256], [0; 3]).ok_or("outside")?;
-    let mut equal = Vec::new(alloc);
-    let mut uneven = Vec::new(alloc);
-    for i in 0..65536 {
-        equal.push(upper)?;
-        uneven.push(if i == 0 { upper } else { outside })?;
-    }
+    let (equal, uneven) = equal_and_uneven(rt.alloc(), 65536)?;
     assert!(rt; equal.len() == 65536 && uneven.len() == 65536);
     let one = max_fragments(&rt, &[upper], square(), Pattern::Four, 1, 1000);
     let sum = one.saturating_mul(65536);

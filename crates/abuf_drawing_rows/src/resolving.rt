@@ -353,19 +353,19 @@ fn pixels_without_fragments(rt: HostRuntime) -> Result<(), Fail> {
     Ok(())
 }
 
-/// Threads share the planes of so many triangles. The words of fragments of the first and the last triangle of each part are those by
-/// planes that are made on demand.
+/// Three threads share the planes of so many triangles. The words of fragments of the first and the last triangle of each part are those
+/// by planes that are made on demand.
 #[test]
 fn planes_of_many_triangles(rt: HostRuntime) -> Result<(), Fail> {
     let alloc = rt.alloc();
     let mut tris = Vec::new(alloc);
-    for i in 0..18000 {
+    for i in 0..25000 {
         let depths = [i, 2 * i, 60000 - i];
         tris.push(ScreenTri::new([0, 512, 0], [0, 0, 512], depths).ok_or("no triangle")?)?;
     }
-    assert!(rt; tris.len() == 18000);
+    assert!(rt; tris.len() == 25000);
     let mut list = Vec::new(alloc);
-    for prim in [0, 5999, 6000, 11999, 12000, 17999] {
+    for prim in [0, 8332, 8333, 16665, 16666, 24999] {
         list.push(pack(Fragment { prim, mask: 1 }))?;
     }
     if !are_fragments(&tris, &list, 0, 0, Pattern::One) {

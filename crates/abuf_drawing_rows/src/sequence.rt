@@ -323,6 +323,15 @@ const LIBRARY: &[u8] = b"newmtl red\nKd 1 0 0\nd 0.5\nnewmtl blue\nKd 0 0.2 1\nd
 const VIEWS: &[u8] =
     b"1 0 0 0 0 0 -4\n1 0 0 0 0 0 -5\n0 0 1 0 0 0 -4\n1 0 0 0 0 0 9\n3 1 0 -1 1 0 -7\n";
 
+/// The materials of the library.
+fn materials(alloc: Global) -> Option<Materials> {
+    let mut materials = Materials::new(alloc);
+    match read_mtl(alloc, LIBRARY, &mut materials) {
+        Ok(()) => Some(materials),
+        Err(_) => None,
+    }
+}
+
 /// A list of a scene's triangles.
 fn listed(alloc: Global, obj: &Obj, materials: &Materials) -> Result<Scene, SceneFault>
     requires { IsScene obj.now }
@@ -341,22 +350,12 @@ fn write_listed<R: Threads + Sync>(
 ) -> Option<Result<(), SequenceFault>>
     requires { (1 ≤ threads) × (threads ≤ MAX_THREADS) }
 {
-    let mut materials = Materials::new(alloc);
-    if read_mtl(alloc, LIBRARY, &mut materials).is_err() {
-        return None;
-    }
+    let plan = plan(1000, threads);
     let (Ok(obj), Ok(shots)) = (read_obj(alloc, FACES), read_path(alloc, VIEWS)) else {
         return None;
     };
-    match listed(alloc, &obj, &materials) {
-        Ok(scene) => Some(sequence(
-            rt,
-            alloc,
-            &scene,
-            shots.as_slice(),
-            &plan(1000, threads),
-            out,
-        )),
+    match listed(alloc, &obj, &materials(alloc)?) {
+        Ok(scene) => Some(sequence(rt, alloc, &scene, shots.as_slice(), &plan, out)),
         Err(_) => None,
     }
 }
@@ -370,22 +369,12 @@ fn write_flat<R: Threads + Sync>(
 ) -> Option<Result<(), SequenceFault>>
     requires { (1 ≤ threads) × (threads ≤ MAX_THREADS) }
 {
-    let mut materials = Materials::new(alloc);
-    if read_mtl(alloc, LIBRARY, &mut materials).is_err() {
-        return None;
-    }
+    let plan = plan(1000, threads);
     let (Ok(obj), Ok(shots)) = (read_flat(alloc, FACES), read_path(alloc, VIEWS)) else {
         return None;
     };
-    match FlatScene::new(alloc, obj, &materials) {
-        Ok(scene) => Some(sequence_flat(
-            rt,
-            alloc,
-            &scene,
-            shots.as_slice(),
-            &plan(1000, threads),
-            out,
-        )),
+    match FlatScene::new(alloc, obj, &materials(alloc)?) {
+        Ok(scene) => Some(sequence_flat(rt, alloc, &scene, shots.as_slice(), &plan, out)),
         Err(_) => None,
     }
 }

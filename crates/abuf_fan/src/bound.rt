@@ -96,7 +96,7 @@ fn bound_on_threads<R: Threads + Sync>(
 /// What some of the triangles show: how many of them were looked at, and what these have at most: the sum, the sum of the squares, and the
 /// greatest.
 #[derive(Drop)]
-struct Sample {
+struct Survey {
     count: u64,
     sum: u64,
     squares: u64,
@@ -104,7 +104,7 @@ struct Sample {
 }
 
 /// Looks at the first triangle and then at one of so many.
-fn sample_of(tris: &[ScreenTri], region: Region, pattern: Pattern, step: usize) -> Sample
+fn survey_of(tris: &[ScreenTri], region: Region, pattern: Pattern, step: usize) -> Survey
     requires few { length tris.now ≤ MAX_PRIMITIVES }
     requires step { (1 ≤ step) × (step ≤ MAX_PRIMITIVES) }
 {
@@ -122,7 +122,7 @@ fn sample_of(tris: &[ScreenTri], region: Region, pattern: Pattern, step: usize) 
         greatest = most.max(greatest);
         i += step;
     }
-    Sample {
+    Survey {
         count,
         sum,
         squares,
@@ -132,20 +132,20 @@ fn sample_of(tris: &[ScreenTri], region: Region, pattern: Pattern, step: usize) 
 
 /// For how many triangles of so many one stands, where so many are looked at, or more. It is odd, since triangles often come in pairs
 /// that are unlike.
-fn step_of(count: usize, samples: usize) -> usize
+fn step_of(count: usize, surveyed: usize) -> usize
     requires few { count ≤ MAX_PRIMITIVES }
-    requires samples { 1 ≤ samples }
+    requires surveyed { 1 ≤ surveyed }
     ensures some { 1 ≤ result }
     ensures few { result ≤ MAX_PRIMITIVES }
 {
-    (count / samples).saturating_sub(1) / 2 * 2 + 1
+    (count / surveyed).saturating_sub(1) / 2 * 2 + 1
 }
 
 /// From how many triangles on some of them stand for all.
 const MANY: usize = 2048;
 
 /// How many are looked at.
-const SAMPLES: usize = 1024;
+const SURVEYED: usize = 1024;
 
 /// The fewest triangles that one stands for, about, itself among them.
 const LEAST_STEP: usize = 16;
@@ -161,10 +161,10 @@ fn seem_enough(tris: &[ScreenTri], region: Region, pattern: Pattern, enough: u64
         return false;
     }
     region_law(region);
-    let step = step_of(tris.len(), SAMPLES.min(tris.len() / LEAST_STEP));
-    let sample = sample_of(tris, region, pattern, step);
-    let is_even = sample.greatest.saturating_mul(LEAST_STEP as u64) <= sample.sum;
-    is_even && (enough - enough / 8) / step as u64 <= sample.sum
+    let step = step_of(tris.len(), SURVEYED.min(tris.len() / LEAST_STEP));
+    let shown = survey_of(tris, region, pattern, step);
+    let is_even = shown.greatest.saturating_mul(LEAST_STEP as u64) <= shown.sum;
+    is_even && (enough - enough / 8) / step as u64 <= shown.sum
 }
 
 /// An upper bound on the number of fragments of the triangles in the region, whatever their primitive numbers. It is the sum of the
@@ -194,7 +194,7 @@ pub fn max_fragments<R: Threads + Sync>(
 const GUESSED: usize = 65536;
 
 /// The fewest triangles that a guess looks at.
-const GUESS_SAMPLES: usize = 4096;
+const GUESS_SURVEYED: usize = 4096;
 
 /// How many fragments the triangles are likely to have at most, judged by some of them: what these stand for, and four standard deviations
 /// of that. These are a sixteenth of it, or less, where the number of a triangle's fragments deviates from the mean by no more than the
@@ -203,13 +203,13 @@ const GUESS_SAMPLES: usize = 4096;
 fn guess(tris: &[ScreenTri], region: Region, pattern: Pattern) -> Option<u64>
     requires few { length tris.now ≤ MAX_PRIMITIVES }
 {
-    let step = step_of(tris.len(), GUESS_SAMPLES);
-    let Sample {
+    let step = step_of(tris.len(), GUESS_SURVEYED);
+    let Survey {
         count,
         sum,
         squares,
         greatest: _,
-    } = sample_of(tris, region, pattern, step);
+    } = survey_of(tris, region, pattern, step);
     let all = sum.saturating_mul(step as u64);
     let square_of_sum = sum.saturating_mul(sum);
     let count_of_squares = count.saturating_mul(squares);

@@ -13,6 +13,15 @@ use std::alloc::{AllocError, Global};
 use std::test::Fail;
 use std::thread::Threads;
 
+/// The materials of a library of at most 1000 bytes.
+fn materials_of(alloc: Global, library: &[u8]) -> Option<Materials> {
+    let mut materials = Materials::new(alloc);
+    if library.len() > 1000 || read_mtl(alloc, library, &mut materials).is_err() {
+        return None;
+    }
+    Some(materials)
+}
+
 /// What a camera sees of what was read, by these materials and so many threads.
 fn seen_flat<R: Threads + Sync>(
     rt: &R,
@@ -40,10 +49,7 @@ fn seen_by_faces<R: Threads + Sync>(
     camera: &Camera,
     library: &[u8],
 ) -> Option<Result<Projected, SceneFault>> {
-    let mut materials = Materials::new(alloc);
-    if library.len() > 1000 || read_mtl(alloc, library, &mut materials).is_err() {
-        return None;
-    }
+    let materials = materials_of(alloc, library)?;
     match read_flat(alloc, SQUARE) {
         Ok(obj) => Some(seen_flat(rt, alloc, obj, &materials, camera, 2)),
         Err(_) => None,
@@ -115,10 +121,7 @@ fn seen_on_threads<R: Threads + Sync>(
     camera: &Camera,
     library: &[u8],
 ) -> Option<Result<Projected, SceneFault>> {
-    let mut materials = Materials::new(alloc);
-    if library.len() > 1000 || read_mtl(alloc, library, &mut materials).is_err() {
-        return None;
-    }
+    let materials = materials_of(alloc, library)?;
     let Ok(text) = many_faces(alloc) else {
         return None;
     };
@@ -183,11 +186,8 @@ fn first_of_several_unknown_materials_is_told(rt: HostRuntime) -> Result<(), Fai
 
 /// How many triangles a scene has, or why there is none.
 fn count_of(alloc: Global, text: &[u8], library: &[u8]) -> Option<Result<usize, SceneFault>> {
-    let mut materials = Materials::new(alloc);
-    if text.len() > 1000000
-        || library.len() > 1000
-        || read_mtl(alloc, library, &mut materials).is_err()
-    {
+    let materials = materials_of(alloc, library)?;
+    if text.len() > 1000000 {
         return None;
     }
     let Ok(obj) = read_flat(alloc, text) else {

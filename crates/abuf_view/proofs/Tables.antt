@@ -1,5 +1,5 @@
 -- Tables of points on the screen, and triangles whose corners all stand in one.
-use Rattle.std.proofs.Common.{◌≡◌, ◌∙◌, sym, ap, subst, refl, ℕ, zero, suc, ◌+◌, ◌-◌, ◌*◌, ◌/◌, ◌^◌, ◌<◌, ◌≤◌, min, Bool, true, false, ℤ, List, [], ◌∷◌, map, take, drop, length, get_or, Option, Some, None, IfSome, Result, Ok, Err, IfOk, ◌⊎◌, inl, inr, mul-le-mul, arith}
+use Rattle.std.proofs.Common.{◌≡◌, ◌∙◌, sym, ap, subst, refl, ℕ, zero, suc, ◌+◌, ◌-◌, ◌*◌, ◌/◌, ◌^◌, ◌<◌, ◌≤◌, min, Bool, true, false, ℤ, List, [], ◌∷◌, map, take, drop, length, get_or, Option, Some, None, IfSome, ◌⊎◌, inl, inr, mul-le-mul, arith}
 use Rattle.std.specs.Prelude.{unsigned_abs, nat_lt, if◌then◌else◌}
 use Rattle.std.proofs.lemmas.Option.{none-some, same_Some}
 use Rattle.std.proofs.lemmas.Bool.{cases_lt}
@@ -149,11 +149,3 @@ covered points threads size log bits some all one below least few = go (cases_lt
       let same : bits ≡ 31 = omega (arith, least) in
       let most : 2 ^ bits ≡ 2 ^ 31 = ap (λ (k : ℕ). 2 ^ k) same in
       rw most (omega (arith, few, some))
-
--- ---- chunks that were made
-
--- Where all chunks were made, their entries are those of the points.
-pub made_entries : {A E : Type 0} (items_of : A → List (List (Option ShortPoint))) (e : Eye) (points : List (List ℤ)) (size bits : ℕ) (made : Result A E) → size ≡ 2 ^ bits
-    → IfOk made (λ chunks. AreChunks e points size (items_of chunks)) → IfOk made (λ chunks. AreEntries e points bits (items_of chunks))
-made_entries items_of e points size bits (Ok chunks) same are = entries_are e points size bits (items_of chunks) same are
-made_entries items_of e points size bits (Err why) same are = tt

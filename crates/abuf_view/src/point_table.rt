@@ -150,29 +150,6 @@ fn all_chunks<R: Threads + Sync>(
     )
 }
 
-/// The entries of all points of so many faces, or none where they would not pay.
-fn chunks_of<R: Threads + Sync>(
-    rt: &R,
-    alloc: Global,
-    eye: &Eye,
-    points: &[[i64; 3]],
-    faces: usize,
-    bits: u32,
-    threads: u32,
-) -> Result<Vec<List<Option<ShortPoint>>>, NoMemory>
-    requires eye { IsEye eye.now }
-    requires range { All IsInRange points.now }
-    requires bits { bits < 64 }
-    requires threads { (1 ≤ threads) × (threads ≤ MAX_THREADS) }
-    ensures { IfOk result (λ chunks. AreEntries eye.now points.now bits chunks.items) }
-{
-    if is_shared(points.len(), faces) {
-        all_chunks(rt, alloc, eye, points, chunk_size(bits), threads)
-    } else {
-        Ok(Vec::new(alloc))
-    }
-}
-
 /// The entry in this place of the chunk of this number, if there is one.
 fn entry_at(chunks: &[List<Option<ShortPoint>>], number: usize, place: usize) -> Option<ShortPoint>
     ensures { result ≡ slice_index_or (slice_index_or chunks.now number []) place None }
@@ -203,7 +180,10 @@ impl<'a> PointTable<'a> {
         ensures points { IfOk result (λ table. table.points.now ≡ points.now) }
     {
         let bits = chunk_bits(points.len(), MIN_POINTS, threads);
-        let chunks = chunks_of(rt, alloc, &eye, points, faces, bits, threads)?;
+        let mut chunks = Vec::new(alloc);
+        if is_shared(points.len(), faces) {
+            chunks = all_chunks(rt, alloc, &eye, points, chunk_size(bits), threads)?;
+        }
         Ok(PointTable {
             eye,
             points,
