@@ -39,8 +39,6 @@ PARTS = {
     "reading": "bench.py --table --reading",
     "sequences": "sequences.py --table --rounds 3",
 }
-OTHER = ("The other is a program that does the same work as fast as its authors could make it, in Rust without proofs, and writes "
-         "no image.")
 
 
 def kept(part: str, command: str, printed: str) -> str:
@@ -52,8 +50,6 @@ def kept(part: str, command: str, printed: str) -> str:
     measured = re.sub(r"^`[^`]*`", f"`bench/{command}`", measured)
     if part == "shares":
         measured = re.sub(r"best of \d+$", "shares of the time on one thread, in percent", measured)
-    if BESIDE in command:
-        measured += f"\n{OTHER}"
     return f"{measured}\n\n{tables[-1]}\n"
 
 

@@ -251,10 +251,10 @@ impl Gate for Calls {
     }
 }
 
-/// By one worker to five, which have one part among them: each calls the gate twice, and each pixel has one fragment. Where
-/// memory is refused nothing was drawn.
+/// By one worker to five, which have one part among them: each calls the gate twice, and each pixel has one fragment. Where memory runs
+/// out, whichever allocation is refused, none calls it, and nothing was drawn.
 #[test]
-fn every_worker_passes_the_gate_twice(rt: HostRuntime) -> Result<(), Fail> {
+fn all_workers_pass_the_gate_or_with_refused_memory_none(rt: HostRuntime) -> Result<(), Fail> {
     let alloc = rt.alloc();
     let tris = halves().ok_or("no triangle")?;
     for threads in 1..6 {

@@ -353,6 +353,24 @@ fn pixels_without_fragments(rt: HostRuntime) -> Result<(), Fail> {
     Ok(())
 }
 
+/// Where memory runs out, whichever allocation is refused, this ends without sums; otherwise it has these.
+#[test]
+fn refused_memory_gives_no_other_sums(rt: HostRuntime) -> Result<(), Fail> {
+    let t = ScreenTri::new([0, 6000, 0], [0, 0, 3000], [7, 8, 9]).ok_or("t")?;
+    let case = Case {
+        tris: &[t, t],
+        paints: &[paint(65535, 0, 0, 65535), paint(0, 65535, 0, 32768)],
+        pattern: Pattern::Two,
+        region: Region::whole_image(3, 1),
+    };
+    let all = resolved(&rt, rt.alloc(), &case, 3)?;
+    assert!(rt; all.longest == 2 && all.sums.as_slice().len() == 3);
+    for sum in all.sums.as_slice() {
+        assert_eq!(rt; sum.channels, [65534, 65536, 0]);
+    }
+    Ok(())
+}
+
 /// Three threads share the planes of so many triangles. The words of fragments of the first and the last triangle of each part are those
 /// by planes that are made on demand.
 #[test]
